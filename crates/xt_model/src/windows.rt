@@ -1,0 +1,42 @@
+use crate::quad::Pair;
+use std::marker::Model;
+
+/// One pair of windows per net, each bound from -2^62 to 2^62 fs.
+#[derive(Debug, Drop)]
+pub struct Windows {
+    pairs: Vec<Pair>,
+}
+
+impl Model for Windows {
+    ghost use Rattle.std.specs.Prelude.{List};
+    ghost use Rattle.std.specs.List.{All};
+    ghost use Rattle.xt_model.specs.declared.quad.Pair.{Pair};
+
+    ghost Value = { List Pair };
+
+    ghost use Rattle.xt_model.specs.Quads.{IsPairInRange};
+
+    ghost view = { λ w. w.pairs.items };
+
+    ghost invariant = { λ w. All IsPairInRange w.pairs.items };
+}
+
+impl Windows {
+    ghost use Rattle.std.specs.Prelude.{◌≡◌};
+    ghost use Rattle.std.specs.List.{All};
+    ghost use Rattle.xt_model.specs.Quads.{IsPairInRange};
+
+    pub fn new(pairs: Vec<Pair>) -> Windows
+        requires { All IsPairInRange pairs.items }
+        ensures { result ≡ pairs.items }
+    {
+        Windows { pairs }
+    }
+
+    pub fn pairs(&self) -> &[Pair]
+        ensures value { result.now ≡ self.now }
+        ensures in_range { All IsPairInRange self.now }
+    {
+        self.pairs.as_slice()
+    }
+}
