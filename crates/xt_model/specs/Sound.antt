@@ -12,6 +12,8 @@ use Rattle.xt_model.specs.declared.net.Net.{Net}
 use Rattle.xt_model.specs.declared.check.CheckPoint.{CheckPoint}
 use Rattle.xt_model.specs.declared.check.CheckPoint.TheVariants.{Flop, Port}
 use Rattle.xt_model.specs.Quads.{bottom, IsLive}
+use Rattle.xt_model.specs.Names.{IsName}
+use Rattle.xt_model.specs.Tables.{IsTable}
 use Rattle.xt_model.specs.Parts.{Parts}
 
 -- a number from low to high
@@ -60,6 +62,7 @@ pub record IsSoundCoupling (d : Parts) (own : ℕ) (k : Coupling) : Type 0 where
 
 -- a sink has one coefficient for each of the net's couplings
 pub record IsSoundSink (couplings : ℕ) (s : SinkPin) : Type 0 where
+  pub name : IsName s.name
   pub base : IsProduct s.base
   pub count : length s.coefs ≡ couplings
   pub coefs : All IsProduct s.coefs
@@ -84,6 +87,7 @@ greatest_load n = n.load +ℤ (pos 2 *ℤ coupling_sum n.couplings)
 
 -- the net number `own`
 pub record IsSoundNet (d : Parts) (own : ℕ) (n : Net) : Type 0 where
+  pub name : IsName n.name
   pub load : IsCap n.load
   pub rise : IsGiven n.given.rise
   pub fall : IsGiven n.given.fall
@@ -102,8 +106,8 @@ abbrev pub IsDelayOption : Option ℤ → Type 0
 IsDelayOption o = IfSome o (IsBetween (neg_ℤ (pos (2 ^ 40))) (pos (2 ^ 40)))
 
 abbrev pub IsSoundCheck : Parts → CheckPoint → Type 0
-IsSoundCheck d (Flop name hold datum datum_sink clock clock_sink rise fall) = HasSink d datum.0 datum_sink × HasSink d clock.0 clock_sink × IsTableOption d rise × IsTableOption d fall
-IsSoundCheck d (Port name hold net sink rise fall) = HasSink d net.0 sink × IsDelayOption rise × IsDelayOption fall
+IsSoundCheck d (Flop name hold datum datum_sink clock clock_sink rise fall) = IsName name × HasSink d datum.0 datum_sink × HasSink d clock.0 clock_sink × IsTableOption d rise × IsTableOption d fall
+IsSoundCheck d (Port name hold net sink rise fall) = IsName name × HasSink d net.0 sink × IsDelayOption rise × IsDelayOption fall
 
 -- how many wire coefficients a net has
 abbrev pub coefficients_of : Net → ℕ
@@ -141,6 +145,7 @@ pub record IsPeriod (d : Parts) : Type 0 where
   pub there : 0 < length d.checks → IsSome d.period
 
 pub record IsSound (d : Parts) : Type 0 where
+  pub tables : All IsTable d.tables
   pub nets : (i : ℕ) → IfSome (slice_get d.nets i) (IsSoundNet d i)
   pub names : HasOwnNames d.nets
   pub checks : All (IsSoundCheck d) d.checks

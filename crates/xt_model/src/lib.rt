@@ -3,6 +3,7 @@
 #![tactic(auto)]
 
 mod check;
+mod direction;
 mod edge;
 mod fault;
 mod name;
@@ -13,6 +14,7 @@ mod table;
 mod windows;
 
 pub use check::CheckPoint;
+pub use direction::Direction;
 pub use edge::Edge;
 pub use fault::{Code, LimitKind, NoMemory};
 pub use name::Name;

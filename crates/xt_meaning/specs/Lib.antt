@@ -1,0 +1,12 @@
+pub mod Lookup
+pub mod Wires
+pub mod Overlap
+pub mod Operator
+pub mod Fixpoint
+pub mod Envelope
+pub mod Barrier
+pub mod Thousandths
+pub mod Lines
+pub mod Linked
+pub mod Guilt
+pub mod Report
