@@ -1,39 +1,68 @@
 -- The envelope: the windows where everything overlaps, and the limits that it has to keep.
-use Rattle.std.specs.Prelude.{◌≡◌, ℕ, ◌<◌, ◌^◌, true, ℤ, pos, neg_ℤ, ◌+ℤ◌, ◌≤ℤ◌, List, length, Some}
-use Rattle.std.specs.List.{slice_get}
+use Rattle.std.specs.Prelude.{◌≡◌, ℕ, zero, suc, ◌^◌, Bool, true, not, ◌&&◌, if◌then◌else◌, ℤ, pos, neg_ℤ, ◌+ℤ◌, int_le, List, [], ◌∷◌, ◌++◌, length, Option, Some, None}
+use Rattle.std.specs.List.{slice_get, find, flat_map, AllPass}
 use Rattle.xt_model.specs.declared.edge.Edge.{Edge}
+use Rattle.xt_model.specs.declared.edge.Edge.TheVariants.{Rise, Fall}
 use Rattle.xt_model.specs.declared.quad.Quad.{Quad}
 use Rattle.xt_model.specs.declared.quad.Pair.{Pair}
 use Rattle.xt_model.specs.declared.net.Net.{Net}
-use Rattle.xt_model.specs.Quads.{IsLive}
-use Rattle.xt_model.specs.Sound.{IsTime}
+use Rattle.xt_model.specs.Quads.{is_live}
 use Rattle.xt_model.specs.Parts.{Parts}
 use Rattle.xt_model.specs.Assign.{assigned}
 use Rattle.xt_meaning.specs.Wires.{miller, wire_delay, slew_growth}
 use Rattle.xt_meaning.specs.Operator.{widest_operator}
 use Rattle.xt_meaning.specs.Fixpoint.{IsWindows}
 
--- the windows that the operator gives back where every pair of windows overlaps
-pub record IsEnvelope (d : Parts) (w : List Pair) : Type 0 where
-  pub windows : IsWindows d w
+-- windows that the operator gives back where every pair of windows overlaps; their bounds may be beyond what
+-- words can hold, where they pass a limit
+pub record IsWidest (d : Parts) (w : List Pair) : Type 0 where
+  pub count : length w ≡ length d.nets
   pub fixed : (n : ℕ) (e : Edge) → widest_operator d (assigned w) n e ≡ assigned w n e
 
--- the delay to a sink with every coupling at its greatest factor
+-- the same with bounds that words can hold
+pub record IsEnvelope (d : Parts) (w : List Pair) : Type 0 where
+  pub windows : IsWindows d w
+  pub widest : IsWidest d w
+
+-- a quantity of a net that has a limit: a time, or a slew
+pub data Test : Type 0 where
+  TimeAt : ℕ → ℤ → Test
+  SlewAt : ℕ → ℤ → Test
+
+-- a time is at most 2^46 fs in size, and a slew at most 2^40 fs
+abbrev pub passes : Test → Bool
+passes (TimeAt n t) = int_le (neg_ℤ (pos (2 ^ 46))) t && int_le t (pos (2 ^ 46))
+passes (SlewAt n s) = int_le s (pos (2 ^ 40))
+
+-- the delay to a sink with every coupling at its highest factor
 abbrev pub greatest_wire : Net → ℕ → ℤ
 greatest_wire net sink = wire_delay (λ k. miller.high) net sink
 
--- the latest arrival at a sink and the greatest slew there keep the limits
-pub record IsAcceptedSink (net : Net) (q : Quad) (sink : ℕ) : Type 0 where
-  pub arrival : IsTime (q.thi +ℤ greatest_wire net sink)
-  pub slew : (q.shi +ℤ slew_growth (greatest_wire net sink)) ≤ℤ pos (2 ^ 40)
+-- the latest arrival at a sink, and the greatest slew there
+abbrev pub sink_tests : ℕ → Net → Quad → ℕ → List Test
+sink_tests n net q sink = TimeAt n (q.thi +ℤ greatest_wire net sink) ∷ SlewAt n (q.shi +ℤ slew_growth (greatest_wire net sink)) ∷ []
 
--- a live window keeps the limits at the driver and at every sink
-pub record IsAcceptedQuad (net : Net) (q : Quad) : Type 0 where
-  pub tlo : IsTime q.tlo
-  pub thi : IsTime q.thi
-  pub shi : q.shi ≤ℤ pos (2 ^ 40)
-  pub sinks : (sink : ℕ) → sink < length net.sinks → IsAcceptedSink net q sink
+-- those of the sinks below a number, in order
+abbrev pub all_sink_tests : ℕ → Net → Quad → ℕ → List Test
+all_sink_tests n net q zero = []
+all_sink_tests n net q (suc sinks) = all_sink_tests n net q sinks ++ sink_tests n net q sinks
+
+-- what has a limit in a live window of net number n
+abbrev pub quad_tests : ℕ → Net → Quad → List Test
+quad_tests n net q =
+    if is_live q then TimeAt n q.tlo ∷ TimeAt n q.thi ∷ SlewAt n q.shi ∷ all_sink_tests n net q (length net.sinks) else []
+
+abbrev pub tests_of : List Pair → ℕ → Option Net → List Test
+tests_of w n None = []
+tests_of w n (Some net) = quad_tests n net (assigned w n Rise) ++ quad_tests n net (assigned w n Fall)
+
+abbrev pub net_tests : Parts → List Pair → ℕ → List Test
+net_tests d w n = tests_of w n (slice_get d.nets n)
 
 -- no window passes a limit
 pub record IsAccepted (d : Parts) (w : List Pair) : Type 0 where
-  pub each : (n : ℕ) (net : Net) (e : Edge) → slice_get d.nets n ≡ Some net → IsLive (assigned w n e) → IsAcceptedQuad net (assigned w n e)
+  pub each : (n : ℕ) → AllPass passes (net_tests d w n)
+
+-- the first limit that is passed, with the nets in this order
+abbrev pub first_passed : Parts → List Pair → List ℕ → Option Test
+first_passed d w order = find (λ t. not (passes t)) (flat_map (net_tests d w) order)

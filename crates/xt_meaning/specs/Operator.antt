@@ -19,13 +19,13 @@ pub record Range : Type 0 where
   pub least : ℤ
   pub most : ℤ
 
--- the delay of the wire of net `m`, of that number, at an edge, to one of its sinks: at all least factors and
--- at all greatest factors
+-- the delay of the wire of net number `m` at an edge to one of its sinks: with every coupling at its least
+-- factor, and with every coupling at its greatest
 abbrev pub wire_range : Answers → ℕ → Edge → ℕ → Option Net → Range
 wire_range b m e sink None = record { least = pos 0; most = pos 0 }
 wire_range b m e sink (Some n) = record { least = wire_delay (least_factor b m e) n sink; most = wire_delay (greatest_factor b m e) n sink }
 
--- the load of a net at an edge: at all least factors and at all greatest factors
+-- the load of a net at an edge, at the same two settings of its couplings
 abbrev pub load_range : Answers → ℕ → Edge → Net → Range
 load_range b n e net = record { least = load_of (least_factor b n e) net; most = load_of (greatest_factor b n e) net }
 

@@ -16,20 +16,20 @@ pub record Miller : Type 0 where
 abbrev pub miller : Miller
 miller = record { low = 0; mid = 1; high = 2 }
 
--- base, and of each coupling its factor times its coefficient
-abbrev pub product_sum : (Coupling → ℕ) → ℤ → List Coupling → List ℤ → ℤ
-product_sum m base [] cs = base
-product_sum m base (k ∷ ks) [] = base
-product_sum m base (k ∷ ks) (c ∷ cs) = product_sum m (base +ℤ (pos (m k) *ℤ c)) ks cs
+-- what the couplings of a net add to a sum of products: of each its factor times its coefficient
+abbrev pub product_sum : (Coupling → ℕ) → List Coupling → List ℤ → ℤ
+product_sum m [] cs = pos 0
+product_sum m (k ∷ ks) [] = pos 0
+product_sum m (k ∷ ks) (c ∷ cs) = (pos (m k) *ℤ c) +ℤ product_sum m ks cs
 
--- load, and of each coupling its factor times its capacitance
-abbrev pub cap_sum : (Coupling → ℕ) → ℤ → List Coupling → ℤ
-cap_sum m load [] = load
-cap_sum m load (k ∷ ks) = cap_sum m (load +ℤ (pos (m k) *ℤ k.cap)) ks
+-- what the couplings of a net add to its load: of each its factor times its capacitance
+abbrev pub cap_sum : (Coupling → ℕ) → List Coupling → ℤ
+cap_sum m [] = pos 0
+cap_sum m (k ∷ ks) = (pos (m k) *ℤ k.cap) +ℤ cap_sum m ks
 
 -- the load of a net in aF
 abbrev pub load_of : (Coupling → ℕ) → Net → ℤ
-load_of m n = cap_sum m n.load n.couplings
+load_of m n = n.load +ℤ cap_sum m n.couplings
 
 -- the Elmore delay in fs of a sum in milliohms times aF
 abbrev pub elmore_delay : ℤ → ℤ
@@ -37,7 +37,7 @@ elmore_delay sum = int_div_euclid sum (pos 1000000)
 
 abbrev pub delay_to : (Coupling → ℕ) → List Coupling → Option SinkPin → ℤ
 delay_to m ks None = pos 0
-delay_to m ks (Some s) = elmore_delay (product_sum m s.base ks s.coefs)
+delay_to m ks (Some s) = elmore_delay (s.base +ℤ product_sum m ks s.coefs)
 
 -- the delay of the wire from the driver of a net to one of its sinks, in fs
 abbrev pub wire_delay : (Coupling → ℕ) → Net → ℕ → ℤ

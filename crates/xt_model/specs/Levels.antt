@@ -10,7 +10,7 @@ abbrev pub greatest_of : List ℕ → ℕ
 greatest_of [] = 0
 greatest_of (n ∷ more) = max n (greatest_of more)
 
--- 1 more than the greatest level of the input nets of the arcs, so 1 for a source
+-- one level above the highest input of the arcs, so 1 for a source
 abbrev pub level_from : List ℕ → List TimingArc → ℕ
 level_from levels arcs = 1 + greatest_of (map (λ a. slice_index levels a.from.0) arcs)
 
@@ -23,7 +23,7 @@ pub record AreLevels (nets : List Net) (levels : List ℕ) : Type 0 where
 abbrev pub IsLevel : List Net → ℕ → ℕ → Type 0
 IsLevel nets net level = (levels : List ℕ) × AreLevels nets levels × (slice_get levels net ≡ Some level)
 
--- the greatest level, 0 for no nets
+-- the highest level that a net has; a design without nets has depth 0
 abbrev pub IsDepth : List Net → ℕ → Type 0
 IsDepth nets depth = (levels : List ℕ) × AreLevels nets levels × (depth ≡ greatest_of levels)
 
@@ -31,7 +31,7 @@ IsDepth nets depth = (levels : List ℕ) × AreLevels nets levels × (depth ≡ 
 abbrev pub Reads : List Net → ℕ → ℕ → Type 0
 Reads nets a b = (n : Net) × (arc : TimingArc) × (slice_get nets a ≡ Some n) × Contains n.arcs arc × (arc.from.0 ≡ b)
 
--- each net of the list reads the next, and the last reads the first
+-- a ring of nets: each has an arc from the one after it, and the last has one from the first
 pub record IsLoop (nets : List Net) (path : List ℕ) : Type 0 where
   pub some : 0 < length path
   pub steps : (i : ℕ) → i + 1 < length path → Reads nets (slice_index path i) (slice_index path (i + 1))

@@ -21,7 +21,7 @@ is_live q = int_le q.tlo q.thi && int_le q.slo q.shi
 abbrev pub IsLive : Quad → Type 0
 IsLive q = IsTrue (is_live q)
 
--- q lies within r: r's low bounds are at most q's, and r's high bounds at least q's
+-- q lies within r: no bound of q is outside those of r
 pub record IsWithin (q r : Quad) : Type 0 where
   pub tlo : r.tlo ≤ℤ q.tlo
   pub thi : q.thi ≤ℤ r.thi

@@ -1,5 +1,5 @@
--- What makes the parts of a design sound: every number names a thing that is there, every quantity is in
--- its range, and no limit is passed.
+-- What makes the parts of a design sound: no reference leads nowhere, each quantity keeps its range, and the
+-- design keeps its limits.
 use Rattle.std.specs.Prelude.{◌≡◌, ◌≢◌, ℕ, ◌+◌, ◌*◌, ◌<◌, ◌≤◌, ◌^◌, ◌⊎◌, ℤ, pos, neg_ℤ, ◌≤ℤ◌, ◌+ℤ◌, ◌*ℤ◌, List, [], ◌∷◌, length, Option, Some, None, IfSome, IsSome, sum}
 use Rattle.std.specs.List.{All, AllByRecursion, slice_get, sum_by}
 use Rattle.std.specs.Option.{IsSomeAnd, option_map, unwrap_or}
@@ -85,7 +85,7 @@ coupling_sum (k ∷ more) = k.cap +ℤ coupling_sum more
 abbrev pub greatest_load : Net → ℤ
 greatest_load n = n.load +ℤ (pos 2 *ℤ coupling_sum n.couplings)
 
--- the net number `own`
+-- the net number `own`; the number of a sink fits 32 bits
 pub record IsSoundNet (d : Parts) (own : ℕ) (n : Net) : Type 0 where
   pub name : IsName n.name
   pub load : IsCap n.load
@@ -95,6 +95,7 @@ pub record IsSoundNet (d : Parts) (own : ℕ) (n : Net) : Type 0 where
   pub couplings : All (IsSoundCoupling d own) n.couplings
   pub sinks : All (IsSoundSink (length n.couplings)) n.sinks
   pub arcs : All (IsSoundArc d) n.arcs
+  pub few_sinks : length n.sinks < 2 ^ 32
   pub most_load : greatest_load n ≤ℤ pos (2 ^ 46)
 
 -- a constraint table of a check, where it has one, is there

@@ -36,7 +36,8 @@ pub struct TimingArc {
 }
 
 /// A net: its load to ground in aF, its couplings, the pins that it drives and the arcs that drive it.
-/// A net without arcs is a source, and `given` is its constraint. `input` tells an input port.
+/// A source has no arcs, and `given` constrains it; what a net with arcs is given is bottom. `input` tells
+/// an input port.
 #[derive(Debug, Drop)]
 pub struct Net {
     pub name: Name,

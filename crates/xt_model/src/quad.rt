@@ -28,7 +28,7 @@ fn is_inside(low: i64, high: i64, outer_low: i64, outer_high: i64) -> bool
 }
 
 impl Quad {
-    /// The window of an edge that never switches; it lies within every window.
+    /// The window of an edge that never switches; it lies within every window with bounds up to 2^62.
     pub const BOTTOM: Quad = Quad {
         tlo: 4_611_686_018_427_387_904,
         thi: -4_611_686_018_427_387_904,
@@ -50,7 +50,7 @@ impl Quad {
         self.tlo <= self.thi && self.slo <= self.shi
     }
 
-    /// Whether every time and slew of this window is one of `other` too.
+    /// Whether no bound of this window lies outside those of `other`.
     pub fn within(&self, other: &Quad) -> bool
         ensures { IsTrue result ↔ IsWithin self.now other.now }
     {

@@ -2,8 +2,8 @@ ghost use Rattle.std.specs.Prelude.{◌≡◌, List, length};
 
 use std::marker::Model;
 
-/// A list of plain data, which contracts see as the list of its items. It is made from a `Vec` and
-/// gives it back without taking memory.
+/// Plain data in a row, which contracts see as the list of its items. Neither way between a `Vec` and a
+/// row takes memory.
 #[derive(Debug, Drop)]
 pub struct Row<T> {
     items: Vec<T>,
