@@ -1,6 +1,6 @@
 -- Barriers: what a run in one direction never crosses. These are the only definitions here that look at all
 -- assignments for the sake of a run.
-use Rattle.std.specs.Prelude.{◌≡◌, ℕ, ◌%◌, zero, suc, ℤ, ◌≤ℤ◌, List}
+use Rattle.std.specs.Prelude.{ℕ, ◌%◌, zero, suc, ℤ, ◌≤ℤ◌, List}
 use Rattle.xt_model.specs.declared.direction.Direction.{Direction}
 use Rattle.xt_model.specs.declared.direction.Direction.TheVariants.{Widen, Narrow}
 use Rattle.xt_model.specs.declared.edge.Edge.{Edge}

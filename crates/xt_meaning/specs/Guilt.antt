@@ -31,11 +31,12 @@ pub record Guilt : Type 0 where
 
 abbrev pub guilt_of : List Pair → List Pair → ℕ → Edge → Coupling → Guilt
 guilt_of low high n e k = record {
-    victim = n;
-    edge = e;
-    coupling = k;
-    fast = mark_of low high n e k.to.0 e;
-    slow = mark_of low high n e k.to.0 (other_edge e) }
+  victim = n;
+  edge = e;
+  coupling = k;
+  fast = mark_of low high n e k.to.0 e;
+  slow = mark_of low high n e k.to.0 (other_edge e);
+}
 
 abbrev pub is_no : Mark → Bool
 is_no No = true

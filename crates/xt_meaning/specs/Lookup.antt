@@ -1,5 +1,5 @@
 -- The value of a look-up table at a slew and a load, and its range over a box of them.
-use Rattle.std.specs.Prelude.{◌≡◌, ℕ, ◌+◌, ◌*◌, ◌-◌, zero, suc, Bool, ◌&&◌, ◌==◌, if◌then◌else◌, ℤ, pos, ◌+ℤ◌, ◌-ℤ◌, ◌*ℤ◌, ◌≤ℤ◌, int_le, unsigned_abs, List, length, count_by, take, drop}
+use Rattle.std.specs.Prelude.{ℕ, ◌+◌, ◌*◌, ◌-◌, zero, suc, ◌==◌, if◌then◌else◌, ℤ, pos, ◌+ℤ◌, ◌-ℤ◌, ◌*ℤ◌, int_le, unsigned_abs, List, length, count_by, take, drop}
 use Rattle.std.specs.Int.{int_min, int_max, int_div_euclid}
 use Rattle.std.specs.List.{slice_index_or}
 use Rattle.xt_model.specs.Tables.{TableParts}
@@ -24,11 +24,12 @@ pub record Span : Type 0 where
 -- between the lines number i and i + 1
 abbrev pub span_at : List ℤ → ℤ → ℕ → Span
 span_at xs x i = record {
-    first = i;
-    second = i + 1;
-    above = x -ℤ slice_index_or xs i (pos 0);
-    below = slice_index_or xs (i + 1) (pos 0) -ℤ x;
-    width = slice_index_or xs (i + 1) (pos 0) -ℤ slice_index_or xs i (pos 0) }
+  first = i;
+  second = i + 1;
+  above = x -ℤ slice_index_or xs i (pos 0);
+  below = slice_index_or xs (i + 1) (pos 0) -ℤ x;
+  width = slice_index_or xs (i + 1) (pos 0) -ℤ slice_index_or xs i (pos 0);
+}
 
 -- an index of one value is constant
 abbrev pub whole_span : Span

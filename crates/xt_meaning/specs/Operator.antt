@@ -41,18 +41,20 @@ slew_range (Some t) box = record { least = least_over (slew_value t) box; most =
 -- the slews at the arc's input pin by the loads of the driven net
 abbrev pub arc_box : Quad → Range → Range → Box
 arc_box input wire load = record {
-    s0 = input.slo +ℤ slew_growth wire.least;
-    s1 = input.shi +ℤ slew_growth wire.most;
-    c0 = load.least;
-    c1 = load.most }
+  s0 = input.slo +ℤ slew_growth wire.least;
+  s1 = input.shi +ℤ slew_growth wire.most;
+  c0 = load.least;
+  c1 = load.most;
+}
 
 -- the output window of a cell: the input window, the wire before the pin, and the table's delays and slews
 abbrev pub arc_quad : Quad → Range → Range → Range → Quad
 arc_quad input wire delay slew = record {
-    tlo = (input.tlo +ℤ wire.least) +ℤ delay.least;
-    thi = (input.thi +ℤ wire.most) +ℤ delay.most;
-    slo = slew.least;
-    shi = slew.most }
+  tlo = (input.tlo +ℤ wire.least) +ℤ delay.least;
+  thi = (input.thi +ℤ wire.most) +ℤ delay.most;
+  slo = slew.least;
+  shi = slew.most;
+}
 
 -- what an arc contributes, with the input window, the wire's range and the load's range at hand
 abbrev pub contribution_by : Parts → TimingArc → Quad → Range → Range → Quad

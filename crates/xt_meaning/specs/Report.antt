@@ -1,6 +1,6 @@
 -- The report of a design and its least and greatest windows. Designs with checks have further lines, which
 -- are still to come.
-use Rattle.std.specs.Prelude.{◌≡◌, ℕ, ◌+◌, Bool, true, false, ◌&&◌, if◌then◌else◌, List, [], ◌∷◌, ◌++◌, length, map, codes, ℤ, Option, Some, None, not}
+use Rattle.std.specs.Prelude.{◌≡◌, ℕ, ◌+◌, Bool, ◌&&◌, if◌then◌else◌, List, [], ◌∷◌, ◌++◌, length, map, codes, ℤ, Option, Some, None, not}
 use Rattle.std.specs.Fmt.{decimal}
 use Rattle.std.specs.List.{slice_get, sum_by}
 use Rattle.xt_model.specs.declared.edge.Edge.{Edge}

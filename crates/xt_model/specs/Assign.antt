@@ -1,5 +1,5 @@
 -- Assignments: one quad for each net and edge; and the same as numbered words.
-use Rattle.std.specs.Prelude.{◌≡◌, ℕ, ◌+◌, ◌*◌, ◌/◌, ◌%◌, ◌==◌, zero, suc, ℤ, List, Option, Some, None, if◌then◌else◌}
+use Rattle.std.specs.Prelude.{ℕ, ◌+◌, ◌*◌, ◌/◌, ◌%◌, zero, suc, ℤ, List, Option, Some, None}
 use Rattle.std.specs.List.{slice_get}
 use Rattle.xt_model.specs.declared.edge.Edge.{Edge}
 use Rattle.xt_model.specs.declared.edge.Edge.TheVariants.{Rise, Fall}
@@ -48,7 +48,8 @@ words_of W word = side_of (W (word / 8) (edge_of (word / 4 % 2))) (word % 4)
 -- the assignment that a view of words stands for
 abbrev pub quads_of : (ℕ → ℤ) → Assignment
 quads_of f net e = record {
-    tlo = f (word_number net e 0);
-    thi = f (word_number net e 1);
-    slo = f (word_number net e 2);
-    shi = f (word_number net e 3) }
+  tlo = f (word_number net e 0);
+  thi = f (word_number net e 1);
+  slo = f (word_number net e 2);
+  shi = f (word_number net e 3);
+}

@@ -1,6 +1,6 @@
 -- Levels of nets, the order by level, pairs of coupled nets, and the bound on rounds.
-use Rattle.std.specs.Prelude.{◌≡◌, ℕ, ◌+◌, ◌*◌, ◌-◌, ◌<◌, ◌≤◌, ◌⊎◌, List, [], ◌∷◌, length, map, Option, Some, max, ◌↔◌}
-use Rattle.std.specs.List.{slice_get, slice_index, Contains, fold}
+use Rattle.std.specs.Prelude.{◌≡◌, ℕ, ◌+◌, ◌*◌, ◌-◌, ◌<◌, ◌⊎◌, List, [], ◌∷◌, length, map, Some, max, ◌↔◌}
+use Rattle.std.specs.List.{slice_get, slice_index, Contains}
 use Rattle.xt_model.specs.declared.net.Coupling.{Coupling}
 use Rattle.xt_model.specs.declared.net.TimingArc.{TimingArc}
 use Rattle.xt_model.specs.declared.net.Net.{Net}

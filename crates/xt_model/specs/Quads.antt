@@ -1,5 +1,5 @@
 -- Switching windows: one quad of bounds for each net and edge, ordered by containment (Zhou 2003).
-use Rattle.std.specs.Prelude.{◌≡◌, ℕ, ◌^◌, Bool, true, false, ◌&&◌, ℤ, pos, neg_ℤ, ◌≤ℤ◌, int_le, IsTrue}
+use Rattle.std.specs.Prelude.{Bool, true, false, ◌&&◌, ℤ, pos, neg_ℤ, ◌≤ℤ◌, int_le, IsTrue}
 use Rattle.std.specs.Int.{int_min, int_max}
 use Rattle.xt_model.specs.declared.edge.Edge.{Edge}
 use Rattle.xt_model.specs.declared.edge.Edge.TheVariants.{Rise, Fall}
