@@ -5,3 +5,6 @@ pub mod Parts
 pub mod Sound
 pub mod Levels
 pub mod Assign
+pub mod Build
+pub mod Visits
+pub mod Couples

@@ -2,21 +2,35 @@
 //! Times are in femtoseconds (fs), capacitances in attofarads (aF), resistances in milliohms.
 #![tactic(auto)]
 
+mod bounds;
 mod check;
+mod design;
 mod direction;
 mod edge;
 mod fault;
+mod laws;
 mod name;
 mod net;
+mod order;
+mod pairs;
 mod quad;
 mod row;
 mod table;
+#[cfg(test)]
+mod tests;
+mod visits;
 mod windows;
 
+pub use bounds::{Bounds, window};
 pub use check::CheckPoint;
+pub use design::Design;
 pub use direction::Direction;
 pub use edge::Edge;
-pub use fault::{Code, LimitKind, NoMemory};
+pub use fault::{BuildFault, Code, LimitKind, NoMemory};
+pub use laws::{
+    a_loop_excludes_levels, a_pair_count_is_unique, an_order_is_unique, joins_and_meets_are_bounds,
+    levels_are_unique, within_is_an_order,
+};
 pub use name::Name;
 pub use net::{Coupling, Net, NetId, SinkPin, TimingArc};
 pub use quad::{Pair, Quad};

@@ -22,6 +22,7 @@ impl Name {
     ghost use Rattle.std.specs.Prelude.{◌≡◌};
     ghost use Rattle.xt_model.specs.Names.{IsName};
 
+    /// The name of 1 to 2,049 bytes from 33 to 126.
     pub fn new(bytes: Vec<u8>) -> Name
         requires { IsName bytes.items }
         ensures { result ≡ bytes.items }
@@ -29,6 +30,7 @@ impl Name {
         Name { bytes }
     }
 
+    /// The bytes of the name.
     pub fn bytes(&self) -> &[u8]
         ensures value { result.now ≡ self.now }
         ensures sound { IsName self.now }

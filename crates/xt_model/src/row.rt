@@ -16,24 +16,28 @@ impl<T> Model for Row<T> {
 }
 
 impl<T> Row<T> {
+    /// The items of a `Vec`.
     pub fn from_vec(items: Vec<T>) -> Row<T>
         ensures { result ≡ items.items }
     {
         Row { items }
     }
 
+    /// The items.
     pub fn as_slice(&self) -> &[T]
         ensures { result.now ≡ self.now }
     {
         self.items.as_slice()
     }
 
+    /// How many items there are.
     pub fn len(&self) -> usize
         ensures { result ≡ length self.now }
     {
         self.items.len()
     }
 
+    /// The items as a `Vec`.
     pub fn into_vec(self) -> Vec<T>
         ensures { result.items ≡ self }
     {

@@ -24,6 +24,7 @@ impl Table {
     ghost use Rattle.std.specs.Prelude.{◌≡◌};
     ghost use Rattle.xt_model.specs.Tables.{TableParts, IsTable};
 
+    /// The table of 1 to 64 rising slews and loads, and a value for each of both.
     pub fn new(slews: Row<i64>, loads: Row<i64>, values: Row<i64>) -> Table
         requires { IsTable (record { slews = slews; loads = loads; values = values }) }
         ensures { result ≡ record { slews = slews; loads = loads; values = values } }

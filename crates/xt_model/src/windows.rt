@@ -22,10 +22,11 @@ impl Model for Windows {
 }
 
 impl Windows {
-    ghost use Rattle.std.specs.Prelude.{◌≡◌};
-    ghost use Rattle.std.specs.List.{All};
+    ghost use Rattle.std.specs.Prelude.{◌≡◌, ◌<◌, length, Some};
+    ghost use Rattle.std.specs.List.{All, slice_get};
     ghost use Rattle.xt_model.specs.Quads.{IsPairInRange};
 
+    /// The windows of the nets, by number; every bound is from -2^62 to 2^62.
     pub fn new(pairs: Vec<Pair>) -> Windows
         requires { All IsPairInRange pairs.items }
         ensures { result ≡ pairs.items }
@@ -33,10 +34,20 @@ impl Windows {
         Windows { pairs }
     }
 
+    /// The windows of each net, by number.
     pub fn pairs(&self) -> &[Pair]
         ensures value { result.now ≡ self.now }
         ensures in_range { All IsPairInRange self.now }
     {
         self.pairs.as_slice()
+    }
+
+    /// The windows of one net.
+    pub fn pair(&self, net: usize) -> Pair
+        requires { net < length self.now }
+        ensures value { slice_get self.now net ≡ Some result }
+        ensures in_range { IsPairInRange result }
+    {
+        self.pairs[net]
     }
 }

@@ -1,0 +1,7 @@
+pub mod LevelLaws
+pub mod LevelTurns
+pub mod ListLaws
+pub mod OrderLaws
+pub mod PairLaws
+pub mod WalkSteps
+pub mod WindowLaws

@@ -1,0 +1,28 @@
+-- What a built design keeps, and why parts make none.
+use Rattle.std.specs.Prelude.{◌≡◌, ℕ, ◌≤◌, List, map}
+use Rattle.xt_model.specs.declared.net.Net.{Net}
+use Rattle.xt_model.specs.declared.fault.BuildFault.{BuildFault}
+use Rattle.xt_model.specs.declared.fault.BuildFault.TheVariants.{Loop, NoMemory}
+use Rattle.xt_model.specs.Parts.{Parts}
+use Rattle.xt_model.specs.Sound.{IsSound}
+use Rattle.xt_model.specs.Levels.{AreLevels, IsOrderBy, IsLoop, IsPairCount, IsDepth, greatest_of, bound_of}
+
+-- sound parts with the level of each net, the nets by level, the greatest level and the count of
+-- coupled pairs
+pub record IsDesign (d : Parts) (levels order : List ℕ) (depth pairs : ℕ) : Type 0 where
+  pub sound : IsSound d
+  pub are_levels : AreLevels d.nets levels
+  pub is_order : IsOrderBy d.nets levels order
+  pub is_depth : depth ≡ greatest_of levels
+  pub is_pair_count : IsPairCount d.nets pairs
+  pub most_depth : depth ≤ 262144
+  pub most_pairs : pairs ≤ 1048576
+
+-- the bound on rounds of these nets
+abbrev pub IsRoundBound : List Net → ℕ → Type 0
+IsRoundBound nets bound = (pairs : ℕ) × (depth : ℕ) × IsPairCount nets pairs × IsDepth nets depth × (bound ≡ bound_of pairs depth)
+
+-- the fault is true of the nets: a loop is one that their arcs make, and want of memory is always free
+abbrev pub IsFaultOf : List Net → BuildFault → Type 0
+IsFaultOf nets (Loop ids) = IsLoop nets (map (λ n. n.0) ids)
+IsFaultOf nets NoMemory = Unit {0}

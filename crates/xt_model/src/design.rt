@@ -1,0 +1,150 @@
+use crate::check::CheckPoint;
+use crate::fault::BuildFault;
+use crate::net::{Net, NetId};
+use crate::order::{greatest, order_by_level};
+use crate::pairs::coupled_pairs;
+use crate::row::Row;
+use crate::table::Table;
+use crate::visits::find_levels;
+use std::alloc::Global;
+use std::marker::Model;
+
+/// A design whose arcs make no loop, with the level of each net and the nets in order of level.
+#[derive(Debug, Drop)]
+pub struct Design {
+    period: Option<i64>,
+    tables: Row<Table>,
+    nets: Row<Net>,
+    checks: Row<CheckPoint>,
+    levels: Row<u32>,
+    order: Row<u32>,
+    depth: u32,
+    pairs: u64,
+}
+
+impl Model for Design {
+    ghost use Rattle.xt_model.specs.Parts.{Parts};
+    ghost use Rattle.xt_model.specs.Build.{IsDesign};
+
+    ghost Value = { Parts };
+
+    ghost view = { λ d. record { period = d.period; tables = d.tables; nets = d.nets; checks = d.checks } };
+
+    ghost invariant = { λ d. IsDesign (record { period = d.period; tables = d.tables; nets = d.nets; checks = d.checks }) d.levels d.order d.depth d.pairs };
+}
+
+impl Design {
+    ghost use Rattle.std.specs.Prelude.{◌≡◌, ℕ, ◌<◌, List, length, Some, IfOk, OnOk, IfErr};
+    ghost use Rattle.std.specs.List.{slice_get};
+    ghost use Rattle.xt_model.specs.Parts.{Parts};
+    ghost use Rattle.xt_model.specs.Sound.{IsSound, IsSoundNet};
+    ghost use Rattle.xt_model.specs.Levels.{IsLoop, IsLevel, IsDepth, IsOrder, IsPairCount};
+    ghost use Rattle.xt_model.specs.Build.{IsFaultOf, IsRoundBound};
+
+    /// The design of these parts, or the loop that their arcs make. Takes time in proportion to the arcs,
+    /// and a sort of the nets and of the couplings.
+    pub fn new(
+        alloc: Global,
+        period: Option<i64>,
+        tables: Vec<Table>,
+        nets: Vec<Net>,
+        checks: Vec<CheckPoint>,
+    ) -> Result<Design, BuildFault>
+        requires sound { IsSound (record { period = period; tables = tables.items; nets = nets.items; checks = checks.items }) }
+        ensures ok { IfOk result (λ d. d ≡ record { period = period; tables = tables.items; nets = nets.items; checks = checks.items }) }
+        ensures acyclic { OnOk result ((path : List ℕ) → IsLoop nets.items path → ⊥) }
+        ensures loops { IfErr result (IsFaultOf nets.items) }
+    {
+        let levels = find_levels(alloc, &nets)?;
+        let order = order_by_level(alloc, &nets, &levels)?;
+        let pairs = coupled_pairs(alloc, &nets)?.len() as u64;
+        let depth = greatest(&levels);
+        Ok(Design {
+            period,
+            tables: Row::from_vec(tables),
+            nets: Row::from_vec(nets),
+            checks: Row::from_vec(checks),
+            levels: Row::from_vec(levels),
+            order: Row::from_vec(order),
+            depth,
+            pairs,
+        })
+    }
+
+    /// The clock period in fs; a design with checks has one.
+    pub fn period(&self) -> Option<i64>
+        ensures value { result ≡ self.now.period }
+        ensures sound { IsSound self.now }
+    {
+        self.period
+    }
+
+    /// The look-up tables of the cells.
+    pub fn tables(&self) -> &[Table]
+        ensures value { result.now ≡ self.now.tables }
+        ensures sound { IsSound self.now }
+    {
+        self.tables.as_slice()
+    }
+
+    /// The nets, by number.
+    pub fn nets(&self) -> &[Net]
+        ensures value { result.now ≡ self.now.nets }
+        ensures sound { IsSound self.now }
+    {
+        self.nets.as_slice()
+    }
+
+    /// The places where data has to be in time.
+    pub fn checks(&self) -> &[CheckPoint]
+        ensures value { result.now ≡ self.now.checks }
+        ensures sound { IsSound self.now }
+    {
+        self.checks.as_slice()
+    }
+
+    /// The net of this number.
+    pub fn net(&self, number: usize) -> &Net
+        requires { number < length self.now.nets }
+        ensures there { slice_get self.now.nets number ≡ Some result.now }
+        ensures sound { IsSoundNet self.now number result.now }
+    {
+        &self.nets.as_slice()[number]
+    }
+
+    /// 1 for a source, else 1 more than the greatest level of the inputs of the net's arcs.
+    pub fn level(&self, net: NetId) -> u32
+        requires { net.0 < length self.now.nets }
+        ensures { IsLevel self.now.nets net.0 result }
+    {
+        self.levels.as_slice()[net.0 as usize]
+    }
+
+    /// The greatest level, 0 for no nets.
+    pub fn levels(&self) -> u32
+        ensures { IsDepth self.now.nets result }
+    {
+        self.depth
+    }
+
+    /// The numbers of the nets by level, and by number within a level.
+    pub fn order(&self) -> &[u32]
+        ensures { IsOrder self.now.nets result.now }
+    {
+        self.order.as_slice()
+    }
+
+    /// How many unordered pairs of nets have a coupling on either side.
+    pub fn pairs(&self) -> u64
+        ensures { IsPairCount self.now.nets result }
+    {
+        self.pairs
+    }
+
+    /// The bound on the rounds of a run: (4 pairs + 1) times the greatest level.
+    pub fn bound(&self) -> u64
+        ensures { IsRoundBound self.now.nets result }
+    {
+        (4 * self.pairs + 1) * u64::from(self.depth)
+    }
+}
