@@ -1,0 +1,5 @@
+pub mod Grammar
+pub mod Values
+pub mod Fixing
+pub mod Powers
+pub mod Units

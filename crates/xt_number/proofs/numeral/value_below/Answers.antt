@@ -1,0 +1,18 @@
+use Rattle.std.proofs.Common.{◌+◌, ◌*◌, arith, drop, get_or}
+use Rattle.std.specs.Str.Parse.{digits_value_after}
+use Rattle.xt_number.proofs.Values.{after_ge, digit_off, digits_at_index, value_turn}
+use Rattle.xt_number.proofs.numeral.value_below.Goals as goal
+
+pub overflow_sub-digit : goal.overflow_sub-digit
+overflow_sub-digit c = omega (arith, digit_off (get_or c.args.digits.now c.loop-digit.digit-index 0) (digits_at_index c.args.digits.now c.loop-digit.digit-index c.requires.digits c.loop-digit-test.true))
+
+pub returns-then-value-limit : goal.returns-then-value-limit
+returns-then-value-limit c =
+    let told = value_turn c.loop-digit.value (c.loop-digit.value * 10 + c.from.result) (digits_value_after 10 c.args.start c.args.digits.now) c.args.digits.now c.loop-digit.digit-index c.requires.digits c.loop-digit-test.true (omega arith) c.loop-digit.invariant.told in
+    omega (arith, told, after_ge (c.loop-digit.value * 10 + c.from.result) (drop (c.loop-digit.digit-index + 1) c.args.digits.now))
+
+pub loop-digit-preserved : goal.loop-digit-preserved
+loop-digit-preserved c = record {
+  told = value_turn c.loop-digit.value (c.loop-digit.value * 10 + c.from.result) (digits_value_after 10 c.args.start c.args.digits.now) c.args.digits.now c.loop-digit.digit-index c.requires.digits c.loop-digit-test.true (omega arith) c.loop-digit.invariant.told;
+  below = omega arith;
+}
