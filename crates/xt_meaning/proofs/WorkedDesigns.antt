@@ -19,7 +19,7 @@ use Rattle.xt_meaning.specs.Lines.{text_of}
 use Rattle.xt_meaning.specs.Linked.{linked}
 use Rattle.xt_meaning.specs.Operator.{operator_by, step, widest_operator}
 use Rattle.xt_meaning.specs.Report.{report}
-use Rattle.xt_meaning.specs.Thousandths.{thousandths}
+use Rattle.xt_number.specs.Thousandths.{thousandths}
 
 -- lines of plain text
 abbrev lines : List (List ℕ) → List ℕ

@@ -5,7 +5,7 @@ use Rattle.xt_model.specs.declared.quad.Quad.{Quad}
 use Rattle.xt_model.specs.Tables.{TableParts}
 use Rattle.xt_meaning.specs.Lookup.{table_value, slew_value, Box, least_over, greatest_over}
 use Rattle.xt_meaning.specs.Overlap.{half_up, overlaps}
-use Rattle.xt_meaning.specs.Thousandths.{thousandths}
+use Rattle.xt_number.specs.Thousandths.{thousandths}
 
 abbrev plane : TableParts
 plane = record { slews = pos 0 ∷ pos 100000 ∷ []; loads = pos 0 ∷ pos 10000 ∷ []; values = pos 10000 ∷ pos 30000 ∷ pos 20000 ∷ pos 60000 ∷ [] }

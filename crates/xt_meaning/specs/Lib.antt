@@ -2,11 +2,13 @@ pub mod Lookup
 pub mod Wires
 pub mod Overlap
 pub mod Operator
+pub mod Reads
 pub mod Fixpoint
 pub mod Envelope
 pub mod Barrier
-pub mod Thousandths
 pub mod Lines
 pub mod Linked
 pub mod Guilt
 pub mod Report
+pub mod Modest
+pub mod Laws

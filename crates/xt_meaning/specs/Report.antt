@@ -14,7 +14,7 @@ use Rattle.xt_model.specs.Levels.{IsDepth, IsPairCount, bound_of}
 use Rattle.xt_model.specs.Assign.{assigned}
 use Rattle.xt_meaning.specs.Fixpoint.{IsLeastFixpoint, IsGreatestFixpoint}
 use Rattle.xt_meaning.specs.Lines.{Line, text_of, edge_word}
-use Rattle.xt_meaning.specs.Thousandths.{thousandths}
+use Rattle.xt_number.specs.Thousandths.{thousandths}
 use Rattle.xt_meaning.specs.Guilt.{Mark, No, Possible, Sure, Guilt, guilty}
 
 abbrev pub title_line : Line
