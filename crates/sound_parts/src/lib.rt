@@ -1,0 +1,19 @@
+//! Tests whether the parts of a design are sound: nothing that they refer to is missing, no quantity is out
+//! of range, and they keep the limits on size. Also two narrower tests, on small and on plain designs.
+#![tactic(auto)]
+
+mod check;
+mod coupling;
+mod first_bounds;
+mod given;
+mod limits;
+mod names;
+mod net;
+mod parts;
+mod range;
+mod sound;
+#[cfg(test)]
+mod tests;
+
+pub use first_bounds::{is_plain, is_within_first_bounds};
+pub use sound::is_sound;
