@@ -1,0 +1,15 @@
+//! The text report of a design and its least and greatest windows.
+#![tactic(auto)]
+
+mod fields;
+mod guilty;
+mod mark;
+mod report;
+mod size;
+mod unconstrained;
+mod windows;
+
+pub use report::write_report;
+
+#[cfg(test)]
+mod tests;

@@ -1,0 +1,40 @@
+//! The lines on input ports for which nothing is given.
+
+ghost use Rattle.std.specs.Prelude.{◌≡◌, ◌++◌, OnOk};
+ghost use Rattle.xt_meaning.specs.Lines.{text_of};
+ghost use Rattle.xt_meaning.specs.Report.{is_unconstrained, unconstrained_lines};
+ghost use Rattle.report_text.specs.Pieces.{unconstrained_text};
+
+use crate::fields::push_word;
+use std::alloc::AllocError;
+use xt_model::Net;
+
+/// Whether the net is an input port's, and nothing is given for it.
+fn is_unconstrained(net: &Net) -> bool
+    ensures { result ≡ is_unconstrained net.now }
+{
+    net.input && !net.given.rise.live() && !net.given.fall.live()
+}
+
+/// Appends the line of a net that is unconstrained, and nothing for another.
+#[tactic(auto, unfolding(crate::specs::Fields::field))]
+fn push_net(out: &mut Vec<u8>, net: &Net) -> Result<(), AllocError>
+    ensures { OnOk result (out.new.items ≡ out.old.items ++ unconstrained_text net.now) }
+{
+    if !is_unconstrained(net) {
+        return Ok(());
+    }
+    push_word(out, b"unconstrained", b' ')?;
+    push_word(out, net.name.bytes(), b'\n')?;
+    Ok(())
+}
+
+/// Appends a line for each net that is unconstrained.
+pub fn push_unconstrained(out: &mut Vec<u8>, nets: &[Net]) -> Result<(), AllocError>
+    ensures { OnOk result (out.new.items ≡ out.old.items ++ text_of (unconstrained_lines nets.now)) }
+{
+    for net in nets {
+        push_net(out, net)?;
+    }
+    Ok(())
+}
