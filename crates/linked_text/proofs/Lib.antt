@@ -1,0 +1,13 @@
+pub mod Options
+pub mod Decimals
+pub mod Loop
+pub mod Cuts
+pub mod Many
+pub mod Items
+pub mod Sources
+pub mod Grids
+pub mod Nets
+pub mod Whole
+pub mod SoundParts
+pub mod NoLoop
+pub mod Refusals
