@@ -1,0 +1,14 @@
+//! The top call: from the words of the command line and the bytes of the files to the bytes of the report.
+#![tactic(auto)]
+
+mod answer;
+mod refusal;
+mod solving;
+mod telling;
+mod top;
+mod words;
+
+pub use top::xtalk;
+
+#[cfg(test)]
+mod tests;
