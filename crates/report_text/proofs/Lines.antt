@@ -19,6 +19,7 @@ field_last o p a b m w e = rw (e, w) refl
 pub piece_then : (o p q a more : List ℕ) → p ≡ o ++ a → q ≡ p ++ more → q ≡ o ++ (a ++ more)
 piece_then o p q a more e f = rw (f, e) (simp append_assoc)
 
+-- what is left of a list at an element of it
 pub drop_at : {X : Type 0} (xs : List X) (i : ℕ) (x : X) → slice_get xs i ≡ Some x → drop i xs ≡ x ∷ drop (i + 1) xs
 drop_at xs i x h =
     let within : i < length xs = slice_get_within xs i x h in

@@ -43,6 +43,7 @@ either false a more = refl
 pub unconstrained_next : (n : ℕ) (net : Net) (more : List Net) → text_of (unconstrained_lines (net ∷ more)) ≡ unconstrained_text net ++ text_of (unconstrained_lines more)
 unconstrained_next n net more = either (is_unconstrained net) (codes "unconstrained" ∷ net.name ∷ []) (unconstrained_lines more)
 
+-- a net's two lines, and those of the nets behind it
 pub windows_next : (low high : List Pair) (n : ℕ) (net : Net) (more : List Net)
     → text_of (window_lines low high n (net ∷ more)) ≡ windows_text low high n net ++ text_of (window_lines low high (n + 1) more)
 windows_next low high n net more = simp append_assoc

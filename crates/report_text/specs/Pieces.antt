@@ -13,6 +13,7 @@ use Rattle.report_text.specs.declared.mark.Mark.{Mark as Seen}
 use Rattle.report_text.specs.declared.mark.Mark.TheVariants as seen
 use Rattle.report_text.specs.declared.guilty.Guilt.{Guilt as SeenGuilt}
 
+-- the mark that a value of the code stands for
 abbrev pub mark_seen : Seen → Mark
 mark_seen seen.No = No
 mark_seen seen.Possible = Possible
@@ -22,6 +23,7 @@ mark_seen seen.Sure = Sure
 abbrev pub mark_by : Bool → Bool → Mark
 mark_by least greatest = if least then Sure else if greatest then Possible else No
 
+-- the guilt that a value of the code stands for
 abbrev pub guilt_seen : SeenGuilt → Guilt
 guilt_seen g = record { victim = g.victim; edge = g.edge; coupling = g.coupling; fast = mark_seen g.fast; slow = mark_seen g.slow }
 

@@ -1,4 +1,4 @@
-use Rattle.std.proofs.Common.{length, arith, ap, ◌≡◌, ◌<◌, ◌≤◌}
+use Rattle.std.proofs.Common.{length, arith, ap, ◌≡◌}
 use Rattle.report_text.proofs.Pieces.{net_turn, nets_end}
 use Rattle.report_text.proofs.guilty.push_guilty.Goals as goal
 
