@@ -1,0 +1,14 @@
+-- The lines rise, so those at or below x stand first.
+use Rattle.std.proofs.Common.{rules, int_le, arith, pos}
+use Rattle.std.proofs.lemmas.List.Sorted.{IsPartitionPoint-from_clause}
+use Rattle.table_box.proofs.Cells.{up_to_parted, le_from, gt_from}
+use Rattle.table_box.proofs.lines.lines_up_to.Goals as goal
+
+pub returns : goal.returns
+returns c =
+    let point = IsPartitionPoint-from_clause (λ y. int_le y c.args.x) _ _ c.partition_point.ensures.partitioned (up_to_parted c.args.index.now c.args.x c.requires) (λ a r q k. search rules) in
+    record {
+      within = c.partition_point.ensures.bound;
+      reached = λ j h. le_from _ _ (point.0 j (pos 0) (omega arith) h);
+      beyond = λ j h k. gt_from _ _ (point.1 j (pos 0) h k);
+    }

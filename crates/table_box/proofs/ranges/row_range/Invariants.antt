@@ -1,0 +1,6 @@
+use Rattle.table_box.specs.Spans.{span_in}
+use Rattle.table_box.proofs.Sweeps.{IsRowSoFar}
+use Rattle.table_box.proofs.ranges.row_range.Given as goal
+
+abbrev pub invariant-loop-line : goal.invariant-loop-line
+invariant-loop-line l = IsRowSoFar l.table (span_in l.slew) l.c0 l.c1 l.first l.line l.range.0 l.range.1

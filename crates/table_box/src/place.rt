@@ -1,0 +1,85 @@
+ghost use Rattle.std.specs.Prelude.{◌≡◌, ◌+◌, ◌<◌, ◌≤ℤ◌, pos, length};
+ghost use Rattle.std.specs.List.{slice_index_or};
+ghost use Rattle.xt_model.specs.Tables.{IsIndex, IsTableNumber};
+ghost use Rattle.xt_meaning.specs.Lookup.{clamped, span_at, span_of, whole_span};
+ghost use Rattle.table_box.specs.Spans.{span_in};
+
+use crate::lines::lines_up_to;
+
+/// Where a number lies on an axis: the numbers of the two grid lines beside it, how far it lies above the
+/// first and below the second, and how far they are apart, in the unit of the axis.
+#[derive(Debug, Drop)]
+pub(crate) struct Place {
+    pub first: usize,
+    pub second: usize,
+    pub above: i64,
+    pub below: i64,
+    pub width: i64,
+}
+
+/// The place of `x` between the grid lines `cell` and `cell + 1`.
+fn between(index: &[i64], x: i64, cell: usize) -> Place
+    requires index { IsIndex index.now }
+    requires cell { cell + 1 < length index.now }
+    requires low { slice_index_or index.now cell (pos 0) ≤ℤ x }
+    requires high { x ≤ℤ slice_index_or index.now (cell + 1) (pos 0) }
+    ensures { span_in result ≡ span_at index.now x cell }
+{
+    let first = index[cell];
+    let second = index[cell + 1];
+    Place {
+        first: cell,
+        second: cell + 1,
+        above: x - first,
+        below: second - x,
+        width: second - first,
+    }
+}
+
+/// The only place of an axis with one grid line.
+fn whole() -> Place
+    ensures { span_in result ≡ whole_span }
+{
+    Place {
+        first: 0,
+        second: 0,
+        above: 0,
+        below: 1,
+        width: 1,
+    }
+}
+
+/// `x`, or the end of the index that it is past.
+fn brought_within(index: &[i64], x: i64) -> i64
+    requires { IsIndex index.now }
+    ensures value { result ≡ clamped index.now x }
+    ensures number { IsTableNumber result }
+{
+    index[0].max(x.min(index[index.len() - 1]))
+}
+
+impl Place {
+    /// The place of `x`, once it is brought within the ends of the index: by binary search.
+    pub fn of(index: &[i64], x: i64) -> Place
+        requires { IsIndex index.now }
+        ensures { span_in result ≡ span_of index.now x }
+    {
+        if index.len() == 1 {
+            return whole();
+        }
+        let cell = lines_up_to(index, x).saturating_sub(1).min(index.len() - 2);
+        between(index, brought_within(index, x), cell)
+    }
+
+    /// The place of a grid line.
+    pub fn on_line(index: &[i64], line: usize) -> Place
+        requires index { IsIndex index.now }
+        requires line { line < length index.now }
+        ensures { span_in result ≡ span_of index.now (slice_index_or index.now line (pos 0)) }
+    {
+        if index.len() == 1 {
+            return whole();
+        }
+        between(index, index[line], line.min(index.len() - 2))
+    }
+}
