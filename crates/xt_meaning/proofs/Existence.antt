@@ -74,7 +74,7 @@ rounds d zero = next d []
 rounds d (suc k) = next d (rounds d k)
 
 -- where the inputs of a net have the same windows it has the same window
-same_inputs : (d : Parts) (W V : Assignment) (n : ℕ) (e : Edge) → AreWired d
+pub same_inputs : (d : Parts) (W V : Assignment) (n : ℕ) (e : Edge) → AreWired d
     → IfSome (slice_get d.nets n) (λ net. All (λ a. (f : Edge) → W a.from.0 f ≡ V a.from.0 f) net.arcs)
     → widest_operator d W n e ≡ widest_operator d V n e
 same_inputs d W V n e ws h =

@@ -19,3 +19,4 @@ pub mod Quantities
 pub mod Existence
 pub mod Runs
 pub mod Rounds
+pub mod Passes

@@ -1,5 +1,5 @@
 -- A plain round: each net in turn gets what the operator makes of it.
-use Rattle.std.proofs.Common.{◌≡◌, ◌≢◌, ℕ, zero, suc, ◌+◌, ◌<◌, ◌≤◌, inl, inr, refl, sym, ap, subst, ◌∙◌, List, [], ◌∷◌, length, set, ℤ, ◌≤ℤ◌, arith}
+use Rattle.std.proofs.Common.{◌≡◌, ◌≢◌, ℕ, zero, suc, ◌+◌, ◌<◌, ◌≤◌, inl, inr, ⊎_elim, ◌⊎◌, refl, sym, ap, subst, ◌∙◌, List, [], ◌∷◌, length, set, ℤ, ◌≤ℤ◌, arith}
 use Rattle.std.proofs.lemmas.Int.{ints}
 use Rattle.std.specs.Prelude.{Some}
 use Rattle.std.specs.List.{slice_get}
@@ -106,21 +106,22 @@ step_in_range d v n e s w =
     (windows_in_range d w.top w.envelope.windows n e)
 
 -- ---- a round
--- after the nets below i have had their turn
-pub record IsRound (way : Direction) (d : Parts) (start now : List Pair) (i : ℕ) : Type 0 where
+-- after those nets have had their turn of which P holds
+pub record IsRound (way : Direction) (d : Parts) (start now : List Pair) (P : ℕ → Type 0) : Type 0 where
   pub fitting : IsFittingStart way d now
   pub onward : NoFurther way (assigned start) (assigned now)
-  pub past : (n : ℕ) (e : Edge) → n < i → IsNoFurther way (step d start n e) (assigned now n e)
+  pub past : (n : ℕ) (e : Edge) → P n → IsNoFurther way (step d start n e) (assigned now n e)
 
-pub round_begins : (way : Direction) (d : Parts) (v : List Pair) → IsFittingStart way d v → IsRound way d v v 0
-round_begins way d v f = record { fitting = f; onward = further_refl way (assigned v); past = λ n e h. absurd (omega arith) }
+pub round_begins : (way : Direction) (d : Parts) (v : List Pair) (P : ℕ → Type 0) → ((n : ℕ) → P n → ⊥) → IsFittingStart way d v → IsRound way d v v P
+round_begins way d v P none f = record { fitting = f; onward = further_refl way (assigned v); past = λ n e h. absurd (none n h) }
 
-pub round_turn : (way : Direction) (d : Parts) (start now : List Pair) (i : ℕ) (p : Pair) → IsSound d → IsRound way d start now i → i < length now
-    → ((e : Edge) → quad_at p e ≡ step d now i e) → IsPairInRange p → IsRound way d start (set now i p) (i + 1)
-round_turn way d start now i p s r h value range =
+-- net number i has its turn
+pub round_turn : (way : Direction) (d : Parts) (start now : List Pair) (P Q : ℕ → Type 0) (i : ℕ) (p : Pair) → IsSound d → IsRound way d start now P → i < length now
+    → ((n : ℕ) → Q n → P n ⊎ (n ≡ i)) → ((e : Edge) → quad_at p e ≡ step d now i e) → IsPairInRange p → IsRound way d start (set now i p) Q
+round_turn way d start now P Q i p s r h split value range =
     let fits = r.fitting.fits in
     let move : IsMove way d now i p = record {
-      onward = λ e. let Q : Quad → Type 0 = λ q. IsNoFurther way (assigned now i e) q in subst Q (sym (value e)) (fits.each i e);
+      onward = λ e. let R : Quad → Type 0 = λ q. IsNoFurther way (assigned now i e) q in subst R (sym (value e)) (fits.each i e);
       no_further = λ e. no_further_same way (quad_at p e) (step d now i e) (value e);
     } in
     let t = move_is_step way d now i p fits h move in
@@ -128,24 +129,27 @@ round_turn way d start now i p s r h value range =
     record {
       fitting = step_fits way d now (set now i p) s r.fitting (set_is_windows d now i p r.fitting.windows range) t;
       onward = further_trans way (assigned start) (assigned now) (assigned (set now i p)) r.onward t.onward;
-      past = λ n e b. elim (cases_eq n i) [
-        | inl same ↦
-            let Q : Quad → Type 0 = λ q. IsNoFurther way (step d start i e) q in
-            let P : ℕ → Type 0 = λ j. IsNoFurther way (step d start j e) (assigned (set now i p) j e) in
-            subst P (sym same) (subst Q (sym (assigned-set_same now i p e h ∙ value e)) (mono.each i e))
-        | inr other ↦
-            let Q : Quad → Type 0 = λ q. IsNoFurther way (step d start n e) q in
-            subst Q (sym (assigned-set_other now i n p e other)) (r.past n e (below n i b other))
-      ];
-    } where
-      below : (n j : ℕ) → n < j + 1 → n ≢ j → n < j
-      below n j b other = omega arith
+      past = λ n e b.
+          let here : IsNoFurther way (step d start i e) (assigned (set now i p) i e) =
+          let R : Quad → Type 0 = λ q. IsNoFurther way (step d start i e) q in
+          subst R (sym (assigned-set_same now i p e h ∙ value e)) (mono.each i e) in
+          elim (cases_eq n i) [
+            | inl same ↦
+                let S : ℕ → Type 0 = λ j. IsNoFurther way (step d start j e) (assigned (set now i p) j e) in
+                subst S (sym same) here
+            | inr other ↦
+                let R : Quad → Type 0 = λ q. IsNoFurther way (step d start n e) q in
+                let before : P n = ⊎_elim (λ (k : P n). k) (λ (k : n ≡ i). absurd (other k)) (split n b) in
+                subst R (sym (assigned-set_other now i n p e other)) (r.past n e before)
+          ];
+    }
 
 -- a whole round carries the windows at least as far as the operator does
-pub round_past : (way : Direction) (d : Parts) (start now : List Pair) → IsRound way d start now (length d.nets) → NoFurther way (step d start) (assigned now)
-round_past way d start now r = record {
+pub round_past : (way : Direction) (d : Parts) (start now : List Pair) (P : ℕ → Type 0) → ((n : ℕ) → n < length d.nets → P n) → IsRound way d start now P
+    → NoFurther way (step d start) (assigned now)
+round_past way d start now P all r = record {
   each = λ n e. elim (cases_lt n (length d.nets)) [
-    | inl p ↦ r.past n e p
+    | inl p ↦ r.past n e (all n p)
     | inr p ↦
         let a = past_bottom d (overlap_answers (assigned start)) (assigned start) n e p in
         let b : assigned now n e ≡ bottom = ap (λ o. quad_of_pair o e) (slice_get_past now n (beyond (length now) (length d.nets) n r.fitting.windows.count p)) in

@@ -22,7 +22,7 @@ use Rattle.xt_meaning.specs.Operator.{contribution, contributes, with_arc, arcs_
 use Rattle.xt_meaning.specs.Fixpoint.{IsWindows, IsContained}
 use Rattle.xt_meaning.specs.Envelope.{IsEnvelope, IsAccepted}
 use Rattle.xt_meaning.specs.Barrier.{IsFittingStart}
-use Rattle.xt_meaning.specs.Laws.{quiet_windows}
+use Rattle.xt_meaning.specs.Laws.{quiet_pair, quiet_windows}
 use Rattle.xt_meaning.proofs.Order.{within_refl, within_trans, join_left}
 use Rattle.xt_meaning.proofs.Growth.{IfSome_from_All, wired}
 use Rattle.xt_meaning.proofs.Monotone.{contained_refl}
@@ -49,9 +49,6 @@ in_range_of_pair (Some p) Fall h = h.fall
 
 pub windows_in_range : (d : Parts) (v : List Pair) → IsWindows d v → (n : ℕ) (e : Edge) → IsInRange (assigned v n e)
 windows_in_range d v w n e = in_range_of_pair (slice_get v n) e (IfSome_from_All IsPairInRange v w.in_range n)
-
-abbrev pub quiet_pair : Pair
-quiet_pair = record { rise = bottom; fall = bottom }
 
 pub quiet_is_bottom : (count n : ℕ) (e : Edge) → assigned (replicate count quiet_pair) n e ≡ bottom
 quiet_is_bottom zero n e = refl

@@ -104,9 +104,13 @@ OperatorRespects = (read : ℕ → Bool) (way : Direction) (d : Parts) (f : ℕ 
     → IsSound d → HoldsOfReads (λ n. IsTrue (read n)) d (word / 8) → ((w : ℕ) → IsTrue (read (w / 8)) → RespectsAt way d w (f w))
     → RespectsAt way d word (words_of (operator d (quads_of f)) word)
 
+-- the windows of a net that never switches
+abbrev pub quiet_pair : Pair
+quiet_pair = record { rise = bottom; fall = bottom }
+
 -- the windows of a design in which nothing switches
 abbrev pub quiet_windows : Parts → List Pair
-quiet_windows d = replicate (length d.nets) (record { rise = bottom; fall = bottom })
+quiet_windows d = replicate (length d.nets) quiet_pair
 
 -- with an envelope that keeps the limits, a run that widens can start where nothing switches
 abbrev pub QuietFitsWidening : Type 0

@@ -19,6 +19,10 @@ pub record AreLevels (nets : List Net) (levels : List ℕ) : Type 0 where
   pub count : length levels ≡ length nets
   pub each : (i : ℕ) (n : Net) → slice_get nets i ≡ Some n → slice_index levels i ≡ level_from levels n.arcs
 
+-- the nets have levels, so their arcs make no loop
+abbrev pub AreLevelled : List Net → Type 0
+AreLevelled nets = (levels : List ℕ) × AreLevels nets levels
+
 -- the level of the net of this number
 abbrev pub IsLevel : List Net → ℕ → ℕ → Type 0
 IsLevel nets net level = (levels : List ℕ) × AreLevels nets levels × (slice_get levels net ≡ Some level)

@@ -38,7 +38,7 @@ impl Design {
     ghost use Rattle.std.specs.List.{slice_get};
     ghost use Rattle.xt_model.specs.Parts.{Parts};
     ghost use Rattle.xt_model.specs.Sound.{IsSound, IsSoundNet};
-    ghost use Rattle.xt_model.specs.Levels.{IsLoop, IsLevel, IsDepth, IsOrder, IsPairCount};
+    ghost use Rattle.xt_model.specs.Levels.{AreLevelled, IsLoop, IsLevel, IsDepth, IsOrder, IsPairCount};
     ghost use Rattle.xt_model.specs.Build.{IsFaultOf, IsRoundBound};
 
     /// The design of these parts, or the loop that their arcs make. Takes time in proportion to the arcs,
@@ -91,6 +91,7 @@ impl Design {
     pub fn nets(&self) -> &[Net]
         ensures value { result.now ≡ self.now.nets }
         ensures sound { IsSound self.now }
+        ensures levelled { AreLevelled self.now.nets }
     {
         self.nets.as_slice()
     }
@@ -129,7 +130,8 @@ impl Design {
 
     /// The numbers of the nets by level, and by number within a level.
     pub fn order(&self) -> &[u32]
-        ensures { IsOrder self.now.nets result.now }
+        ensures value { IsOrder self.now.nets result.now }
+        ensures sound { IsSound self.now }
     {
         self.order.as_slice()
     }

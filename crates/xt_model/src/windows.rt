@@ -22,7 +22,7 @@ impl Model for Windows {
 }
 
 impl Windows {
-    ghost use Rattle.std.specs.Prelude.{◌≡◌, ◌<◌, length, Some};
+    ghost use Rattle.std.specs.Prelude.{◌≡◌, ◌<◌, length, slice_set, Some};
     ghost use Rattle.std.specs.List.{All, slice_get};
     ghost use Rattle.xt_model.specs.Quads.{IsPairInRange};
 
@@ -40,6 +40,15 @@ impl Windows {
         ensures in_range { All IsPairInRange self.now }
     {
         self.pairs.as_slice()
+    }
+
+    /// Gives one net other windows.
+    pub fn set(&mut self, net: usize, pair: Pair)
+        requires net { net < length self.old }
+        requires in_range { IsPairInRange pair }
+        ensures { self.new ≡ slice_set self.old net pair }
+    {
+        self.pairs[net] = pair;
     }
 
     /// The windows of one net.
