@@ -1,0 +1,2 @@
+pub mod SmallFactors
+pub mod Sums
