@@ -1,0 +1,4 @@
+pub mod Contributions
+pub mod Rooms
+pub mod Nets
+pub mod Steady

@@ -1,0 +1,57 @@
+//! Whether windows are what the operator makes of them.
+
+ghost use Rattle.std.specs.Prelude.{◌≡◌, ◌↔◌, ℕ, ◌<◌, ◌≤◌, length, IsTrue};
+ghost use Rattle.xt_model.specs.declared.edge.Edge.{Edge};
+ghost use Rattle.xt_model.specs.Assign.{assigned};
+ghost use Rattle.xt_meaning.specs.Operator.{step};
+ghost use Rattle.xt_meaning.specs.Barrier.{IsWithinEnvelope};
+ghost use Rattle.net_eval.specs.Closing.{IsSteadyAt};
+
+use crate::operator::eval;
+use xt_model::{Design, NetId, Pair, Windows};
+
+/// Whether the two windows of two pairs are the same.
+fn same(a: &Pair, b: &Pair) -> bool
+    ensures { IsTrue result ↔ (a.now ≡ b.now) }
+{
+    a.rise.same(&b.rise) && a.fall.same(&b.fall)
+}
+
+/// Whether the operator gives the windows of a net back.
+fn is_steady(design: &Design, windows: &Windows, net: u32) -> bool
+    requires count { length windows.now ≡ length design.now.nets }
+    requires within { IsWithinEnvelope design.now windows.now }
+    requires net { net < length design.now.nets }
+    ensures { IsTrue result ↔ IsSteadyAt design.now windows.now net }
+{
+    let _nets = design.nets();
+    same(
+        &eval(design, NetId(net), windows),
+        &windows.pair(net as usize),
+    )
+}
+
+/// Whether the operator gives the windows back at each net from number `from` to before number `to`.
+pub fn closed_part(design: &Design, windows: &Windows, from: u32, to: u32) -> bool
+    requires count { length windows.now ≡ length design.now.nets }
+    requires within { IsWithinEnvelope design.now windows.now }
+    requires order { from ≤ to }
+    requires end { to ≤ length design.now.nets }
+    ensures { IsTrue result ↔ ((n : ℕ) → from ≤ n → n < to → IsSteadyAt design.now windows.now n) }
+{
+    for net in from..to {
+        if !is_steady(design, windows, net) {
+            return false;
+        }
+    }
+    true
+}
+
+/// Whether the operator gives the windows back at every net.
+pub fn closed(design: &Design, windows: &Windows) -> bool
+    requires count { length windows.now ≡ length design.now.nets }
+    requires within { IsWithinEnvelope design.now windows.now }
+    ensures { IsTrue result ↔ ((n : ℕ) (e : Edge) → step design.now windows.now n e ≡ assigned windows.now n e) }
+{
+    closed_part(design, windows, 0, design.nets().len() as u32)
+}

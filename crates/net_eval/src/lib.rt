@@ -1,0 +1,11 @@
+//! The window operator at one net: what the windows of all nets make of that net's window. Times and slews are
+//! in fs, loads in aF.
+#![tactic(auto)]
+
+mod arc;
+mod closing;
+mod operator;
+mod ranges;
+
+pub use closing::{closed, closed_part};
+pub use operator::{eval, eval_widest};
