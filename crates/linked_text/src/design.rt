@@ -8,12 +8,12 @@ ghost use Rattle.xt_model.specs.Sound.{IsSound};
 ghost use Rattle.xt_model.specs.Levels.{AreLevels};
 ghost use Rattle.xt_meaning.specs.Lines.{text_of};
 ghost use Rattle.xt_meaning.specs.Linked.{linked};
-ghost use Rattle.sound_parts.specs.FirstBounds.{IsWithinFirstBounds, IsPlain};
+ghost use Rattle.sound_parts.specs.FirstBounds.{IsWithinFirstBounds};
 ghost use Rattle.linked_text.specs.declared.fault.LinkedFault.TheVariants.{Refused};
 
 use crate::fault::{LinkedFault, ReadFault};
 use crate::parts::read_parts;
-use sound_parts::{is_plain, is_sound, is_within_first_bounds};
+use sound_parts::{is_sound, is_within_first_bounds};
 use std::alloc::Global;
 use xt_model::{BuildFault, Code, Design};
 
@@ -24,10 +24,10 @@ const REFUSED: LinkedFault = LinkedFault::Refused {
 };
 
 /// The design that the bytes tell, all of the bytes. Until more can be analysed, only a small design
-/// without arcs and couplings is taken, and every other text is refused at line 1.
+/// without checks is taken, and every other text is refused at line 1.
 pub fn read_linked(alloc: Global, bytes: &[u8]) -> Result<Design, LinkedFault>
-    ensures ok { IfOk result (λ d. IsSound d × (bytes.now ≡ text_of (linked d)) × IsWithinFirstBounds d × IsPlain d) }
-    ensures refused { (line : ℕ) (code : Code) → result ≡ Err (Refused line code) → (line ≡ 1) × (code ≡ X9) × ((d : Parts) (levels : List ℕ) → IsSound d → AreLevels d.nets levels → IsWithinFirstBounds d → IsPlain d → bytes.now ≡ text_of (linked d) → ⊥) }
+    ensures ok { IfOk result (λ d. IsSound d × (bytes.now ≡ text_of (linked d)) × IsWithinFirstBounds d) }
+    ensures refused { (line : ℕ) (code : Code) → result ≡ Err (Refused line code) → (line ≡ 1) × (code ≡ X9) × ((d : Parts) (levels : List ℕ) → IsSound d → AreLevels d.nets levels → IsWithinFirstBounds d → bytes.now ≡ text_of (linked d) → ⊥) }
 {
     let parts = match read_parts(alloc, bytes) {
         Ok(parts) => parts,
@@ -44,9 +44,6 @@ pub fn read_linked(alloc: Global, bytes: &[u8]) -> Result<Design, LinkedFault>
         return Err(REFUSED);
     }
     if !is_within_first_bounds(&parts.tables, &parts.nets, &parts.checks) {
-        return Err(REFUSED);
-    }
-    if !is_plain(&parts.nets) {
         return Err(REFUSED);
     }
     match Design::new(alloc, parts.period, parts.tables, parts.nets, parts.checks) {

@@ -70,9 +70,12 @@ fn refuses_wrong_texts(rt: HostRuntime) {
 fn reads_designs(rt: HostRuntime) -> Result<(), Fail> {
     let design = read_linked(rt.alloc(), ONE)?;
     assert_eq!(rt; design.nets().len(), 1);
+    let design = read_linked(rt.alloc(), CROSS)?;
+    assert_eq!(rt; design.nets().len(), 4);
+    // A table of two loads is not taken yet.
     assert!(rt;
         matches!(
-            read_linked(rt.alloc(), CROSS),
+            read_linked(rt.alloc(), LOAD_PAIR),
             Err(LinkedFault::Refused {
                 line: 1,
                 code: Code::X9

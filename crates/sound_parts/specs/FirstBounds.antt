@@ -57,7 +57,3 @@ pub record IsWithinFirstBounds (d : Parts) : Type 0 where
   pub check_count : length d.checks ≡ 0
   pub tables : All IsSmallTable d.tables
   pub nets : All IsSmallNet d.nets
-
--- no net has an arc or a coupling
-abbrev pub IsPlain : Parts → Type 0
-IsPlain d = All (λ n. (length n.arcs ≡ 0) × (length n.couplings ≡ 0)) d.nets

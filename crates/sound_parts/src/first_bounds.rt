@@ -2,7 +2,7 @@ ghost use Rattle.std.specs.Prelude.{◌≡◌, ◌↔◌, ◌≤◌, ◌^◌, �
 ghost use Rattle.std.specs.List.{sum_by};
 ghost use Rattle.xt_model.specs.declared.check.CheckPoint.{CheckPoint};
 ghost use Rattle.xt_model.specs.declared.table.Table.{Table};
-ghost use Rattle.sound_parts.specs.FirstBounds.{HasSmallWindow, IsPlain, IsSmallNet, IsSmallNumber, IsSmallPair, IsSmallSink, IsSmallTable, IsSmallWindow, IsWithinFirstBounds};
+ghost use Rattle.sound_parts.specs.FirstBounds.{HasSmallWindow, IsSmallNet, IsSmallNumber, IsSmallPair, IsSmallSink, IsSmallTable, IsSmallWindow, IsWithinFirstBounds};
 
 use crate::limits::couplings_in_all;
 use crate::range::is_between;
@@ -114,12 +114,4 @@ pub fn is_within_first_bounds(tables: &[Table], nets: &[Net], checks: &[CheckPoi
     has_few_parts(tables, nets, checks)
         && tables.iter().all(|table| is_small_table(table))
         && nets.iter().all(|net| is_small_net(net))
-}
-
-/// Whether every net is without arcs and couplings.
-pub fn is_plain(nets: &[Net]) -> bool
-    ensures { (period : Option ℤ) (tables : List Table) (checks : List CheckPoint) → IsTrue result ↔ IsPlain (record { period = period; tables = tables; nets = nets.now; checks = checks }) }
-{
-    nets.iter()
-        .all(|net| net.arcs.len() == 0 && net.couplings.len() == 0)
 }

@@ -1,5 +1,5 @@
 //! Tests whether the parts of a design are sound: nothing that they refer to is missing, no quantity is out
-//! of range, and they keep the limits on size. Also two narrower tests, on small and on plain designs.
+//! of range, and they keep the limits on size. Also a narrower test, on small designs.
 #![tactic(auto)]
 
 mod check;
@@ -15,5 +15,5 @@ mod sound;
 #[cfg(test)]
 mod tests;
 
-pub use first_bounds::{is_plain, is_within_first_bounds};
+pub use first_bounds::is_within_first_bounds;
 pub use sound::is_sound;

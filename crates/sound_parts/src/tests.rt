@@ -1,7 +1,7 @@
 ghost use Rattle.std.specs.Prelude.{◌≤◌};
 ghost use Rattle.xt_model.specs.Tables.{IsTableNumber};
 
-use crate::{is_plain, is_sound, is_within_first_bounds};
+use crate::{is_sound, is_within_first_bounds};
 use std::alloc::{AllocError, Global};
 use std::test::Fail;
 use xt_model::{
@@ -320,8 +320,6 @@ fn bounds_of_small_designs(rt: HostRuntime) -> Result<(), Fail> {
         let found = is_within_first_bounds(&tables, &nets, &[]);
         assert_eq!(rt; found, *within, "case {number}");
         assert!(rt; !is_within_first_bounds(&tables, &nets, &checks));
-        assert!(rt; !is_plain(&nets));
     }
-    assert!(rt; is_plain(&[]));
     Ok(())
 }
