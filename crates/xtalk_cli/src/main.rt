@@ -6,7 +6,7 @@ use std::process::ExitCode;
 use xt_io::{HostErr, HostFiles, HostOut};
 use xtalk_top::xtalk;
 
-/// The status where the words can't be had from the system, which the top call never gives.
+/// The status when the system does not give the program its words; `xtalk` never answers it.
 const NO_WORDS: u8 = 9;
 
 fn main(rt: HostRuntime) -> ExitCode {
@@ -20,7 +20,7 @@ fn main(rt: HostRuntime) -> ExitCode {
     ExitCode::from(status)
 }
 
-// The words after the program's name, or nothing where they can't be had.
+// The words after the program's name, if the system gives them.
 fn words_of(rt: &HostRuntime) -> Option<Vec<String>> {
     let mut args = env::args(rt).ok()?;
     args.next();

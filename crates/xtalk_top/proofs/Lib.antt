@@ -1,3 +1,5 @@
 pub mod Pieces
-pub mod Sources
 pub mod Causes
+pub mod Modest
+pub mod Turns
+pub mod Betweens

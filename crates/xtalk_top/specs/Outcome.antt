@@ -1,26 +1,28 @@
 -- What the bytes of a file mean for the program, and what a call does with them.
 use Rattle.std.specs.Prelude.{◌≡◌, ℕ, ◌≤◌, List, [], length, Option, None, IfSome, unwrap_or}
 use Rattle.std.specs.Option.{IsSomeAnd}
+use Rattle.xt_model.specs.declared.quad.Pair.{Pair}
+use Rattle.xt_model.specs.Assign.{assigned}
 use Rattle.xt_model.specs.Parts.{Parts}
 use Rattle.xt_model.specs.Sound.{IsSound}
 use Rattle.xt_model.specs.Levels.{AreLevels}
 use Rattle.xt_model.specs.declared.fault.Code.TheVariants.{X9}
 use Rattle.xt_meaning.specs.Lines.{text_of}
 use Rattle.xt_meaning.specs.Linked.{linked}
+use Rattle.xt_meaning.specs.Fixpoint.{IsContained, IsFixpoint}
 use Rattle.xt_meaning.specs.Report.{IsReport}
 use Rattle.xt_io.specs.Outside.{Rose, appended, IsPrefixAppended}
-use Rattle.sound_parts.specs.FirstBounds.{IsWithinFirstBounds, IsPlain}
+use Rattle.sound_parts.specs.FirstBounds.{IsWithinFirstBounds}
 use Rattle.xtalk_top.specs.declared.refusal.Refusal.{Refusal}
 use Rattle.xtalk_top.specs.declared.refusal.Refusal.TheVariants.{Words, Text, Read, Write, Memory}
 
 -- the bytes are the linked text of this design, which is sound and has levels, and which the program takes
--- as yet: a small one without arcs, couplings and checks, in a short text
+-- as yet: a small one without checks, in a short text
 pub record IsDesignText (bytes : List ℕ) (d : Parts) : Type 0 where
   pub levels : List ℕ
   pub sound : IsSound d
   pub levelled : AreLevels d.nets levels
   pub first : IsWithinFirstBounds d
-  pub plain : IsPlain d
   pub written : bytes ≡ text_of (linked d)
   pub short : length bytes ≤ 1048576
 
@@ -28,11 +30,14 @@ pub record IsDesignText (bytes : List ℕ) (d : Parts) : Type 0 where
 abbrev pub IsRefusedText : List ℕ → Type 0
 IsRefusedText bytes = (d : Parts) → IsDesignText bytes d → ⊥
 
--- the text is the report of the design whose linked text the bytes are: of its least and its greatest fixpoint
+-- the text is the report of the design whose linked text the bytes are: of its least and its greatest fixpoint,
+-- and every fixpoint contains the one and lies within the other
 pub record IsAnswer (bytes text : List ℕ) : Type 0 where
   pub design : Parts
   pub read : IsDesignText bytes design
   pub report : IsReport design text
+  pub above : (v : List Pair) → IsFixpoint design v → IsContained (assigned report.low) (assigned v)
+  pub below : (v : List Pair) → IsFixpoint design v → IsContained (assigned v) (assigned report.high)
 
 -- why there is no report for the bytes of a file
 abbrev pub IsBytesCause : List ℕ → Refusal → Type 0

@@ -1,5 +1,5 @@
-ghost use Rattle.std.specs.Prelude.{◌≡◌, ℕ, ◌≤◌, IfOk, IfErr, IfSome, List, length};
-ghost use Rattle.sound_parts.specs.FirstBounds.{IsPlain};
+ghost use Rattle.std.specs.Prelude.{◌≡◌, ℕ, ◌≤◌, IfOk, IfErr, IfSome, List};
+ghost use Rattle.sound_parts.specs.FirstBounds.{IsWithinFirstBounds};
 ghost use Rattle.xt_meaning.specs.Report.{IsReport};
 ghost use Rattle.xtalk_top.specs.Outcome.{IsAnswer, IsBytesCause, IsFileCause, IsWantOfMemory};
 
@@ -34,15 +34,14 @@ fn answer(alloc: Global, bytes: &[u8]) -> Result<Vec<u8>, Refusal>
 
 // The report of a design: of its least and its greatest windows.
 fn report(alloc: Global, design: &Design) -> Result<Vec<u8>, Refusal>
-    requires plain { IsPlain design.now }
-    requires no_checks { length design.now.checks ≡ 0 }
+    requires { IsWithinFirstBounds design.now }
     ensures ok { IfOk result (λ text. IsReport design.now text.items) }
     ensures err { IfErr result IsWantOfMemory }
 {
-    let Ok(windows) = solve(alloc, design) else {
+    let Ok(solved) = solve(alloc, design) else {
         return Err(Refusal::Memory);
     };
-    match write_report(alloc, design, &windows, &windows) {
+    match write_report(alloc, design, &solved.low, &solved.high) {
         Ok(text) => Ok(text),
         Err(NoMemory) => Err(Refusal::Memory),
     }

@@ -2,7 +2,9 @@
 #![tactic(auto)]
 
 mod answer;
+mod envelope;
 mod refusal;
+mod rounds;
 mod solving;
 mod telling;
 mod top;

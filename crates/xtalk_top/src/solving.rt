@@ -1,24 +1,28 @@
 ghost use Rattle.std.specs.Prelude.{◌≡◌, IfOk};
-ghost use Rattle.sound_parts.specs.FirstBounds.{IsPlain};
+ghost use Rattle.sound_parts.specs.FirstBounds.{IsWithinFirstBounds};
 ghost use Rattle.xt_meaning.specs.Fixpoint.{IsLeastFixpoint, IsGreatestFixpoint};
-ghost use Rattle.xtalk_top.specs.Solving.{given_windows};
 
+use crate::envelope::{envelope, quiet};
+use crate::rounds::settle;
 use std::alloc::{AllocError, Global};
-use xt_model::{Design, Net, Pair, Windows};
+use xt_model::{Design, Direction, Windows};
 
-/// The least and the greatest windows of a design of sources, which are one: what is given.
-pub fn solve(alloc: Global, design: &Design) -> Result<Windows, AllocError>
-    requires { IsPlain design.now }
-    ensures least { IfOk result (IsLeastFixpoint design.now) }
-    ensures greatest { IfOk result (IsGreatestFixpoint design.now) }
-{
-    let pairs = given_pairs(alloc, design.nets())?;
-    Ok(Windows::new(pairs))
+/// The least and the greatest windows of a design.
+#[derive(Debug, Drop)]
+pub struct Solved {
+    pub low: Windows,
+    pub high: Windows,
 }
 
-// What each net is given.
-fn given_pairs(alloc: Global, nets: &[Net]) -> Result<Vec<Pair>, AllocError>
-    ensures { IfOk result (λ pairs. pairs.items ≡ given_windows nets.now) }
+/// Runs twice: wider from windows in which nothing switches, and narrower from the envelope.
+pub fn solve(alloc: Global, design: &Design) -> Result<Solved, AllocError>
+    requires { IsWithinFirstBounds design.now }
+    ensures least { IfOk result (λ solved. IsLeastFixpoint design.now solved.low) }
+    ensures greatest { IfOk result (λ solved. IsGreatestFixpoint design.now solved.high) }
 {
-    nets.iter().map(|net| net.given).collect(alloc)
+    let mut low = quiet(alloc, design)?;
+    settle(Direction::Widen, design, &mut low);
+    let mut high = envelope(alloc, design)?;
+    settle(Direction::Narrow, design, &mut high);
+    Ok(Solved { low, high })
 }

@@ -20,6 +20,13 @@ const EMPTY_REPORT: &[u8] =
 const CHECKED: &[u8] =
     b"xtalk-design 1\ncounts 0 1 1\nperiod 1\nnet a i 0 0 0 0\nrise 1000 1000 0 0\nfall quiet\nend\n";
 
+const DIFFER: &[u8] =
+    b"xtalk-design 1\ncounts 5 9 0\nperiod none\ntable 1 1\nslews 0\nloads 0\nrow 500\ntable 1 1\nslews 0\nloads 0\nrow 600\ntable 1 1\nslews 0\nloads 0\nrow 300\ntable 1 1\nslews 0\nloads 0\nrow 100\ntable 1 1\nslews 0\nloads 0\nrow 700\nnet y w 0 1 0 6\nnet p i 0 1 1 0\nnet q i 0 1 1 0\nnet r i 0 2 1 0\nnet u i 0 1 0 0\nnet a w 0 2 1 2\nnet b w 0 2 1 2\nnet c w 0 1 1 2\nnet d w 0 1 1 4\ncouple 4 100\narc 7 0 rise fall 2 3\narc 7 0 fall rise 2 3\narc 8 0 rise rise 3 1\narc 8 0 rise fall 3 1\narc 8 0 fall rise 3 1\narc 8 0 fall fall 3 1\nrise 1000 1000 600 600\nfall 4000 4200 400 400\ncouple 6 1000\nsink a/A 0 200000000\nrise 3000 3000 400 500\nfall 1000 1000 600 600\ncouple 5 1000\nsink b/A 0 200000000\nrise quiet\nfall 1150 1180 101 101\ncouple 5 400\ncouple 6 400\nsink c/A 50000000 60000000 60000000\nrise quiet\nfall quiet\ncouple 0 100\ncouple 2 1000\ncouple 3 400\nsink d/A 30000000 40000000 90000000\narc 1 0 rise fall 0 1\narc 1 0 fall rise 0 1\ncouple 1 1000\ncouple 3 400\nsink d/B 20000000 100000000 50000000\narc 2 0 rise fall 0 1\narc 2 0 fall rise 0 1\ncouple 8 800\nsink y/A 1999999 35000000\narc 3 0 fall rise 3 4\narc 3 0 fall fall 3 4\ncouple 7 800\nsink y/B 0 45000000\narc 5 0 rise rise 2 3\narc 5 0 fall fall 2 3\narc 6 0 rise rise 2 3\narc 6 0 fall fall 2 3\nend\n";
+
+// As a plain program finds it, written from the definitions alone.
+const DIFFER_REPORT: &[u8] =
+    b"xtalk 1\nnets 9 couplings 12 pairs 6 levels 4 bound 100\nperiod none\nnet y rise least 1.756 5.505 0.100 0.600 greatest 1.661 5.550 0.100 0.600\nnet y fall least 1.756 5.505 0.100 0.600 greatest 1.661 5.550 0.100 0.600\nnet p rise least 1.000 1.000 0.600 0.600 greatest 1.000 1.000 0.600 0.600\nnet p fall least 4.000 4.200 0.400 0.400 greatest 4.000 4.200 0.400 0.400\nnet q rise least 3.000 3.000 0.400 0.500 greatest 3.000 3.000 0.400 0.500\nnet q fall least 1.000 1.000 0.600 0.600 greatest 1.000 1.000 0.600 0.600\nnet r rise quiet\nnet r fall least 1.150 1.180 0.101 0.101 greatest 1.150 1.180 0.101 0.101\nnet u rise quiet\nnet u fall quiet\nnet a rise least 4.500 4.900 0.600 0.600 greatest 4.500 4.900 0.600 0.600\nnet a fall least 1.700 1.700 0.600 0.600 greatest 1.500 1.700 0.600 0.600\nnet b rise least 1.700 1.700 0.600 0.600 greatest 1.500 1.700 0.600 0.600\nnet b fall least 3.700 3.700 0.600 0.600 greatest 3.700 3.700 0.600 0.600\nnet c rise least 1.420 1.450 0.700 0.700 greatest 1.360 1.510 0.700 0.700\nnet c fall least 1.420 1.450 0.700 0.700 greatest 1.360 1.510 0.700 0.700\nnet d rise least 2.170 5.360 0.100 0.100 greatest 1.870 5.360 0.100 0.100\nnet d fall least 2.160 4.170 0.100 0.100 greatest 1.830 4.170 0.100 0.100\nunconstrained u\nguilty p rise b 1.000 fast possible slow no\nguilty p fall b 1.000 fast sure slow no\nguilty q fall a 1.000 fast possible slow no\nguilty r fall a 0.400 fast possible slow no\nguilty r fall b 0.400 fast no slow possible\nguilty a fall q 1.000 fast possible slow no\nguilty a fall r 0.400 fast possible slow no\nguilty b rise p 1.000 fast possible slow no\nguilty b rise r 0.400 fast no slow possible\nguilty b fall p 1.000 fast sure slow no\nguilty c rise d 0.800 fast possible slow possible\nguilty c fall d 0.800 fast possible slow possible\nguilty d rise c 0.800 fast possible slow possible\nguilty d fall c 0.800 fast possible slow possible\nend\n";
+
 /// The status of a call, and what stands on the output and on the error stream after it.
 #[derive(Drop)]
 struct Ended {
@@ -94,6 +101,20 @@ fn reports_designs_of_sources(rt: HostRuntime) -> Result<(), Fail> {
     )?;
     assert_eq!(rt; empty.status, 0);
     assert_eq!(rt; empty.out.as_slice(), EMPTY_REPORT);
+    Ok(())
+}
+
+#[test]
+fn reports_a_design_with_several_fixpoints(rt: HostRuntime) -> Result<(), Fail> {
+    let differ = run(
+        &rt,
+        rt.alloc(),
+        &["solve", "one.xt"],
+        DIFFER,
+        calm(rt.alloc()),
+    )?;
+    assert_eq!(rt; differ.status, 0);
+    assert_eq!(rt; differ.out.as_slice(), DIFFER_REPORT);
     Ok(())
 }
 
