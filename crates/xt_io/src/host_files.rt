@@ -6,7 +6,7 @@ use crate::open_file::OpenFile;
 use std::marker::Model;
 
 /// The files of the system. It tells no content, and has one count of faults for every name. It is a fault to open a
-/// name that the system cannot have or for which there is no memory, and to read a folder.
+/// name that the system cannot open, and to read a folder. No call takes memory.
 #[derive(Drop)]
 pub struct HostFiles {
     rt: HostRuntime,
@@ -15,13 +15,13 @@ pub struct HostFiles {
 }
 
 impl Model for HostFiles {
-    ghost use Rattle.std.specs.Prelude.{option_map, string_bytes};
+    ghost use Rattle.std.specs.Prelude.{option_map};
     ghost use Rattle.xt_io.specs.Host.{HostState};
 
     ghost Value = { HostState };
 
     ghost view = { λ s. record {
-      place = option_map (λ f. record { name = string_bytes f.name; read = f.read }) s.file;
+      place = option_map (λ f. record { name = f.name.bytes; read = f.read }) s.file;
       faults = s.faults;
     } };
 }

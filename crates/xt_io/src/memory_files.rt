@@ -5,8 +5,9 @@ use crate::calls::Calls;
 use crate::failed::Failed;
 use crate::fault_counts::FaultCounts;
 use crate::files::Files;
-use std::alloc::{AllocError, Global};
+use std::alloc::Global;
 use std::marker::Model;
+use xt_model::NoMemory;
 
 /// Files in memory, whose calls fail where they are told to. Of two files of one name the first counts.
 #[derive(Drop)]
@@ -52,7 +53,7 @@ impl MemoryFiles {
         alloc: Global,
         files: Vec<(String, Vec<u8>)>,
         fail: Vec<u64>,
-    ) -> Result<MemoryFiles, AllocError>
+    ) -> Result<MemoryFiles, NoMemory>
         ensures { IfOk result (λ s. s ≡ record {
           files = files.items;
           fail = fail.items;
@@ -62,7 +63,9 @@ impl MemoryFiles {
           place = None;
         }) }
     {
-        let faults = FaultCounts::new(alloc, files.len())?;
+        let Ok(faults) = FaultCounts::new(alloc, files.len()) else {
+            return Err(NoMemory);
+        };
         Ok(MemoryFiles {
             files,
             calls: Calls { fail, next: 0 },

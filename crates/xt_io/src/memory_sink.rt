@@ -3,8 +3,9 @@ ghost use Rattle.std.specs.Prelude.{◌≡◌, ◌≤◌, [], IfOk};
 use crate::calls::Calls;
 use crate::failed::Failed;
 use crate::sink::Sink;
-use std::alloc::{AllocError, Global};
+use std::alloc::Global;
 use std::marker::Model;
+use xt_model::NoMemory;
 
 /// A sink in memory, whose writes fail where they are told to. A write takes no memory.
 #[derive(Drop)]
@@ -42,7 +43,7 @@ impl MemorySink {
         fail: Vec<u64>,
         most: usize,
         room: usize,
-    ) -> Result<MemorySink, AllocError>
+    ) -> Result<MemorySink, NoMemory>
         requires { 1 ≤ most }
         ensures { IfOk result (λ s. s ≡ record {
           written = [];
@@ -53,8 +54,11 @@ impl MemorySink {
           room = room;
         }) }
     {
+        let Ok(written) = Vec::with_capacity(alloc, room) else {
+            return Err(NoMemory);
+        };
         Ok(MemorySink {
-            written: Vec::with_capacity(alloc, room)?,
+            written,
             calls: Calls { fail, next: 0 },
             faults: 0,
             most,

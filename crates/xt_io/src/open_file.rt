@@ -1,32 +1,36 @@
-ghost use Rattle.std.specs.Prelude.{◌≡◌, ◌+◌, ◌≤◌, length, IfOk, OnErr, IfSome, string_bytes};
+ghost use Rattle.std.specs.Prelude.{◌≡◌, ◌+◌, ◌≤◌, length, IfOk, OnErr, IfSome};
 
 use crate::failed::Failed;
+use arrayvec::ArrayString;
 use std::fs::File;
 use std::io::Read;
+
+// The most bytes of a name that Linux opens: its `PATH_MAX` counts the zero byte behind the name.
+const MOST_NAME: usize = 4095;
 
 /// An open file of the system, its name, and how many of its bytes were read.
 #[derive(Drop)]
 pub struct OpenFile {
     file: File,
-    pub name: String,
+    pub name: ArrayString<MOST_NAME>,
     pub read: u64,
 }
 
 impl OpenFile {
-    /// Opens a file at its first byte. `None` where the system cannot open it or there is no memory for its name.
+    /// Opens a file at its first byte. `None` where the system cannot open it. It takes no memory.
     pub fn open(rt: &HostRuntime, name: &str) -> Option<OpenFile>
-        ensures named { IfSome result (λ file. string_bytes file.name ≡ name.now) }
+        ensures named { IfSome result (λ file. file.name.bytes ≡ name.now) }
         ensures first { IfSome result (λ file. file.read ≡ 0) }
     {
-        let Ok(file) = File::open(rt, name) else {
+        let Ok(held) = ArrayString::from(name) else {
             return None;
         };
-        let Ok(name) = String::from_str(rt.alloc(), name) else {
+        let Ok(file) = File::open(rt, name) else {
             return None;
         };
         Some(OpenFile {
             file,
-            name,
+            name: held,
             read: 0,
         })
     }

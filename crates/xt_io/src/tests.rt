@@ -21,11 +21,12 @@ fn sample(alloc: Global, length: usize) -> Result<Vec<u8>, AllocError> {
 }
 
 // Files whose calls of these numbers fail: one of so many bytes, and an empty one of the same name.
-fn two_files(alloc: Global, length: usize, fail: &[u64]) -> Result<MemoryFiles, AllocError> {
+fn two_files(alloc: Global, length: usize, fail: &[u64]) -> Result<MemoryFiles, Fail> {
     let mut files = Vec::new(alloc);
     files.push((String::from_str(alloc, "a")?, sample(alloc, length)?))?;
     files.push((String::from_str(alloc, "a")?, Vec::new(alloc)))?;
-    MemoryFiles::new(alloc, files, Vec::from_slice(alloc, fail)?)
+    let files = MemoryFiles::new(alloc, files, Vec::from_slice(alloc, fail)?)?;
+    Ok(files)
 }
 
 #[test]
@@ -87,7 +88,17 @@ fn reads_real_files(rt: HostRuntime) -> Result<(), Fail> {
     let mut files = HostFiles::new(rt);
     let bytes = read_whole(alloc, &mut files, "/proc/self/cmdline")?;
     assert!(rt; !bytes.is_empty());
-    for name in ["/proc/self", "/proc/self/none", "/proc/self/\0", ""] {
+    let mut long = String::new(alloc);
+    for _ in 0..4096 {
+        long.push('x')?;
+    }
+    for name in [
+        "/proc/self",
+        "/proc/self/none",
+        "/proc/self/\0",
+        "",
+        long.as_str(),
+    ] {
         assert_eq!(rt;
             read_whole(alloc, &mut files, name).err(),
             Some(ReadFail::Fault),
