@@ -1,6 +1,6 @@
 //! From a linked text to a design.
 
-ghost use Rattle.std.specs.Prelude.{◌≡◌, ℕ, List, Err, IfOk};
+ghost use Rattle.std.specs.Prelude.{◌≡◌, ℕ, List, [], Err, IfOk};
 ghost use Rattle.xt_model.specs.declared.fault.Code.{Code};
 ghost use Rattle.xt_model.specs.declared.fault.Code.TheVariants.{X9};
 ghost use Rattle.xt_model.specs.Parts.{Parts};
@@ -8,12 +8,11 @@ ghost use Rattle.xt_model.specs.Sound.{IsSound};
 ghost use Rattle.xt_model.specs.Levels.{AreLevels};
 ghost use Rattle.xt_meaning.specs.Lines.{text_of};
 ghost use Rattle.xt_meaning.specs.Linked.{linked};
-ghost use Rattle.sound_parts.specs.FirstBounds.{IsWithinFirstBounds};
 ghost use Rattle.linked_text.specs.declared.fault.LinkedFault.TheVariants.{Refused};
 
 use crate::fault::{LinkedFault, ReadFault};
 use crate::parts::read_parts;
-use sound_parts::{is_sound, is_within_first_bounds};
+use sound_parts::is_sound;
 use std::alloc::Global;
 use xt_model::{BuildFault, Code, Design};
 
@@ -23,11 +22,11 @@ const REFUSED: LinkedFault = LinkedFault::Refused {
     code: Code::X9,
 };
 
-/// The design that the bytes tell, all of the bytes. Until more can be analysed, only a small design
-/// without checks is taken, and every other text is refused at line 1.
+/// The design that the bytes tell, all of the bytes. Until checks can be analysed, only a design without
+/// checks is taken, and every other text is refused at line 1.
 pub fn read_linked(alloc: Global, bytes: &[u8]) -> Result<Design, LinkedFault>
-    ensures ok { IfOk result (λ d. IsSound d × (bytes.now ≡ text_of (linked d)) × IsWithinFirstBounds d) }
-    ensures refused { (line : ℕ) (code : Code) → result ≡ Err (Refused line code) → (line ≡ 1) × (code ≡ X9) × ((d : Parts) (levels : List ℕ) → IsSound d → AreLevels d.nets levels → IsWithinFirstBounds d → bytes.now ≡ text_of (linked d) → ⊥) }
+    ensures ok { IfOk result (λ d. IsSound d × (bytes.now ≡ text_of (linked d)) × (d.checks ≡ [])) }
+    ensures refused { (line : ℕ) (code : Code) → result ≡ Err (Refused line code) → (line ≡ 1) × (code ≡ X9) × ((d : Parts) (levels : List ℕ) → IsSound d → AreLevels d.nets levels → d.checks ≡ [] → bytes.now ≡ text_of (linked d) → ⊥) }
 {
     let parts = match read_parts(alloc, bytes) {
         Ok(parts) => parts,
@@ -41,9 +40,6 @@ pub fn read_linked(alloc: Global, bytes: &[u8]) -> Result<Design, LinkedFault>
         &parts.nets,
         &parts.checks,
     )? {
-        return Err(REFUSED);
-    }
-    if !is_within_first_bounds(&parts.tables, &parts.nets, &parts.checks) {
         return Err(REFUSED);
     }
     match Design::new(alloc, parts.period, parts.tables, parts.nets, parts.checks) {

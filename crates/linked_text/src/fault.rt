@@ -38,7 +38,7 @@ impl<T: Drop> From<AllocFailed<T>> for ReadFault {
 #[derive(Clone, Copy, Debug, PartialEq, Eq, Drop, Error)]
 pub enum LinkedFault {
     /// The text is refused at this line, counted from 1.
-    #[error("line {line}: no linked text of a design that can be analysed yet")]
+    #[error("line {line}: no linked text of a design without checks")]
     Refused { line: u32, code: Code },
     #[error("out of memory")]
     NoMemory,

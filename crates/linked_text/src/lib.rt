@@ -12,7 +12,7 @@ mod table;
 
 pub use design::read_linked;
 pub use fault::{LinkedFault, ReadFault};
-pub use parts::{ReadParts, read_parts, sound_parts_fit};
+pub use parts::{ReadParts, read_parts, sound_parts_fit, sound_texts_differ};
 
 #[cfg(test)]
 mod tests;

@@ -78,3 +78,8 @@ pub fn read_parts(alloc: Global, bytes: &[u8]) -> Result<ReadParts, ReadFault>
 pub fn sound_parts_fit()
     ensures { (d : Parts) → IsSound d → d.checks ≡ [] → Fits d }
 {}
+
+/// Different sound designs without checks have different texts.
+pub fn sound_texts_differ()
+    ensures { (d e : Parts) → IsSound d → d.checks ≡ [] → IsSound e → e.checks ≡ [] → text_of (linked d) ≡ text_of (linked e) → d ≡ e }
+{}

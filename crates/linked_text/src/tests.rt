@@ -1,4 +1,5 @@
 use super::*;
+use std::alloc::{AllocError, Global};
 use std::test::*;
 use xt_model::{Code, Edge, Quad};
 
@@ -12,6 +13,14 @@ const CROSS: &[u8] =
 
 const LOAD_PAIR: &[u8] =
     b"xtalk-design 1\ncounts 2 4 0\nperiod none\ntable 1 2\nslews 0\nloads 0 10000\nrow 800 2800\ntable 1 1\nslews 0\nloads 0\nrow 0\nnet p i 0 0 1 0\nnet q i 0 0 1 0\nnet a w 0 1 0 1\nnet b w 0 1 0 1\nrise 0 0 0 0\nfall quiet\nsink a/A 0\nrise quiet\nfall 100 100 0 0\nsink b/A 0\ncouple 3 1000\narc 0 0 rise rise 0 1\ncouple 2 1000\narc 1 0 fall fall 0 1\nend\n";
+
+/// A design that has a check.
+const CHECKED: &[u8] =
+    b"xtalk-design 1\ncounts 0 1 1\nperiod 1\nnet a i 0 0 1 0\nrise 1000 1000 0 0\nfall quiet\nsink a 0\nport setup a 0 0 0 -\nend\n";
+
+/// A design whose quantities are as large as they may be.
+const LARGEST: &[u8] =
+    b"xtalk-design 1\ncounts 1 1 0\nperiod 1099511627776\ntable 1 1\nslews 0\nloads 0\nrow 1099511627776\nnet a i 70368744177664 0 1 0\nrise -70368744177664 70368744177664 0 1099511627776\nfall quiet\nsink a 5070602400912917605986812821504\nend\n";
 
 /// Texts that differ from a linked text in one place each.
 const WRONG: [&[u8]; 10] = [
@@ -66,21 +75,48 @@ fn refuses_wrong_texts(rt: HostRuntime) {
     }
 }
 
+/// A design of 1,025 sources that never switch.
+fn many_sources(alloc: Global) -> Result<Vec<u8>, AllocError> {
+    let mut text = Vec::new(alloc);
+    text.extend_from_slice(b"xtalk-design 1\ncounts 0 1025 0\nperiod none\n")?;
+    for number in 0..1025 {
+        let line = format!(in alloc; "net n{number} i 0 0 0 0\n")?;
+        text.extend_from_slice(line.as_bytes())?;
+    }
+    for _ in 0..1025 {
+        text.extend_from_slice(b"rise quiet\nfall quiet\n")?;
+    }
+    text.extend_from_slice(b"end\n")?;
+    Ok(text)
+}
+
 #[test]
 fn reads_designs(rt: HostRuntime) -> Result<(), Fail> {
-    let design = read_linked(rt.alloc(), ONE)?;
-    assert_eq!(rt; design.nets().len(), 1);
-    let design = read_linked(rt.alloc(), CROSS)?;
-    assert_eq!(rt; design.nets().len(), 4);
-    // A table of two loads is not taken yet.
+    let many = many_sources(rt.alloc())?;
+    let cases = [
+        (EMPTY, 0),
+        (ONE, 1),
+        (CROSS, 4),
+        (LOAD_PAIR, 4),
+        (LARGEST, 1),
+        (many.as_slice(), 1025),
+    ];
+    for (text, nets) in &cases {
+        let design = read_linked(rt.alloc(), text)?;
+        assert_eq!(rt; design.nets().len(), *nets);
+    }
+    Ok(())
+}
+
+#[test]
+fn refuses_checks(rt: HostRuntime) {
     assert!(rt;
         matches!(
-            read_linked(rt.alloc(), LOAD_PAIR),
+            read_linked(rt.alloc(), CHECKED),
             Err(LinkedFault::Refused {
                 line: 1,
                 code: Code::X9
             })
         )
     );
-    Ok(())
 }

@@ -1,10 +1,9 @@
 //! Tests whether the parts of a design are sound: nothing that they refer to is missing, no quantity is out
-//! of range, and they keep the limits on size. Also a narrower test, on small designs.
+//! of range, and they keep the limits on size.
 #![tactic(auto)]
 
 mod check;
 mod coupling;
-mod first_bounds;
 mod given;
 mod limits;
 mod names;
@@ -15,5 +14,4 @@ mod sound;
 #[cfg(test)]
 mod tests;
 
-pub use first_bounds::is_within_first_bounds;
 pub use sound::is_sound;

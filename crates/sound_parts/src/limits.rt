@@ -20,7 +20,7 @@ const MOST_ARCS: usize = 4_194_304;
 const MOST_READS: usize = 134_217_728;
 
 /// How many couplings the nets have in all, at most the greatest `usize`.
-pub(crate) fn couplings_in_all(nets: &[Net]) -> usize
+fn couplings_in_all(nets: &[Net]) -> usize
     ensures { result ≡ min (sum_by (λ n. length n.couplings) nets.now) (2 ^ 64 - 1) }
 {
     let mut total: usize = 0;

@@ -1,7 +1,7 @@
 ghost use Rattle.std.specs.Prelude.{◌≤◌};
 ghost use Rattle.xt_model.specs.Tables.{IsTableNumber};
 
-use crate::{is_sound, is_within_first_bounds};
+use crate::is_sound;
 use std::alloc::{AllocError, Global};
 use std::test::Fail;
 use xt_model::{
@@ -263,63 +263,6 @@ fn each_fault_is_found(rt: HostRuntime) -> Result<(), Fail> {
         let checks = checks(alloc, sample)?;
         let found = is_sound(alloc, sample.period, &tables, &nets, &checks)?;
         assert_eq!(rt; found, *sound, "case {number}");
-    }
-    Ok(())
-}
-
-#[test]
-fn bounds_of_small_designs(rt: HostRuntime) -> Result<(), Fail> {
-    let small = Sample {
-        given: Quad {
-            tlo: -(1 << 30),
-            thi: 1 << 30,
-            slo: 0,
-            shi: 1 << 30,
-        },
-        cap: 1 << 34,
-        base: 1 << 40,
-        ..SOUND
-    };
-    let alloc = rt.alloc();
-    let mut tables = Vec::new(alloc);
-    tables.push(table(alloc, 1 << 30)?)?;
-    let checks = checks(alloc, &small)?;
-    let cases = [
-        (small, true),
-        (
-            Sample {
-                given: LIVE,
-                ..small
-            },
-            false,
-        ),
-        (
-            Sample {
-                given: Quad::BOTTOM,
-                ..small
-            },
-            true,
-        ),
-        (
-            Sample {
-                cap: (1 << 34) + 1,
-                ..small
-            },
-            false,
-        ),
-        (
-            Sample {
-                base: (1 << 40) + 1,
-                ..small
-            },
-            false,
-        ),
-    ];
-    for (number, (sample, within)) in cases.iter().enumerate() {
-        let nets = nets(alloc, sample)?;
-        let found = is_within_first_bounds(&tables, &nets, &[]);
-        assert_eq!(rt; found, *within, "case {number}");
-        assert!(rt; !is_within_first_bounds(&tables, &nets, &checks));
     }
     Ok(())
 }

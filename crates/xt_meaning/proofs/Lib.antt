@@ -13,9 +13,6 @@ pub mod Room
 pub mod Limits
 pub mod Measure
 pub mod Depth
-pub mod Modest
-pub mod Acceptance
-pub mod Quantities
 pub mod Existence
 pub mod Runs
 pub mod Rounds

@@ -1,23 +1,23 @@
 -- Live windows within an accepted envelope have room.
-use Rattle.std.proofs.Common.{◌≡◌, ℕ, ◌≤◌, inl, inr, refl, sym, subst, ap, ◌∙◌, List, length, pos, ◌≤ℤ◌, arith}
+use Rattle.std.proofs.Common.{◌≡◌, ℕ, ◌≤◌, inl, inr, sym, subst, ◌∙◌, List, length, pos, ◌≤ℤ◌, arith}
 use Rattle.std.specs.Prelude.{Option, Some, None, IfSome}
-use Rattle.std.specs.List.{slice_get}
+use Rattle.std.specs.List.{AllPass, slice_get}
 use Rattle.std.proofs.lemmas.Int.{ints}
-use Rattle.std.proofs.lemmas.Option.{slice_get_cases, slice_get_past, none-some}
+use Rattle.std.proofs.lemmas.Option.{slice_get_cases, none-some}
 use Rattle.xt_model.specs.declared.direction.Direction.TheVariants.{Widen}
 use Rattle.xt_model.specs.declared.edge.Edge.{Edge}
 use Rattle.xt_model.specs.declared.quad.Quad.{Quad}
 use Rattle.xt_model.specs.declared.quad.Pair.{Pair}
 use Rattle.xt_model.specs.declared.net.Net.{Net}
-use Rattle.xt_model.specs.Quads.{bottom, IsLive, IsWithin}
+use Rattle.xt_model.specs.Quads.{IsLive, IsWithin}
 use Rattle.xt_model.specs.Parts.{Parts}
 use Rattle.xt_model.specs.Sound.{IsSound, IsSoundNet, IsConstraint}
-use Rattle.xt_model.specs.Assign.{Assignment, quad_of_pair, assigned}
+use Rattle.xt_model.specs.Assign.{Assignment, assigned}
 use Rattle.xt_meaning.specs.Fixpoint.{IsContained}
-use Rattle.xt_meaning.specs.Envelope.{IsWidest, IsEnvelope, IsAccepted, greatest_wire}
+use Rattle.xt_meaning.specs.Envelope.{IsWidest, IsEnvelope, IsAccepted, keeps, greatest_wire, quad_tests}
 use Rattle.xt_meaning.specs.Barrier.{Respects}
 use Rattle.xt_meaning.specs.Laws.{HasRoom}
-use Rattle.xt_meaning.proofs.Order.{IsOrdered, ordered_from_live, live_mono}
+use Rattle.xt_meaning.proofs.Order.{ordered_from_live, live_mono}
 use Rattle.xt_meaning.proofs.Growth.{wired}
 use Rattle.xt_meaning.proofs.Steps.{respects_together, contained_widen}
 use Rattle.xt_meaning.proofs.Widest.{envelope_barrier}
@@ -57,34 +57,18 @@ room_under d own net q r s w c a = record {
       record { least = omega (arith, ints, c.shi.least, z); most = omega (arith, ints, w.shi, m) };
 }
 
+-- a live window has room under a window of its net whose tests pass
+pub room_tested : (d : Parts) (n : ℕ) (net : Net) (q r : Quad) → IsSound d → slice_get d.nets n ≡ Some net → AllPass keeps (quad_tests n net r) → pos 0 ≤ℤ r.slo → IsWithin q r → IsLive q → HasRoom net q
+room_tested d n net q r s there tests slo w live =
+    let a = accepted_quad n net r (live_mono q r w live) tests in
+    room_under d n net q r (sound_at d n net s there) w (constraint_under net q r w live a slo) a
+
 pub room_at : (d : Parts) (top : List Pair) (n : ℕ) (e : Edge) (net : Net) (q : Quad) → IsSound d → IsWidest d top → IsAccepted d top → slice_get d.nets n ≡ Some net
     → IsWithin q (assigned top n e) → IsLive q → HasRoom net q
-room_at d top n e net q s h acc there w live =
-    let r = assigned top n e in
-    let a = accepted_quad n net r (live_mono q r w live) (quad_passed d top n net e acc there) in
-    room_under d n net q r (sound_at d n net s there) w (constraint_under net q r w live a (widest_slew d top n e s h)) a
+room_at d top n e net q s h acc there w live = room_tested d n net q (assigned top n e) s there (quad_passed d top n net e acc there) (widest_slew d top n e s h) w live
 
 pub length_past : {X : Type 0} (xs : List X) (i : ℕ) → slice_get xs i ≡ None → length xs ≤ i
 length_past xs i h = elim (slice_get_cases xs i).1 [ inl p ↦ absurd (none-some p.0 (sym h ∙ p.2)) | inr p ↦ p.0 ]
-
--- past the last net nothing is live
-nothing_past : (d : Parts) (top : List Pair) (n : ℕ) (e : Edge) → IsWidest d top → slice_get d.nets n ≡ None → IsLive (assigned top n e) → ⊥
-nothing_past d top n e h none live = dead (ordered_from_live (assigned top n e) live) where
-  past : length d.nets ≤ n
-  past = length_past d.nets n none
-
-  same : assigned top n e ≡ bottom
-  same = let k : length top ≤ n = omega (arith, past, h.count) in ap (λ o. quad_of_pair o e) (slice_get_past top n k)
-
-  dead : IsOrdered (assigned top n e) → ⊥
-  dead o = let P : Quad → Type 0 = λ q. q.tlo ≤ℤ q.thi in let t = subst P same o.times in omega (arith, ints)
-
--- a live window within an accepted envelope is one that a design can be given
-pub constraint_at : (d : Parts) (top : List Pair) (n : ℕ) (e : Edge) (q : Quad) → IsSound d → IsWidest d top → IsAccepted d top → IsWithin q (assigned top n e) → IsLive q → IsConstraint q
-constraint_at d top n e q s h acc w live = by_net (slice_get d.nets n) refl where
-  by_net : (o : Option Net) → slice_get d.nets n ≡ o → IsConstraint q
-  by_net (Some net) there = (room_at d top n e net q s h acc there w live).driver
-  by_net None none = absurd (nothing_past d top n e h none (live_mono q (assigned top n e) w live))
 
 pub room_of : (d : Parts) (top : List Pair) (W : Assignment) (n : ℕ) (e : Edge) (net : Net) → IsSound d → IsWidest d top → IsAccepted d top → IsContained W (assigned top)
     → slice_get d.nets n ≡ Some net → IsLive (W n e) → HasRoom net (W n e)

@@ -1,26 +1,23 @@
 -- Passes over the nets in order of level: which nets had their turn, and the pass that makes the envelope.
-use Rattle.std.proofs.Common.{◌≡◌, ◌≢◌, ℕ, zero, suc, ◌+◌, ◌<◌, ◌≤◌, ◌⊎◌, inl, inr, ⊎_elim, refl, sym, ap, subst, ◌∙◌, List, length, set, get_or, arith}
-use Rattle.std.specs.Prelude.{true, Option, Some, IfSome, slice_index}
-use Rattle.std.specs.List.{All, Contains, slice_get}
+use Rattle.std.proofs.Common.{◌≡◌, ◌≢◌, ℕ, zero, suc, ◌+◌, ◌<◌, ◌≤◌, ◌⊎◌, inl, inr, ⊎_elim, sym, ap, subst, ◌∙◌, List, length, set, get_or, arith}
+use Rattle.std.specs.Prelude.{true, slice_index}
+use Rattle.std.specs.List.{All, slice_get}
 use Rattle.std.proofs.lemmas.Bool.{cases_lt, cases_eq}
 use Rattle.std.proofs.lemmas.List.Elements.{All-weaker}
 use Rattle.std.proofs.lemmas.Option.{slice_get_past, slice_get-get_or}
 use Rattle.xt_model.specs.declared.edge.Edge.{Edge}
-use Rattle.xt_model.specs.declared.quad.Quad.{Quad}
 use Rattle.xt_model.specs.declared.quad.Pair.{Pair}
 use Rattle.xt_model.specs.declared.net.Net.{Net}
-use Rattle.xt_model.specs.Quads.{bottom, IsWithin, IsPairInRange, quad_at}
+use Rattle.xt_model.specs.Quads.{bottom, IsPairInRange, quad_at}
 use Rattle.xt_model.specs.Levels.{AreLevels, IsOrderBy, StandsBefore}
 use Rattle.xt_model.specs.Parts.{Parts}
 use Rattle.xt_model.specs.Sound.{IsSound}
 use Rattle.xt_model.specs.Assign.{quad_of_pair, assigned}
 use Rattle.xt_meaning.specs.Operator.{widest_operator}
-use Rattle.xt_meaning.specs.Fixpoint.{IsWindows, IsContained}
+use Rattle.xt_meaning.specs.Fixpoint.{IsWindows}
 use Rattle.xt_meaning.specs.Envelope.{IsWidest}
-use Rattle.xt_meaning.proofs.Order.{within_refl}
 use Rattle.xt_meaning.proofs.Growth.{wired}
-use Rattle.xt_meaning.proofs.Starts.{bottom_within_operator}
-use Rattle.xt_meaning.proofs.Widest.{IfSome_there, inputs_below, widest_is_greatest}
+use Rattle.xt_meaning.proofs.Widest.{IfSome_there, inputs_below}
 use Rattle.xt_meaning.proofs.Existence.{same_inputs, past_bottom}
 use Rattle.xt_meaning.proofs.Rounds.{assigned-set_same, assigned-set_other, set_is_windows}
 
@@ -41,7 +38,7 @@ turned_more order i n t = elim (cases_eq t.place i) [
   below : (k i : ℕ) → k < i + 1 → k ≢ i → k < i
   below k i h other = omega arith
 
-turned_or_not : (order : List ℕ) (i n : ℕ) → IsTurned order i n ⊎ (IsTurned order i n → ⊥)
+pub turned_or_not : (order : List ℕ) (i n : ℕ) → IsTurned order i n ⊎ (IsTurned order i n → ⊥)
 turned_or_not order zero n = inr (none_turned order n)
 turned_or_not order (suc i) n = elim (turned_or_not order i n) [
   | inl t ↦ inl (record { place = t.place; before = later t.place i t.before; there = t.there })
@@ -142,20 +139,6 @@ module _ (d : Parts) (ls order : List ℕ) (s : IsSound d) (levels : AreLevels d
     } where
       later : (a b : ℕ) → a < b → a < b + 1
       later a b k = omega arith
-
-  -- the windows so far lie within the envelope
-  pass_fits : (v : List Pair) (i : ℕ) → IsEnvelopePass d order v i → (n : ℕ) (e : Edge) → IsWithin (assigned v n e) (widest_operator d (assigned v) n e)
-  pass_fits v i pass n e = elim (turned_or_not order i n) [
-    | inl t ↦
-        let P : Quad → Type 0 = λ q. IsWithin (assigned v n e) q in
-        subst P (pass.fixed n e t) (within_refl (assigned v n e))
-    | inr never ↦
-        let P : Quad → Type 0 = λ q. IsWithin q (widest_operator d (assigned v) n e) in
-        subst P (sym (pass.quiet n e never)) (bottom_within_operator d (λ m f k g. true) (assigned v) n e s)
-  ]
-
-  pub pass_within : (v top : List Pair) (i : ℕ) → IsEnvelopePass d order v i → IsWidest d top → IsContained (assigned v) (assigned top)
-  pass_within v top i pass widest = widest_is_greatest d ls (assigned v) top (wired d s) levels widest (record { each = pass_fits v i pass })
 
   -- after the last turn the windows are the envelope
   past_end : (v : List Pair) → IsEnvelopePass d order v (length order) → (n : ℕ) (e : Edge) → length d.nets ≤ n → widest_operator d (assigned v) n e ≡ assigned v n e

@@ -23,7 +23,7 @@ use Rattle.xt_meaning.specs.Lookup.{Box}
 use Rattle.xt_meaning.specs.Wires.{product_sum, delay_to, wire_delay, slew_growth}
 use Rattle.xt_meaning.specs.Overlap.{Answers}
 use Rattle.xt_meaning.specs.Operator.{slew_range, contribution, contributes, with_arc, arcs_quad, net_quad, operator_by}
-use Rattle.xt_meaning.specs.Envelope.{IsWidest, IsAccepted, Test, TimeAt, SlewAt, passes, greatest_wire, sink_tests, all_sink_tests, quad_tests, tests_of}
+use Rattle.xt_meaning.specs.Envelope.{IsWidest, IsAccepted, Test, TimeAt, SlewAt, keeps, greatest_wire, sink_tests, all_sink_tests, quad_tests, tests_of, net_tests}
 use Rattle.xt_meaning.proofs.Ranges.{least_over-slew_value}
 use Rattle.xt_meaning.proofs.Order.{both_true, le_from_test}
 use Rattle.xt_meaning.proofs.Growth.{IsNatural, IfSome_from_All}
@@ -109,29 +109,33 @@ All-right : {X : Type 0} (P : X → Type 0) (xs ys : List X) → All P (xs ++ ys
 All-right P [] ys h = h
 All-right P (x ∷ xs) ys h = All-right P xs ys (All-tail P x (xs ++ ys) h)
 
-abbrev Passed : Test → Type 0
-Passed t = passes t ≡ true
+abbrev Kept : Test → Type 0
+Kept t = keeps t ≡ true
 
-time_passed : (n : ℕ) (t : ℤ) → Passed (TimeAt n t) → IsTime t
+time_passed : (n : ℕ) (t : ℤ) → Kept (TimeAt n t) → IsTime t
 time_passed n t h =
     let p = both_true (int_le (neg_ℤ (pos (2 ^ 46))) t) (int_le t (pos (2 ^ 46))) h in
     record { least = le_from_test (neg_ℤ (pos (2 ^ 46))) t p.0; most = le_from_test t (pos (2 ^ 46)) p.1 }
 
-slew_passed : (n : ℕ) (s : ℤ) → Passed (SlewAt n s) → s ≤ℤ pos (2 ^ 40)
+slew_passed : (n : ℕ) (s : ℤ) → Kept (SlewAt n s) → s ≤ℤ pos (2 ^ 40)
 slew_passed n s h = le_from_test s (pos (2 ^ 40)) h
 
-chosen_passed : (b : Bool) (ts : List Test) → IsTrue b → AllPass passes (if b then ts else []) → AllPass passes ts
+chosen_passed : (b : Bool) (ts : List Test) → IsTrue b → AllPass keeps (if b then ts else []) → AllPass keeps ts
 chosen_passed true ts h k = k
 chosen_passed false ts h k = absurd (cc)
 
-pub quad_passed : (d : Parts) (w : List Pair) (n : ℕ) (net : Net) (e : Edge) → IsAccepted d w → slice_get d.nets n ≡ Some net → AllPass passes (quad_tests n net (assigned w n e))
-quad_passed d w n net e acc there = side e where
-  both : AllPass passes (tests_of w n (Some net))
-  both = let P : Option Net → Type 0 = λ o. AllPass passes (tests_of w n o) in subst P there (acc.each n)
+-- where the tests of a net pass, those of each of its windows do
+pub net_passed : (d : Parts) (w : List Pair) (n : ℕ) (net : Net) (e : Edge) → AllPass keeps (net_tests d w n) → slice_get d.nets n ≡ Some net → AllPass keeps (quad_tests n net (assigned w n e))
+net_passed d w n net e h there = side e where
+  both : AllPass keeps (tests_of w n (Some net))
+  both = let P : Option Net → Type 0 = λ o. AllPass keeps (tests_of w n o) in subst P there h
 
-  side : (f : Edge) → AllPass passes (quad_tests n net (assigned w n f))
-  side Rise = All-left Passed (quad_tests n net (assigned w n Rise)) (quad_tests n net (assigned w n Fall)) both
-  side Fall = All-right Passed (quad_tests n net (assigned w n Rise)) (quad_tests n net (assigned w n Fall)) both
+  side : (f : Edge) → AllPass keeps (quad_tests n net (assigned w n f))
+  side Rise = All-left Kept (quad_tests n net (assigned w n Rise)) (quad_tests n net (assigned w n Fall)) both
+  side Fall = All-right Kept (quad_tests n net (assigned w n Rise)) (quad_tests n net (assigned w n Fall)) both
+
+pub quad_passed : (d : Parts) (w : List Pair) (n : ℕ) (net : Net) (e : Edge) → IsAccepted d w → slice_get d.nets n ≡ Some net → AllPass keeps (quad_tests n net (assigned w n e))
+quad_passed d w n net e acc there = net_passed d w n net e (acc.each n) there
 
 -- a live window of an accepted envelope
 pub record IsAcceptedQuad (net : Net) (q : Quad) : Type 0 where
@@ -141,34 +145,34 @@ pub record IsAcceptedQuad (net : Net) (q : Quad) : Type 0 where
   pub pin_times : (sink : ℕ) → sink < length net.sinks → (q.thi +ℤ greatest_wire net sink) ≤ℤ pos (2 ^ 46)
   pub pin_slews : (sink : ℕ) → sink < length net.sinks → (q.shi +ℤ slew_growth (greatest_wire net sink)) ≤ℤ pos (2 ^ 40)
 
-one_sink : (n : ℕ) (net : Net) (q : Quad) (sinks sink : ℕ) → sink < sinks → AllPass passes (all_sink_tests n net q sinks) → AllPass passes (sink_tests n net q sink)
+one_sink : (n : ℕ) (net : Net) (q : Quad) (sinks sink : ℕ) → sink < sinks → AllPass keeps (all_sink_tests n net q sinks) → AllPass keeps (sink_tests n net q sink)
 one_sink n net q zero sink h k = absurd (omega arith)
 one_sink n net q (suc sinks) sink h k = elim (cases_lt sink sinks) [
-  | inl p ↦ one_sink n net q sinks sink p (All-left Passed (all_sink_tests n net q sinks) (sink_tests n net q sinks) k)
+  | inl p ↦ one_sink n net q sinks sink p (All-left Kept (all_sink_tests n net q sinks) (sink_tests n net q sinks) k)
   | inr p ↦
       let e : sinks ≡ sink = omega arith in
-      let P : ℕ → Type 0 = λ i. AllPass passes (sink_tests n net q i) in
-      subst P e (All-right Passed (all_sink_tests n net q sinks) (sink_tests n net q sinks) k)
+      let P : ℕ → Type 0 = λ i. AllPass keeps (sink_tests n net q i) in
+      subst P e (All-right Kept (all_sink_tests n net q sinks) (sink_tests n net q sinks) k)
 ]
 
-pub accepted_quad : (n : ℕ) (net : Net) (q : Quad) → IsLive q → AllPass passes (quad_tests n net q) → IsAcceptedQuad net q
+pub accepted_quad : (n : ℕ) (net : Net) (q : Quad) → IsLive q → AllPass keeps (quad_tests n net q) → IsAcceptedQuad net q
 accepted_quad n net q live h =
     let sinks = all_sink_tests n net q (length net.sinks) in
     let k1 = chosen_passed (is_live q) (TimeAt n q.tlo ∷ TimeAt n q.thi ∷ SlewAt n q.shi ∷ sinks) live h in
-    let k2 = All-tail Passed (TimeAt n q.tlo) (TimeAt n q.thi ∷ SlewAt n q.shi ∷ sinks) k1 in
-    let k3 = All-tail Passed (TimeAt n q.thi) (SlewAt n q.shi ∷ sinks) k2 in
-    let k4 = All-tail Passed (SlewAt n q.shi) sinks k3 in
+    let k2 = All-tail Kept (TimeAt n q.tlo) (TimeAt n q.thi ∷ SlewAt n q.shi ∷ sinks) k1 in
+    let k3 = All-tail Kept (TimeAt n q.thi) (SlewAt n q.shi ∷ sinks) k2 in
+    let k4 = All-tail Kept (SlewAt n q.shi) sinks k3 in
     record {
-      tlo = time_passed n q.tlo (All-head Passed (TimeAt n q.tlo) (TimeAt n q.thi ∷ SlewAt n q.shi ∷ sinks) k1);
-      thi = time_passed n q.thi (All-head Passed (TimeAt n q.thi) (SlewAt n q.shi ∷ sinks) k2);
-      shi = slew_passed n q.shi (All-head Passed (SlewAt n q.shi) sinks k3);
+      tlo = time_passed n q.tlo (All-head Kept (TimeAt n q.tlo) (TimeAt n q.thi ∷ SlewAt n q.shi ∷ sinks) k1);
+      thi = time_passed n q.thi (All-head Kept (TimeAt n q.thi) (SlewAt n q.shi ∷ sinks) k2);
+      shi = slew_passed n q.shi (All-head Kept (SlewAt n q.shi) sinks k3);
       pin_times = λ sink p.
           let g = greatest_wire net sink in
           let t = one_sink n net q (length net.sinks) sink p k4 in
-          (time_passed n (q.thi +ℤ g) (All-head Passed (TimeAt n (q.thi +ℤ g)) (SlewAt n (q.shi +ℤ slew_growth g) ∷ []) t)).most;
+          (time_passed n (q.thi +ℤ g) (All-head Kept (TimeAt n (q.thi +ℤ g)) (SlewAt n (q.shi +ℤ slew_growth g) ∷ []) t)).most;
       pin_slews = λ sink p.
           let g = greatest_wire net sink in
           let t = one_sink n net q (length net.sinks) sink p k4 in
-          slew_passed n (q.shi +ℤ slew_growth g) (All-head Passed (SlewAt n (q.shi +ℤ slew_growth g)) []
-          (All-tail Passed (TimeAt n (q.thi +ℤ g)) (SlewAt n (q.shi +ℤ slew_growth g) ∷ []) t));
+          slew_passed n (q.shi +ℤ slew_growth g) (All-head Kept (SlewAt n (q.shi +ℤ slew_growth g)) []
+          (All-tail Kept (TimeAt n (q.thi +ℤ g)) (SlewAt n (q.shi +ℤ slew_growth g) ∷ []) t));
     }

@@ -1,26 +1,21 @@
 -- Steps of a run from a fitting start, and how its rounds end.
-use Rattle.std.proofs.Common.{ℕ, ◌<◌, ◌⊎◌, inl, inr, sym, subst, List}
+use Rattle.std.proofs.Common.{◌<◌, ◌⊎◌, inl, inr, sym, subst, List}
 use Rattle.xt_model.specs.declared.direction.Direction.{Direction}
 use Rattle.xt_model.specs.declared.direction.Direction.TheVariants.{Widen, Narrow}
 use Rattle.xt_model.specs.declared.quad.Pair.{Pair}
 use Rattle.xt_model.specs.Parts.{Parts}
 use Rattle.xt_model.specs.Sound.{IsSound}
-use Rattle.xt_model.specs.Levels.{AreLevels}
 use Rattle.xt_model.specs.Assign.{Assignment, assigned}
 use Rattle.xt_meaning.specs.Operator.{step}
 use Rattle.xt_meaning.specs.Fixpoint.{IsWindows, IsContained, IsFixpoint}
-use Rattle.xt_meaning.specs.Envelope.{IsWidest, IsEnvelope}
+use Rattle.xt_meaning.specs.Envelope.{IsEnvelope}
 use Rattle.xt_meaning.specs.Barrier.{NoFurther, Respects, IsFittingStart}
-use Rattle.xt_meaning.specs.Modest.{IsModest}
-use Rattle.xt_meaning.specs.Laws.{IsStep, IsExtremeFixpoint, quiet_windows}
+use Rattle.xt_meaning.specs.Laws.{IsStep}
 use Rattle.xt_meaning.proofs.Growth.{wired}
 use Rattle.xt_meaning.proofs.Monotone.{contained_trans}
 use Rattle.xt_meaning.proofs.Steps.{between_respects, between_fits, contained_narrow}
-use Rattle.xt_meaning.proofs.Extremes.{fixpoint_from_closed, extreme_from_fixpoint}
-use Rattle.xt_meaning.proofs.Starts.{quiet_fits, envelope_fits}
+use Rattle.xt_meaning.proofs.Extremes.{fixpoint_from_closed}
 use Rattle.xt_meaning.proofs.Limits.{respecting_within}
-use Rattle.xt_meaning.proofs.Acceptance.{modest_accepted, modest_envelope}
-use Rattle.xt_meaning.proofs.Existence.{widest_exists}
 use Rattle.xt_meaning.proofs.Measure.{room, room_less}
 
 -- a step leads to windows within the envelope
@@ -45,10 +40,6 @@ step_fits way d before after s start w t =
       };
     }
 
--- a fitting start that the operator does not move further is the extreme fixpoint
-pub fitting_extreme : (way : Direction) (d : Parts) (x : List Pair) → IsFittingStart way d x → NoFurther way (step d x) (assigned x) → IsExtremeFixpoint way d x
-fitting_extreme way d x start closed = extreme_from_fixpoint way d x (fixpoint_from_closed way d x start.windows start.fits closed) start.respects
-
 -- a round that goes at least as far as the operator has less room left, unless it began at a fixpoint
 pub round_less : (way : Direction) (d : Parts) (before after : List Pair) → IsFittingStart way d before → IsWindows d after → NoFurther way (assigned before) (assigned after)
     → NoFurther way (step d before) (assigned after) → IsFixpoint d before ⊎ (room way after < room way before)
@@ -58,12 +49,3 @@ round_less way d before after start w onward past = elim (room_less way d before
       inl (fixpoint_from_closed way d before start.windows start.fits (subst P (sym e) past))
   | inr less ↦ inr less
 ]
-
--- ---- modest designs
-pub modest_quiet_fits : (d : Parts) (ls : List ℕ) → IsSound d → IsModest d → AreLevels d.nets ls → IsFittingStart Widen d (quiet_windows d)
-modest_quiet_fits d ls s m levels =
-    let top = widest_exists d ls s levels in
-    quiet_fits d top.0 s (modest_envelope d ls top.0 s m levels top.1) (modest_accepted d ls top.0 s m levels top.1)
-
-pub modest_envelope_fits : (d : Parts) (ls : List ℕ) (top : List Pair) → IsSound d → IsModest d → AreLevels d.nets ls → IsWidest d top → IsFittingStart Narrow d top
-modest_envelope_fits d ls top s m levels h = envelope_fits d ls top s levels (modest_envelope d ls top s m levels h) (modest_accepted d ls top s m levels h)

@@ -83,7 +83,7 @@ bound_refl Widen (suc s) a = omega (arith, ints)
 bound_refl Narrow zero a = omega (arith, ints)
 bound_refl Narrow (suc s) a = omega (arith, ints)
 
--- a bound that is no further than one that crosses no barrier crosses none
+-- where a bound crosses no barrier, no bound behind it does
 pub respects_before : (way : Direction) (d : Parts) (word : ℕ) (a b : ℤ) → IsBoundNoFurther way (word % 2) a b → RespectsAt way d word b → RespectsAt way d word a
 respects_before way d word a b h r = record { each = λ v k. bound_trans way (word % 2) a b (words_of (assigned v) word) h (r.each v k) }
 
@@ -151,7 +151,7 @@ word_respects_at R way d f word ws reads r = record {
 pub respects_step : (way : Direction) (d : Parts) (W : Assignment) → AreWired d → RespectsAll way d W → RespectsAll way d (operator d W)
 respects_step way d W ws r = record { each = λ v b. further_trans way (operator d W) (step d v) (assigned v) (further_mono way d W (assigned v) ws (r.each v b)) b.closed }
 
--- windows that are no further than ones that cross no barrier cross none
+-- where windows cross no barrier, no windows behind them do
 pub respects_behind : (way : Direction) (d : Parts) (W V : Assignment) → NoFurther way W V → RespectsAll way d V → RespectsAll way d W
 respects_behind way d W V h r = record { each = λ v b. further_trans way W V (assigned v) h (r.each v b) }
 

@@ -160,7 +160,7 @@ cross_text : text_of (linked cross) ≡ lines (
 unfolding digits
 cross_text = refl
 
-cross_report : text_of (report cross 2 2 (cross_windows (pos 1700)) (cross_windows (pos 1500))) ≡ lines (
+cross_report : text_of (report false cross 2 2 (cross_windows (pos 1700)) (cross_windows (pos 1500))) ≡ lines (
     (codes "xtalk 1") ∷
     (codes "nets 4 couplings 2 pairs 2 levels 2 bound 18") ∷
     (codes "period none") ∷

@@ -30,9 +30,9 @@ pub data Test : Type 0 where
   SlewAt : ℕ → ℤ → Test
 
 -- a time is at most 2^46 fs in size, and a slew at most 2^40 fs
-abbrev pub passes : Test → Bool
-passes (TimeAt n t) = int_le (neg_ℤ (pos (2 ^ 46))) t && int_le t (pos (2 ^ 46))
-passes (SlewAt n s) = int_le s (pos (2 ^ 40))
+abbrev pub keeps : Test → Bool
+keeps (TimeAt n t) = int_le (neg_ℤ (pos (2 ^ 46))) t && int_le t (pos (2 ^ 46))
+keeps (SlewAt n s) = int_le s (pos (2 ^ 40))
 
 -- the delay to a sink with every coupling at its highest factor
 abbrev pub greatest_wire : Net → ℕ → ℤ
@@ -61,8 +61,12 @@ net_tests d w n = tests_of w n (slice_get d.nets n)
 
 -- no window passes a limit
 pub record IsAccepted (d : Parts) (w : List Pair) : Type 0 where
-  pub each : (n : ℕ) → AllPass passes (net_tests d w n)
+  pub each : (n : ℕ) → AllPass keeps (net_tests d w n)
+
+-- the first of these quantities that passes its limit
+abbrev pub first_over : List Test → Option Test
+first_over ts = find (λ t. not (keeps t)) ts
 
 -- the first limit that is passed, with the nets in this order
 abbrev pub first_passed : Parts → List Pair → List ℕ → Option Test
-first_passed d w order = find (λ t. not (passes t)) (flat_map (net_tests d w) order)
+first_passed d w order = first_over (flat_map (net_tests d w) order)

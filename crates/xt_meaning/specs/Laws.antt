@@ -18,7 +18,6 @@ use Rattle.xt_meaning.specs.Operator.{Range, wire_range, load_range, operator, w
 use Rattle.xt_meaning.specs.Reads.{HoldsOfReads}
 use Rattle.xt_meaning.specs.Fixpoint.{IsWindows, IsContained, IsFixpoint, IsLeastFixpoint, IsGreatestFixpoint}
 use Rattle.xt_meaning.specs.Envelope.{IsWidest, IsEnvelope, IsAccepted, greatest_wire}
-use Rattle.xt_meaning.specs.Modest.{IsModest}
 use Rattle.xt_meaning.specs.Wires.{slew_growth}
 use Rattle.xt_meaning.specs.Barrier.{IsFittingStart, IsWithinEnvelope, NoFurther, IsBoundNoFurther, IsBarrier, RespectsAt, Respects}
 
@@ -93,7 +92,7 @@ abbrev pub EitherBoundRespects : Type 0
 EitherBoundRespects = (way : Direction) (d : Parts) (word : ℕ) (a b : ℤ) → RespectsAt way d word a → RespectsAt way d word b
     → RespectsAt way d word (int_min a b) × RespectsAt way d word (int_max a b)
 
--- a bound that is no further than one that crosses no barrier crosses none
+-- where a bound crosses no barrier, no bound behind it does
 abbrev pub EarlierBoundRespects : Type 0
 EarlierBoundRespects = (way : Direction) (d : Parts) (word : ℕ) (a b : ℤ) → IsBoundNoFurther way (word % 2) a b → RespectsAt way d word b → RespectsAt way d word a
 
@@ -151,10 +150,6 @@ LiveWindowsHaveRoom = (d : Parts) (top : List Pair) (W : Assignment) (n : ℕ) (
 -- where the nets have levels there is an envelope
 abbrev pub EnvelopeExists : Type 0
 EnvelopeExists = (d : Parts) (levels : List ℕ) → IsSound d → AreLevels d.nets levels → (top : List Pair) × IsWidest d top
-
--- the envelope of a modest design keeps the limits
-abbrev pub ModestIsAccepted : Type 0
-ModestIsAccepted = (d : Parts) (levels : List ℕ) (top : List Pair) → IsSound d → IsModest d → AreLevels d.nets levels → IsWidest d top → IsEnvelope d top × IsAccepted d top
 
 -- after a step from a fitting start the windows are a fitting start
 abbrev pub StepsKeepFitting : Type 0

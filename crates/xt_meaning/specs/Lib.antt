@@ -10,5 +10,4 @@ pub mod Lines
 pub mod Linked
 pub mod Guilt
 pub mod Report
-pub mod Modest
 pub mod Laws

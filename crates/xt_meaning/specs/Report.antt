@@ -77,14 +77,19 @@ guilty_line d g =
     codes "guilty" ∷ name_at d g.victim ∷ edge_word g.edge ∷ name_at d g.coupling.to.0 ∷ thousandths g.coupling.cap
     ∷ codes "fast" ∷ mark_word g.fast ∷ codes "slow" ∷ mark_word g.slow ∷ []
 
--- the lines of a report on a design without checks
-abbrev pub report : Parts → ℕ → ℕ → List Pair → List Pair → List Line
-report d pairs depth low high =
-    title_line ∷ size_line d pairs depth ∷ clock_line d
-    ∷ (window_lines low high 0 d.nets ++ (unconstrained_lines d.nets ++ (map (guilty_line d) (guilty d low high) ++ ((codes "end" ∷ []) ∷ []))))
+-- lines that a report of the checks alone leaves out
+abbrev pub unless_checks : Bool → List Line → List Line
+unless_checks checks lines = if checks then [] else lines
 
--- the text is the report of the design's least and greatest fixpoint
-pub record IsReport (d : Parts) (text : List ℕ) : Type 0 where
+-- the lines of a report on a design without checks; one of the checks alone has no windows and no couplings
+abbrev pub report : Bool → Parts → ℕ → ℕ → List Pair → List Pair → List Line
+report checks d pairs depth low high =
+    title_line ∷ size_line d pairs depth ∷ clock_line d
+    ∷ (unless_checks checks (window_lines low high 0 d.nets)
+    ++ (unconstrained_lines d.nets ++ (unless_checks checks (map (guilty_line d) (guilty d low high)) ++ ((codes "end" ∷ []) ∷ []))))
+
+-- the text is the report of the design's least and greatest fixpoint, whole or of the checks alone
+pub record IsReport (checks : Bool) (d : Parts) (text : List ℕ) : Type 0 where
   pub pairs : ℕ
   pub depth : ℕ
   pub low : List Pair
@@ -93,4 +98,4 @@ pub record IsReport (d : Parts) (text : List ℕ) : Type 0 where
   pub is_depth : IsDepth d.nets depth
   pub is_least : IsLeastFixpoint d low
   pub is_greatest : IsGreatestFixpoint d high
-  pub written : text ≡ text_of (report d pairs depth low high)
+  pub written : text ≡ text_of (report checks d pairs depth low high)

@@ -1,6 +1,6 @@
 //! Laws of the operator, each as the clause of a function that does nothing.
 
-ghost use Rattle.xt_meaning.specs.Laws.{ClosedIsExtreme, EarlierBoundRespects, EitherBoundRespects, EnvelopeContains, EnvelopeExists, EnvelopeFitsNarrowing, EnvelopeIsBarrier, EnvelopeIsUnique, ExtremeIsUnique, FixpointsLieBetween, LiveWindowsHaveRoom, ModestIsAccepted, OperatorIsMonotone, OperatorReadsLittle, OperatorRespects, OperatorStaysInRange, QuietFitsWidening, RangesGrow, RespectingLiesWithin, StepsKeepFitting, StepsKeepOn, WidestContains, WidestIsMonotone, WordsRespectTogether};
+ghost use Rattle.xt_meaning.specs.Laws.{ClosedIsExtreme, EarlierBoundRespects, EitherBoundRespects, EnvelopeContains, EnvelopeExists, EnvelopeFitsNarrowing, EnvelopeIsBarrier, EnvelopeIsUnique, ExtremeIsUnique, FixpointsLieBetween, LiveWindowsHaveRoom, OperatorIsMonotone, OperatorReadsLittle, OperatorRespects, OperatorStaysInRange, QuietFitsWidening, RangesGrow, RespectingLiesWithin, StepsKeepFitting, StepsKeepOn, WidestContains, WidestIsMonotone, WordsRespectTogether};
 
 /// Of wider windows the operator makes wider windows.
 pub fn operator_is_monotone()
@@ -57,7 +57,7 @@ pub fn either_bound_respects()
     ensures { EitherBoundRespects }
 {}
 
-/// A bound that is no further than one that crosses no barrier crosses none.
+/// Where a bound crosses no barrier, no bound behind it does.
 pub fn earlier_bound_respects()
     ensures { EarlierBoundRespects }
 {}
@@ -105,11 +105,6 @@ pub fn live_windows_have_room()
 /// Where the nets have levels there is an envelope.
 pub fn envelope_exists()
     ensures { EnvelopeExists }
-{}
-
-/// The envelope of a modest design keeps the limits.
-pub fn modest_is_accepted()
-    ensures { ModestIsAccepted }
 {}
 
 /// After a step from a fitting start the windows are a fitting start.
