@@ -1,6 +1,6 @@
 -- What an arc contributes, from its pieces.
 use Rattle.std.proofs.Common.{◌≡◌, ℕ, ◌^◌, ◌<◌, refl, sym, List, length, take, take_all, get_or, ◌≤◌, to_z, of_z, w64, ℤ, pos, neg_ℤ, ◌+ℤ◌, ◌≤ℤ◌, arith}
-use Rattle.std.specs.Prelude.{Some, IfSome}
+use Rattle.std.specs.Prelude.{Some}
 use Rattle.std.specs.Int.{int_max}
 use Rattle.std.specs.Int.Signed.{mag}
 use Rattle.std.specs.List.{slice_get, fold}

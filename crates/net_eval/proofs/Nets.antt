@@ -1,6 +1,6 @@
 -- The operator at one net, from the join over its arcs.
 use Rattle.std.proofs.Common.{◌≡◌, ℕ, ◌<◌, inl, inr, refl, sym, ◌∙◌, List, [], ◌∷◌, length, arith}
-use Rattle.std.specs.Prelude.{Some, IfSome}
+use Rattle.std.specs.Prelude.{Some}
 use Rattle.std.specs.List.{All, slice_get, fold}
 use Rattle.std.proofs.lemmas.Int.{ints}
 use Rattle.xt_model.specs.declared.edge.Edge.{Edge}

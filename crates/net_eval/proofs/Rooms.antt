@@ -1,5 +1,5 @@
 -- Windows within an accepted envelope fit the wires behind them.
-use Rattle.std.proofs.Common.{◌≡◌, ℕ, ◌^◌, ◌<◌, refl, List, length, get_or, ℤ, pos, ◌+ℤ◌, ◌≤ℤ◌, arith}
+use Rattle.std.proofs.Common.{◌≡◌, ℕ, ◌<◌, refl, List, length, get_or, arith}
 use Rattle.std.specs.Prelude.{Option, Some, None, IfSome}
 use Rattle.std.specs.Option.{IsSomeAnd}
 use Rattle.std.specs.List.{All, slice_get}
@@ -11,12 +11,12 @@ use Rattle.xt_model.specs.declared.net.Net.{Net}
 use Rattle.xt_model.specs.declared.net.TimingArc.{TimingArc}
 use Rattle.xt_model.specs.Quads.{IsLive, IsWithin}
 use Rattle.xt_model.specs.Parts.{Parts}
-use Rattle.xt_model.specs.Sound.{IsSound, IsSoundNet, IsSoundArc}
+use Rattle.xt_model.specs.Sound.{IsSound, IsSoundNet}
 use Rattle.xt_model.specs.Assign.{Assignment, assigned}
-use Rattle.xt_meaning.specs.Wires.{miller, wire_delay}
+use Rattle.xt_meaning.specs.Wires.{miller}
 use Rattle.xt_meaning.specs.Overlap.{Answers, least_factor, greatest_factor}
 use Rattle.xt_meaning.specs.Operator.{wire_range}
-use Rattle.xt_meaning.specs.Envelope.{IsEnvelope, IsAccepted, greatest_wire}
+use Rattle.xt_meaning.specs.Envelope.{IsEnvelope, IsAccepted}
 use Rattle.xt_meaning.specs.Laws.{HasRoom}
 use Rattle.xt_meaning.specs.Reads.{HoldsOfReads, HoldsOfArcReads}
 use Rattle.xt_meaning.proofs.Growth.{factors_ordered, wire_delay_mono}
@@ -25,11 +25,11 @@ use Rattle.xt_meaning.proofs.Limits.{room_at}
 use Rattle.miller_bits.specs.Views.{HasNet}
 use Rattle.miller_bits.proofs.SmallFactors.{greatest_factors}
 use Rattle.miller_bits.proofs.Sums.{found}
-use Rattle.net_eval.specs.Room.{ReadsWithinEnvelope, FitsWire, IsReady}
+use Rattle.net_eval.specs.Room.{ReadsWithinEnvelope, FitsWire, FitsAtInput, ReadsFitBy, IsReady}
 use Rattle.net_eval.proofs.Contributions.{sound_wired}
 
 -- a window with room at every sink fits the wire to each
-room_fits : (d : Parts) (own : ℕ) (n : Net) (b : Answers) (e : Edge) (sink : ℕ) (q : Quad) → IsSoundNet d own n → sink < length n.sinks → HasRoom n q → FitsWire q (wire_range b own e sink (Some n))
+pub room_fits : (d : Parts) (own : ℕ) (n : Net) (b : Answers) (e : Edge) (sink : ℕ) (q : Quad) → IsSoundNet d own n → sink < length n.sinks → HasRoom n q → FitsWire q (wire_range b own e sink (Some n))
 room_fits d own n b e sink q s sink_in room =
     let w = sound_wired d own n s in
     let below = wire_delay_mono (greatest_factor b own e) (λ k. miller.high) n sink (λ k x h. (greatest_factors b own e).few (get_or n.couplings k x)) w in
@@ -49,15 +49,24 @@ fits_at d top W b a (Some m) s env acc there sink w live =
     room_fits d a.from.0 m b a.input a.sink (W a.from.0 a.input) (found (IsSoundNet d a.from.0) (slice_get d.nets a.from.0) m there (s.nets a.from.0)) sink
     (room_at d top a.from.0 a.input m (W a.from.0 a.input) s env.widest acc there w live)
 
+-- windows within an accepted envelope fit the wires, whatever overlaps
+pub reads_fit : (d : Parts) (b : Answers) (W : Assignment) (n : ℕ) → IsSound d → ReadsWithinEnvelope d W n → ReadsFitBy d b W n
+reads_fit d b W n s within = record { inputs = each (slice_get d.nets n) (s.nets n) within.inputs } where
+  each : (o : Option Net) → IfSome o (IsSoundNet d n) → IfSome o (λ net. All (λ a. IsWithin (W a.from.0 a.input) (assigned within.top a.from.0 a.input)) net.arcs)
+      → IfSome o (λ net. All (FitsAtInput d b W) net.arcs)
+  each None sound inputs = tt
+  each (Some net) sound inputs = λ k x h live.
+      fits_at d within.top W b (get_or net.arcs k x) (slice_get d.nets (get_or net.arcs k x).from.0) s within.envelope within.accepted refl (sound.arcs k x h).sink (inputs k x h) live
+
 -- each arc of a net is ready
-pub ready_arcs : (has : ℕ → Type 0) (d : Parts) (b : Answers) (W : Assignment) (n : ℕ) (net : Net) → IsSound d → slice_get d.nets n ≡ Some net → HoldsOfReads (HasNet has) d n → ReadsWithinEnvelope d W n
+pub ready_arcs : (has : ℕ → Type 0) (d : Parts) (b : Answers) (W : Assignment) (n : ℕ) (net : Net) → IsSound d → slice_get d.nets n ≡ Some net → HoldsOfReads (HasNet has) d n → ReadsFitBy d b W n
     → All (IsReady has d b W) net.arcs
-ready_arcs has d b W n net s there reads within =
+ready_arcs has d b W n net s there reads fit =
     let sound = found (IsSoundNet d n) (slice_get d.nets n) net there (s.nets n) in
     let looks = found (λ net. All (HoldsOfArcReads (HasNet has) d n net) net.arcs) (slice_get d.nets n) net there reads.arcs in
-    let inputs = found (λ net. All (λ a. IsWithin (W a.from.0 a.input) (assigned within.top a.from.0 a.input)) net.arcs) (slice_get d.nets n) net there within.inputs in
+    let inputs = found (λ net. All (FitsAtInput d b W) net.arcs) (slice_get d.nets n) net there fit.inputs in
     λ k x h. record {
       sound = sound.arcs k x h;
       words = record { own = (looks k x h).from; aggressors = (looks k x h).from_aggressors };
-      room = λ live. fits_at d within.top W b (get_or net.arcs k x) (slice_get d.nets (get_or net.arcs k x).from.0) s within.envelope within.accepted refl (sound.arcs k x h).sink (inputs k x h) live;
+      room = inputs k x h;
     }

@@ -1,5 +1,5 @@
 -- Windows that the operator gives back, net by net.
-use Rattle.std.proofs.Common.{◌≡◌, ℕ, ◌+◌, ◌*◌, ◌<◌, ◌≤◌, Bool, inl, inr, refl, sym, ap, subst, ◌∙◌, List, length, get_or, ℤ, arith}
+use Rattle.std.proofs.Common.{◌≡◌, ℕ, ◌+◌, ◌*◌, ◌<◌, ◌≤◌, Bool, inl, inr, refl, sym, ap, subst, ◌∙◌, List, length, get_or, arith}
 use Rattle.std.specs.Prelude.{IsTrue, ◌↔◌, Option, Some, None, IfSome}
 use Rattle.std.specs.Option.{IsSomeAnd}
 use Rattle.std.specs.List.{All, slice_get}
@@ -10,14 +10,11 @@ use Rattle.xt_model.specs.declared.edge.Edge.TheVariants.{Rise, Fall}
 use Rattle.xt_model.specs.declared.quad.Quad.{Quad}
 use Rattle.xt_model.specs.declared.quad.Pair.{Pair}
 use Rattle.xt_model.specs.declared.net.Net.{Net}
-use Rattle.xt_model.specs.declared.net.Coupling.{Coupling}
-use Rattle.xt_model.specs.declared.net.TimingArc.{TimingArc}
-use Rattle.xt_model.specs.Quads.{bottom, IsWithin, quad_at}
+use Rattle.xt_model.specs.Quads.{IsWithin, quad_at}
 use Rattle.xt_model.specs.Parts.{Parts}
-use Rattle.xt_model.specs.Sound.{IsSound, IsSoundNet, IsSoundCoupling}
-use Rattle.xt_model.specs.Assign.{Assignment, assigned, quad_of_pair, word_number, edge_number, words_of, quads_of}
-use Rattle.xt_meaning.specs.Overlap.{overlap_answers}
-use Rattle.xt_meaning.specs.Operator.{net_quad, operator_by, operator, step}
+use Rattle.xt_model.specs.Sound.{IsSound, IsSoundNet}
+use Rattle.xt_model.specs.Assign.{assigned, edge_number, words_of, quads_of}
+use Rattle.xt_meaning.specs.Operator.{operator_by, operator, step}
 use Rattle.xt_meaning.specs.Reads.{HoldsOfEnds, HoldsOfArcReads, HoldsOfReads}
 use Rattle.xt_meaning.specs.Fixpoint.{IsContained}
 use Rattle.xt_meaning.specs.Barrier.{IsWithinEnvelope}
@@ -26,7 +23,6 @@ use Rattle.xt_meaning.proofs.Growth.{wired}
 use Rattle.xt_meaning.proofs.Monotone.{operator_mono}
 use Rattle.xt_meaning.proofs.Words.{quads_of_words}
 use Rattle.miller_bits.specs.Views.{HasNet}
-use Rattle.miller_bits.proofs.Sums.{found, held}
 use Rattle.net_eval.specs.Room.{ReadsWithinEnvelope}
 use Rattle.net_eval.specs.Closing.{IsSteadyAt}
 
@@ -44,7 +40,7 @@ has_net v n h = λ e side k. let s = edge_small e in omega (arith, h, k, s)
 has_ends : (d : Parts) (v : List Pair) (own : ℕ) (n : Net) → length v ≡ length d.nets → IsSoundNet d own n → HoldsOfEnds (HasNet (HasWord v)) n.couplings
 has_ends d v own n count s = λ k x h. has_net v (get_or n.couplings k x).to.0 (rw count ((s.couplings k x h).there))
 
-has_sink : (d : Parts) (m sink : ℕ) (o : Option Net) → slice_get d.nets m ≡ o → IsSomeAnd o (λ n. sink < length n.sinks) → m < length d.nets
+pub has_sink : (d : Parts) (m sink : ℕ) (o : Option Net) → slice_get d.nets m ≡ o → IsSomeAnd o (λ n. sink < length n.sinks) → m < length d.nets
 has_sink d m sink None e h = absurd h
 has_sink d m sink (Some n) e h = slice_get_within d.nets m n e
 

@@ -1,5 +1,5 @@
 -- When no sum of an evaluation leaves its type.
-use Rattle.std.specs.Prelude.{ℕ, ◌^◌, ℤ, pos, ◌≤ℤ◌, List, IfSome}
+use Rattle.std.specs.Prelude.{ℕ, ◌^◌, true, pos, ◌≤ℤ◌, List, IfSome}
 use Rattle.std.specs.List.{All, slice_get}
 use Rattle.xt_model.specs.declared.quad.Quad.{Quad}
 use Rattle.xt_model.specs.declared.quad.Pair.{Pair}
@@ -27,9 +27,21 @@ pub record FitsWire (q : Quad) (wire : Range) : Type 0 where
   pub ordered : wire.least ≤ℤ wire.most
   pub high : wire.most ≤ℤ pos (2 ^ 47)
 
+-- the window at the input of an arc, where it is live, fits the wire before the arc
+abbrev pub FitsAtInput : Parts → Answers → Assignment → TimingArc → Type 0
+FitsAtInput d b W a = IsLive (W a.from.0 a.input) → FitsWire (W a.from.0 a.input) (wire_range b a.from.0 a.input a.sink (slice_get d.nets a.from.0))
+
+-- so it is at each arc of net number n, with these overlap answers
+pub record ReadsFitBy (d : Parts) (b : Answers) (W : Assignment) (n : ℕ) : Type 0 where
+  pub inputs : IfSome (slice_get d.nets n) (λ net. All (FitsAtInput d b W) net.arcs)
+
+-- the same where everything overlaps
+abbrev pub ReadsFit : Parts → Assignment → ℕ → Type 0
+ReadsFit d W n = ReadsFitBy d (λ m e k f. true) W n
+
 -- an arc whose references lead somewhere, whose words are there, and whose input window, where it is live, fits
 -- the wire before the arc
 pub record IsReady (has : ℕ → Type 0) (d : Parts) (b : Answers) (W : Assignment) (a : TimingArc) : Type 0 where
   pub sound : IsSoundArc d a
   pub words : HasVictim has d a.from.0
-  pub room : IsLive (W a.from.0 a.input) → FitsWire (W a.from.0 a.input) (wire_range b a.from.0 a.input a.sink (slice_get d.nets a.from.0))
+  pub room : FitsAtInput d b W a

@@ -10,7 +10,7 @@ ghost use Rattle.xt_meaning.specs.Operator.{load_range, operator, operator_by, w
 ghost use Rattle.xt_meaning.specs.Reads.{HoldsOfReads};
 ghost use Rattle.miller_bits.specs.Views.{HasNet, HasVictim, answers_by};
 ghost use Rattle.net_eval.specs.Arcs.{with_arc_at};
-ghost use Rattle.net_eval.specs.Room.{IsReady, ReadsWithinEnvelope};
+ghost use Rattle.net_eval.specs.Room.{IsReady, ReadsFit, ReadsFitBy, ReadsWithinEnvelope};
 
 use crate::arc::with_arc;
 use miller_bits::{Overlaps, load_range_by};
@@ -76,7 +76,7 @@ fn window_of<V: Bounds>(
 fn eval_by<V: Bounds>(design: &Design, overlaps: Overlaps, net: NetId, view: &V) -> Pair
     requires net { net.0 < length design.now.nets }
     requires words { HoldsOfReads (HasNet (V.has view.now)) design.now net.0 }
-    requires room { ReadsWithinEnvelope design.now (quads_of (V.bound_of view.now)) net.0 }
+    requires room { ReadsFitBy design.now (answers_by overlaps (V.bound_of view.now)) (quads_of (V.bound_of view.now)) net.0 }
     ensures rise { result.rise ≡ operator_by design.now (answers_by overlaps (V.bound_of view.now)) (quads_of (V.bound_of view.now)) net.0 Rise }
     ensures fall { result.fall ≡ operator_by design.now (answers_by overlaps (V.bound_of view.now)) (quads_of (V.bound_of view.now)) net.0 Fall }
     ensures range { IsPairInRange result }
@@ -98,6 +98,7 @@ pub fn eval<V: Bounds>(design: &Design, net: NetId, view: &V) -> Pair
     ensures fall { result.fall ≡ operator design.now (quads_of (V.bound_of view.now)) net.0 Fall }
     ensures range { IsPairInRange result }
 {
+    let _nets = design.nets();
     eval_by(design, Overlaps::OfWindows, net, view)
 }
 
@@ -105,7 +106,7 @@ pub fn eval<V: Bounds>(design: &Design, net: NetId, view: &V) -> Pair
 pub fn eval_widest<V: Bounds>(design: &Design, net: NetId, view: &V) -> Pair
     requires net { net.0 < length design.now.nets }
     requires words { HoldsOfReads (HasNet (V.has view.now)) design.now net.0 }
-    requires room { ReadsWithinEnvelope design.now (quads_of (V.bound_of view.now)) net.0 }
+    requires room { ReadsFit design.now (quads_of (V.bound_of view.now)) net.0 }
     ensures rise { result.rise ≡ widest_operator design.now (quads_of (V.bound_of view.now)) net.0 Rise }
     ensures fall { result.fall ≡ widest_operator design.now (quads_of (V.bound_of view.now)) net.0 Fall }
     ensures range { IsPairInRange result }

@@ -1,4 +1,4 @@
-use Rattle.std.proofs.Common.{◌∙◌, arith}
+use Rattle.std.proofs.Common.{arith}
 use Rattle.xt_model.specs.Assign.{quads_of}
 use Rattle.miller_bits.specs.Views.{answers_by}
 use Rattle.net_eval.proofs.Nets.{operator_is, source_is, source_in_range, own_words}

@@ -1,0 +1,5 @@
+pub mod Firsts
+pub mod Wires
+pub mod Agreement
+pub mod Turns
+pub mod Labels

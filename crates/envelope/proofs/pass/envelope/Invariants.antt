@@ -1,0 +1,5 @@
+use Rattle.envelope.proofs.Turns.{IsTestedPass}
+use Rattle.envelope.proofs.pass.envelope.Given as goal
+
+abbrev pub invariant-loop-net : goal.invariant-loop-net
+invariant-loop-net l = IsTestedPass l.design l.net-items l.windows l.net-index
