@@ -3,12 +3,14 @@
 
 mod fields;
 mod guilty;
+mod kind;
 mod mark;
 mod report;
 mod size;
 mod unconstrained;
 mod windows;
 
+pub use kind::ReportKind;
 pub use report::write_report;
 
 #[cfg(test)]

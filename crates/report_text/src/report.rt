@@ -1,15 +1,54 @@
-ghost use Rattle.std.specs.Prelude.{◌≡◌, ◌++◌, ℕ, [], length, OnOk, IfOk};
+ghost use Rattle.std.specs.Prelude.{◌≡◌, ◌++◌, ℕ, [], length, map, OnOk, IfOk};
 ghost use Rattle.xt_model.specs.Levels.{IsDepth, IsPairCount};
 ghost use Rattle.xt_meaning.specs.Lines.{text_of};
-ghost use Rattle.xt_meaning.specs.Report.{report};
+ghost use Rattle.xt_meaning.specs.Guilt.{guilty};
+ghost use Rattle.xt_meaning.specs.Report.{guilty_line, report, unless_checks, window_lines};
+ghost use Rattle.report_text.specs.Kinds.{of_checks};
 
 use crate::fields::push_word;
 use crate::guilty::push_guilty;
+use crate::kind::ReportKind;
 use crate::size::{push_clock, push_size, push_title};
 use crate::unconstrained::push_unconstrained;
 use crate::windows::push_windows;
 use std::alloc::{AllocError, Global};
 use xt_model::{Design, NoMemory, Windows};
+
+/// Appends the lines on windows, unless the report is of the checks alone.
+fn push_windows_of(
+    out: &mut Vec<u8>,
+    kind: ReportKind,
+    design: &Design,
+    low: &Windows,
+    high: &Windows,
+) -> Result<(), AllocError>
+    requires low { length low.now ≡ length design.now.nets }
+    requires high { length high.now ≡ length design.now.nets }
+    ensures { OnOk result (out.new.items ≡ out.old.items ++ text_of (unless_checks (of_checks kind) (window_lines low.now high.now 0 design.now.nets))) }
+{
+    if kind.is_of_checks() {
+        return Ok(());
+    }
+    push_windows(out, design.nets(), low, high)
+}
+
+/// Appends the lines on couplings, unless the report is of the checks alone.
+fn push_guilty_of(
+    out: &mut Vec<u8>,
+    kind: ReportKind,
+    design: &Design,
+    low: &Windows,
+    high: &Windows,
+) -> Result<(), AllocError>
+    requires low { length low.now ≡ length design.now.nets }
+    requires high { length high.now ≡ length design.now.nets }
+    ensures { OnOk result (out.new.items ≡ out.old.items ++ text_of (unless_checks (of_checks kind) (map (guilty_line design.now) (guilty design.now low.now high.now)))) }
+{
+    if kind.is_of_checks() {
+        return Ok(());
+    }
+    push_guilty(out, design, low, high)
+}
 
 /// Appends all lines: `pairs` of coupled nets, and `levels`.
 fn push_report(
@@ -19,38 +58,41 @@ fn push_report(
     levels: u32,
     low: &Windows,
     high: &Windows,
+    kind: ReportKind,
 ) -> Result<(), AllocError>
     requires pairs { IsPairCount design.now.nets pairs }
     requires levels { IsDepth design.now.nets levels }
     requires low { length low.now ≡ length design.now.nets }
     requires high { length high.now ≡ length design.now.nets }
-    ensures { OnOk result (out.new.items ≡ out.old.items ++ text_of (report design.now pairs levels low.now high.now)) }
+    ensures { OnOk result (out.new.items ≡ out.old.items ++ text_of (report (of_checks kind) design.now pairs levels low.now high.now)) }
 {
     push_title(out)?;
     push_size(out, design, pairs, levels)?;
     push_clock(out, design)?;
-    push_windows(out, design.nets(), low, high)?;
+    push_windows_of(out, kind, design, low, high)?;
     push_unconstrained(out, design.nets())?;
-    push_guilty(out, design, low, high)?;
+    push_guilty_of(out, kind, design, low, high)?;
     push_word(out, b"end", b'\n')?;
     Ok(())
 }
 
 /// The report of a design without checks and of its least and greatest windows, one pair a net, as
-/// text in lines. Takes time in proportion to the nets, the couplings and the bytes.
+/// text in lines, with the lines that its kind is to have. Takes time in proportion to the nets, the couplings and the bytes.
 pub fn write_report(
     alloc: Global,
     design: &Design,
     low: &Windows,
     high: &Windows,
+    kind: ReportKind,
 ) -> Result<Vec<u8>, NoMemory>
     requires low { length low.now ≡ length design.now.nets }
     requires high { length high.now ≡ length design.now.nets }
     requires no_checks { design.now.checks ≡ [] }
-    ensures { IfOk result (λ v. (pairs : ℕ) × (depth : ℕ) × IsPairCount design.now.nets pairs × IsDepth design.now.nets depth × (v.items ≡ text_of (report design.now pairs depth low.now high.now))) }
+    ensures { IfOk result (λ v. (pairs : ℕ) × (depth : ℕ) × IsPairCount design.now.nets pairs × IsDepth design.now.nets depth × (v.items ≡ text_of (report (of_checks kind) design.now pairs depth low.now high.now))) }
 {
     let mut out = Vec::new(alloc);
-    match push_report(&mut out, design, design.pairs(), design.levels(), low, high) {
+    let (pairs, levels) = (design.pairs(), design.levels());
+    match push_report(&mut out, design, pairs, levels, low, high, kind) {
         Ok(()) => Ok(out),
         Err(_) => Err(NoMemory),
     }

@@ -1,7 +1,7 @@
 ghost use Rattle.std.specs.Prelude.{◌≡◌, [], ◌∷◌, length, pos, true, IfOk};
 ghost use Rattle.xt_model.specs.Quads.{bottom};
 
-use super::write_report;
+use super::{ReportKind, write_report};
 use std::alloc::{AllocError, Global};
 use std::test::*;
 use xt_model::{BuildFault, Design, Name, Net, Pair, Quad, Row, Windows};
@@ -65,10 +65,17 @@ fn one_net(rt: HostRuntime) -> Result<(), Fail> {
     let alloc = rt.alloc();
     let design = steady_design(alloc).ok().ok_or("a source makes a design")?;
     let windows = steady_windows(alloc)?;
-    let text = write_report(alloc, &design, &windows, &windows)
+    let text = write_report(alloc, &design, &windows, &windows, ReportKind::All)
         .ok()
         .ok_or("there is memory")?;
     assert_eq!(rt; text.as_slice(), steady_report());
+    let of_checks = write_report(alloc, &design, &windows, &windows, ReportKind::Checks)
+        .ok()
+        .ok_or("there is memory")?;
+    assert_eq!(rt;
+        of_checks.as_slice(),
+        b"xtalk 1\nnets 1 couplings 0 pairs 0 levels 1 bound 1\nperiod none\nend\n".as_slice()
+    );
     Ok(())
 }
 
@@ -85,7 +92,7 @@ fn no_nets(rt: HostRuntime) -> Result<(), Fail> {
     .ok()
     .ok_or("no nets make a design")?;
     let windows = Windows::new(Vec::new(alloc));
-    let text = write_report(alloc, &design, &windows, &windows)
+    let text = write_report(alloc, &design, &windows, &windows, ReportKind::All)
         .ok()
         .ok_or("there is memory")?;
     assert_eq!(rt;
