@@ -1,5 +1,10 @@
 pub mod Pieces
+pub mod Within
 pub mod Causes
-pub mod Modest
 pub mod Turns
 pub mod Betweens
+pub mod Steps
+pub mod Once
+pub mod Taken
+pub mod Digits
+pub mod Asked

@@ -1,5 +1,5 @@
 -- Pieces that are written one after another.
-use Rattle.std.proofs.Common.{◌≡◌, ℕ, ◌+◌, ◌<◌, ◌≤◌, List, ◌++◌, length, take, Option, Some, None, Result, Ok, Err, OnOk, OnErr, refl, sym, ap, ◌∙◌, inl, inr, ⊎_elim, arith, append_assoc, length-append}
+use Rattle.std.proofs.Common.{◌≡◌, ℕ, ◌+◌, ◌<◌, ◌≤◌, List, ◌++◌, length, take, Option, Some, None, Result, Ok, Err, OnOk, OnErr, refl, sym, ap, ◌∙◌, inl, inr, arith, append_assoc, length-append}
 use Rattle.std.proofs.lemmas.List.{take-append-le}
 use Rattle.std.proofs.Math.Seq.{take-append-add, take-length}
 use Rattle.xtalk_top.specs.Lines.{Tells}
@@ -8,9 +8,6 @@ use Rattle.xt_io.specs.Outside.{Rose, appended, IsPrefixAppended}
 pub appended-append : (w : Option (List ℕ)) (a b : List ℕ) → appended (appended w a) b ≡ appended w (a ++ b)
 appended-append None a b = refl
 appended-append (Some w) a b = ap Some (append_assoc w a b)
-
-pub rose_later : (a b c : ℕ) → a ≤ b → Rose b c → Rose a c
-rose_later a b c h r = ⊎_elim (λ (l : b < c). inl (omega arith)) inr r
 
 -- a first part of the first piece is a first part of both
 pub prefix_of_first : (w v : Option (List ℕ)) (a b : List ℕ) → IsPrefixAppended w v a → IsPrefixAppended w v (a ++ b)

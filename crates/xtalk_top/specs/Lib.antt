@@ -1,3 +1,5 @@
 pub mod Words
+pub mod Reading
 pub mod Lines
+pub mod Limits
 pub mod Outcome

@@ -2,7 +2,6 @@
 #![tactic(auto)]
 
 mod answer;
-mod envelope;
 mod refusal;
 mod rounds;
 mod solving;
@@ -11,6 +10,7 @@ mod top;
 mod words;
 
 pub use top::xtalk;
+pub use words::{Job, WordsFault, parse_words};
 
 #[cfg(test)]
 mod tests;

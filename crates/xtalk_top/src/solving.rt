@@ -1,9 +1,10 @@
-ghost use Rattle.std.specs.Prelude.{◌≡◌, IfOk};
-ghost use Rattle.sound_parts.specs.FirstBounds.{IsWithinFirstBounds};
+ghost use Rattle.std.specs.Prelude.{IfOk};
+ghost use Rattle.xt_model.specs.declared.direction.Direction.TheVariants.{Narrow};
+ghost use Rattle.xt_meaning.specs.Barrier.{IsFittingStart};
 ghost use Rattle.xt_meaning.specs.Fixpoint.{IsLeastFixpoint, IsGreatestFixpoint};
 
-use crate::envelope::{envelope, quiet};
 use crate::rounds::settle;
+use envelope::quiet;
 use std::alloc::{AllocError, Global};
 use xt_model::{Design, Direction, Windows};
 
@@ -14,15 +15,15 @@ pub struct Solved {
     pub high: Windows,
 }
 
-/// Runs twice: wider from windows in which nothing switches, and narrower from the envelope.
-pub fn solve(alloc: Global, design: &Design) -> Result<Solved, AllocError>
-    requires { IsWithinFirstBounds design.now }
+/// Runs twice: wider from windows in which nothing switches, and narrower from `top`, the envelope.
+pub fn solve(alloc: Global, design: &Design, top: Windows) -> Result<Solved, AllocError>
+    requires { IsFittingStart Narrow design.now top }
     ensures least { IfOk result (λ solved. IsLeastFixpoint design.now solved.low) }
     ensures greatest { IfOk result (λ solved. IsGreatestFixpoint design.now solved.high) }
 {
     let mut low = quiet(alloc, design)?;
     settle(Direction::Widen, design, &mut low);
-    let mut high = envelope(alloc, design)?;
+    let mut high = top;
     settle(Direction::Narrow, design, &mut high);
     Ok(Solved { low, high })
 }
