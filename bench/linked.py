@@ -7,12 +7,11 @@ each wall time. The texts are made in a temporary folder, the same ones on each 
 
   hundred   100 nets, arcs forward in order of number, 100 couplings (50 pairs, each from both sides)
   thousand  1,000 nets like those, 1,000 couplings
+  tables    1,000 nets like those, with 20 tables of 64 slews by 64 loads
   chain     1,000 nets, each with one arc from the one before and a coupling to the next but one, so that the least
             windows are found from the end of the chain to its front, one overlap a round
-  megabyte  1,024 nets, couplings and tables, filled up with arcs to 1,048,576 bytes
-
-Counts of nets, couplings and tables are bounded by 1,024 each, those of arcs not so low: what limits the last text
-is the bound on its length, which it meets exactly (its last sink's name is made longer for that).
+  deep      200,000 nets, each with one arc from the one before, and no coupling
+  large     100,000 nets like the thousand, 100,000 couplings
 
 A line for each run has the name, bytes, nets, couplings, wall time in ms and peak memory in MB. The status must be 0
 and the report whole, else the script says so and ends with status 1. Needs Linux and Python 3.10 or later.
@@ -25,11 +24,6 @@ import tempfile
 import time
 from dataclasses import dataclass, field
 from pathlib import Path
-
-MOST_BYTES = 1_048_576
-MOST_PARTS = 1_024
-MOST_NAME = 2_049
-
 
 @dataclass
 class Net:
@@ -54,10 +48,12 @@ class Net:
 
 
 def linked(tables, nets):
-    """The linked text of a design whose tables have one value each."""
+    """The linked text of a design; a table is its slews, its loads, and its values row by row."""
     lines = ["xtalk-design 1", f"counts {len(tables)} {len(nets)} 0", "period none"]
-    for value in tables:
-        lines += ["table 1 1", "slews 0", "loads 0", f"row {value}"]
+    for slews, loads, rows in tables:
+        lines.append(f"table {len(slews)} {len(loads)}")
+        lines += [" ".join([word, *map(str, numbers)]) for word, numbers in (("slews", slews), ("loads", loads))]
+        lines += [" ".join(["row", *map(str, row)]) for row in rows]
     lines += [net.head() for net in nets]
     for net in nets:
         lines += net.body()
@@ -85,9 +81,20 @@ def arc_lines(rng, nets, number, tables):
     return [f"arc {source} {sink} {edges} {delay} {slew}" for edges in ("rise fall", "fall rise")]
 
 
+def constant(value):
+    return [0], [0], [[value]]
+
+
+def sloped(rng, lines):
+    """A table of so many slews by so many loads, whose values rise with both."""
+    steps = [rng.randint(0, 1_000) for _ in range(2 * lines)]
+    slews, loads = [2_000 * line for line in range(lines)], [1_500 * line for line in range(lines)]
+    rise = [sum(steps[:row]) for row in range(lines)], [sum(steps[lines : lines + column]) for column in range(lines)]
+    return slews, loads, [[5_000 + by_slew + by_load for by_load in rise[1]] for by_slew in rise[0]]
+
+
 def mixed(rng, count, couplings, tables):
     """Tables and nets: a tenth are sources, the others have one or two inverters before them."""
-    values = [rng.randint(5_000, 40_000) for _ in range(tables)]
     nets = [Net(f"n{number}", load=rng.randint(1_000, 20_000)) for number in range(count)]
     for number, net in enumerate(nets):
         for pin in range(rng.randint(1, 3)):
@@ -98,28 +105,12 @@ def mixed(rng, count, couplings, tables):
             net.given = [f"rise {window}", f"fall {window}"]
         else:
             for _ in range(rng.randint(1, 2)):
-                net.arcs += arc_lines(rng, nets, number, tables)
+                net.arcs += arc_lines(rng, nets, number, len(tables))
     couple(rng, nets, couplings)
-    return values, nets
+    return tables, nets
 
 
-def megabyte(rng):
-    values, nets = mixed(rng, MOST_PARTS, MOST_PARTS, MOST_PARTS)
-    size = len(linked(values, nets))
-    # Room is left for counts of arcs that get more digits, and is then taken by a name.
-    while size < MOST_BYTES - 2_000:
-        number = rng.randrange(len(nets) // 10, len(nets))
-        lines = arc_lines(rng, nets, number, len(values))
-        nets[number].arcs += lines
-        size += sum(len(line) + 1 for line in lines)
-    name, base, resistance = nets[-1].sinks[-1]
-    name += "x" * (MOST_BYTES - len(linked(values, nets)))
-    assert len(name) <= MOST_NAME
-    nets[-1].sinks[-1] = (name, base, resistance)
-    return values, nets
-
-
-def chain(count):
+def chain(count, coupled):
     # A slew of one wire and two gates: a net overlaps the next but one only if the wire between may be at its fastest
     # (or has no coupling, as at the end), so each overlap waits for the one behind it.
     wire, gate = 10_000, 20_000
@@ -127,14 +118,14 @@ def chain(count):
     nets = []
     for number in range(count):
         net = Net(f"n{number}", sinks=[(f"u{number}/A", 0, wire * 1_000)])
-        if number + 2 < count:
+        if coupled and number + 2 < count:
             net.couplings.append((number + 2, 1_000))
         if number == 0:
             net.given = [f"rise 0 0 {slew} {slew}", "fall quiet"]
         else:
             net.arcs.append(f"arc {number - 1} 0 rise rise 0 1")
         nets.append(net)
-    return [gate, slew], nets
+    return [constant(gate), constant(slew)], nets
 
 
 def measured(program, path):
@@ -161,12 +152,14 @@ def main():
     program = Path(sys.argv[1] if len(sys.argv) > 1 else here / "xtalk").resolve()
     rng = random.Random(1)
     designs = {
-        "hundred": mixed(rng, 100, 100, 100),
-        "thousand": mixed(rng, 1_000, 1_000, 1_000),
-        "chain": chain(1_000),
-        "megabyte": megabyte(rng),
+        "hundred": mixed(rng, 100, 100, [constant(rng.randint(5_000, 40_000)) for _ in range(100)]),
+        "thousand": mixed(rng, 1_000, 1_000, [constant(rng.randint(5_000, 40_000)) for _ in range(1_000)]),
+        "tables": mixed(rng, 1_000, 1_000, [sloped(rng, 64) for _ in range(20)]),
+        "chain": chain(1_000, True),
+        "deep": chain(200_000, False),
+        "large": mixed(rng, 100_000, 100_000, [constant(rng.randint(5_000, 40_000)) for _ in range(1_000)]),
     }
-    print(f"{'name':9}{'bytes':>9}{'nets':>6}{'couplings':>10}{'ms':>9}{'MB':>7}")
+    print(f"{'name':9}{'bytes':>11}{'nets':>8}{'couplings':>10}{'ms':>9}{'MB':>7}")
     with tempfile.TemporaryDirectory() as folder:
         for name, (tables, nets) in designs.items():
             path = Path(folder, f"{name}.xt")
@@ -179,7 +172,7 @@ def main():
             if status != 0 or not report.startswith(sizes) or not report.endswith(b"\nend\n"):
                 sys.exit(f"{name}: status {status}, {len(report)} bytes of report: {faults.decode().strip()}")
             size = path.stat().st_size
-            print(f"{name:9}{size:9}{len(nets):6}{couplings:10}{seconds * 1e3:9.1f}{peak / 1e6:7.1f}", flush=True)
+            print(f"{name:9}{size:11}{len(nets):8}{couplings:10}{seconds * 1e3:9.1f}{peak / 1e6:7.1f}", flush=True)
 
 
 if __name__ == "__main__":

@@ -1,0 +1,519 @@
+#!/usr/bin/env python3
+"""An independent judge of `xtalk solve`, slow and plain, that shares nothing with the program.
+
+    plain.py solve WORDS..   prints what the program has to print and ends with its status
+    plain.py slow WORDS..    the same, with every small box of a table looked at point by point
+    plain.py selftest [N]    compares the short cuts taken here with plain counting, N times
+
+Times are whole femtoseconds, capacitances whole attofarads, and a wire's products whole
+milliohm attofarads. There are whole numbers only, and each division is an exact floor.
+An edge is 0 where it rises and 1 where it falls. An assignment is a list with one entry
+per net, which is a pair of quads: that of the rising edge and that of the falling one.
+"""
+
+import os
+import random
+import sys
+from collections import namedtuple
+
+Quad = namedtuple("Quad", "tlo thi slo shi")
+Table = namedtuple("Table", "slews loads rows")
+Coupling = namedtuple("Coupling", "to cap")
+Sink = namedtuple("Sink", "name base coefs")
+Arc = namedtuple("Arc", "source sink input output delay slew")
+Net = namedtuple("Net", "name kind load given couplings sinks arcs")
+Design = namedtuple("Design", "period tables nets")
+Verdict = namedtuple("Verdict", "design envelope passed low high")
+
+EDGES = ("rise", "fall")
+BOTH = (0, 1)
+END = 2**62
+BOTTOM = Quad(END, -END, END, -END)
+QUIET = (BOTTOM, BOTTOM)
+
+MOST_BYTES, MOST_NAME, MOST_GRID, SMALL_BOX = 2**28, 2049, 64, 20_000
+MOST_NETS, MOST_TABLES, MOST_COUPLINGS = 2**18, 2**18, 2**20
+MOST_COEFS, MOST_ARCS, MOST_READS = 2**24, 2**22, 2**27
+MOST_TIME, MOST_SLEW, MOST_CAP, MOST_WIRE, MOST_ENTRY = 2**46, 2**40, 2**46, 2**102, 2**40
+
+look_at_all_points = False
+
+def line(*fields):
+    """One line of a text, its fields parted by single spaces."""
+    return " ".join(map(str, fields)) + "\n"
+
+def linked(design):
+    """The text of a design: every design has exactly one."""
+    text = [line("xtalk-design", 1), line("counts", len(design.tables), len(design.nets), 0)]
+    text.append(line("period", "none" if design.period is None else design.period))
+    for table in design.tables:
+        text.append(line("table", len(table.slews), len(table.loads)))
+        text.append(line("slews", *table.slews))
+        text.append(line("loads", *table.loads))
+        text.extend(line("row", *row) for row in table.rows)
+    for net in design.nets:
+        sizes = len(net.couplings), len(net.sinks), len(net.arcs)
+        text.append(line("net", net.name, net.kind, net.load, *sizes))
+    for net in design.nets:
+        for edge in BOTH if not net.arcs else ():
+            quad = net.given[edge]
+            text.append(line(EDGES[edge], *(["quiet"] if quad == BOTTOM else quad)))
+        text.extend(line("couple", *coupling) for coupling in net.couplings)
+        text.extend(line("sink", sink.name, sink.base, *sink.coefs) for sink in net.sinks)
+        for arc in net.arcs:
+            edges = EDGES[arc.input], EDGES[arc.output]
+            text.append(line("arc", arc.source, arc.sink, *edges, arc.delay, arc.slew))
+    return "".join(text) + line("end")
+
+def guess(text):
+    """The only design that the text can be of; ValueError or IndexError where none can be."""
+    lines = text.split("\n")
+    lines.reverse()
+
+    def fields(word):
+        first, *rest = lines.pop().split(" ")
+        if first != word:
+            raise ValueError
+        return rest
+
+    def numbers(word):
+        return [int(field) for field in fields(word)]
+
+    def given_quad(edge):
+        rest = fields(edge)
+        if rest == ["quiet"]:
+            return BOTTOM
+        tlo, thi, slo, shi = map(int, rest)
+        return Quad(tlo, thi, slo, shi)
+
+    fields("xtalk-design")
+    tables_count, nets_count, _ = numbers("counts")
+    (period,) = fields("period")
+    tables, nets = [], []
+    for _ in range(tables_count):
+        row_count, _ = numbers("table")
+        slews, loads = numbers("slews"), numbers("loads")
+        tables.append(Table(slews, loads, [numbers("row") for _ in range(row_count)]))
+    heads = [fields("net") for _ in range(nets_count)]
+    for name, kind, load, coupling_count, sink_count, arc_count in heads:
+        source = int(arc_count) == 0
+        given = tuple(given_quad(edge) for edge in EDGES) if source else QUIET
+        couplings, sinks, arcs = [], [], []
+        for _ in range(int(coupling_count)):
+            to, cap = numbers("couple")
+            couplings.append(Coupling(to, cap))
+        for _ in range(int(sink_count)):
+            sink_name, base, *coefs = fields("sink")
+            sinks.append(Sink(sink_name, int(base), [int(coef) for coef in coefs]))
+        for _ in range(int(arc_count)):
+            feeder, sink, before, after, delay, slew = fields("arc")
+            ends = EDGES.index(before), EDGES.index(after)
+            arcs.append(Arc(int(feeder), int(sink), *ends, int(delay), int(slew)))
+        nets.append(Net(name, kind, int(load), given, couplings, sinks, arcs))
+    return Design(None if period == "none" else int(period), tables, nets)
+
+def read_linked(data):
+    """The design whose linked text these bytes are, or None where there is no such design."""
+    text = data.decode("latin-1")
+    try:
+        design = guess(text)
+    except (ValueError, IndexError):
+        return None
+    return design if sound(design) and linked(design) == text else None
+
+def sound_name(name):
+    """Whether a name has a fit length and visible characters alone."""
+    return 1 <= len(name) <= MOST_NAME and all("!" <= letter <= "~" for letter in name)
+
+def sound_table(table):
+    """Whether both axes rise strictly, the grid of values is full and all numbers are in range."""
+    slews, loads, rows = table
+    return (
+        1 <= len(slews) == len(rows) <= MOST_GRID
+        and 1 <= len(loads) <= MOST_GRID
+        and all(len(row) == len(loads) for row in rows)
+        and all(a < b for axis in (slews, loads) for a, b in zip(axis, axis[1:]))
+        and all(abs(x) <= MOST_ENTRY for numbers in (slews, loads, *rows) for x in numbers)
+    )
+
+def sound_net(design, number):
+    """Whether a net keeps its ranges and names only what the design has."""
+    net, nets, tables = design.nets[number], design.nets, design.tables
+    return (
+        net.kind in ("i", "w")
+        and all(map(sound_name, [net.name, *(sink.name for sink in net.sinks)]))
+        and all(-MOST_TIME <= q.tlo <= q.thi <= MOST_TIME and 0 <= q.slo <= q.shi <= MOST_SLEW
+                for q in net.given if q != BOTTOM)
+        and all(0 <= c.to < len(nets) and c.to != number and c.cap >= 0 for c in net.couplings)
+        and net.load >= 0
+        and net.load + sum(2 * c.cap for c in net.couplings) <= MOST_CAP
+        and all(len(sink.coefs) == len(net.couplings) for sink in net.sinks)
+        and all(0 <= x <= MOST_WIRE for sink in net.sinks for x in [sink.base, *sink.coefs])
+        and all(0 <= arc.source < len(nets) for arc in net.arcs)
+        and all(0 <= arc.sink < len(nets[arc.source].sinks) for arc in net.arcs)
+        and all(0 <= t < len(tables) for arc in net.arcs for t in (arc.delay, arc.slew))
+    )
+
+def reads(nets):
+    """How many nets are looked at when each net with arcs is evaluated once."""
+    return sum(
+        1 + len(net.couplings) + sum(1 + len(nets[arc.source].couplings) for arc in net.arcs)
+        for net in nets
+        if net.arcs
+    )
+
+def levels(nets):
+    """The length of the longest chain of nets that ends at each net; None where arcs go round."""
+    level = [1] * len(nets)
+    awaited = [len(net.arcs) for net in nets]
+    fed = [[] for _ in nets]
+    for number, net in enumerate(nets):
+        for arc in net.arcs:
+            fed[arc.source].append(number)
+    known = [number for number, net in enumerate(nets) if not net.arcs]
+    for number in known:
+        for reader in fed[number]:
+            level[reader] = max(level[reader], level[number] + 1)
+            awaited[reader] -= 1
+            if awaited[reader] == 0:
+                known.append(reader)
+    return level if len(known) == len(nets) else None
+
+def sound(design):
+    """Whether the parts of a design fit together and none of them is more than is taken."""
+    nets = design.nets
+    return (
+        (design.period is None or 1 <= design.period <= MOST_ENTRY)
+        and len(design.tables) <= MOST_TABLES
+        and len(nets) <= MOST_NETS
+        and all(map(sound_table, design.tables))
+        and len({net.name for net in nets}) == len(nets)
+        and all(sound_net(design, number) for number in range(len(nets)))
+        and sum(len(net.couplings) for net in nets) <= MOST_COUPLINGS
+        and sum(len(net.couplings) * len(net.sinks) for net in nets) <= MOST_COEFS
+        and sum(len(net.arcs) for net in nets) <= MOST_ARCS
+        and reads(nets) <= MOST_READS
+        and levels(nets) is not None
+    )
+
+def axis_weights(axis, place):
+    """The grid lines from which a place of an axis is read, their weights, and the cell's width."""
+    place = min(max(place, axis[0]), axis[-1])
+    if len(axis) == 1:
+        return [(0, 1)], 1
+    low = max(k for k in range(len(axis) - 1) if axis[k] <= place)
+    weights = [(low, axis[low + 1] - place), (low + 1, place - axis[low])]
+    return weights, axis[low + 1] - axis[low]
+
+def table_value(table, slew, load):
+    """The bilinear value of a table at one point, rounded down once at the end."""
+    by_slew, height = axis_weights(table.slews, slew)
+    by_load, width = axis_weights(table.loads, load)
+    total = sum(a * b * table.rows[i][j] for i, a in by_slew for j, b in by_load)
+    return total // (height * width)
+
+def range_over_points(table, s0, s1, c0, c1):
+    """The least and the greatest value of a table in a box, found by looking at every point."""
+    points = ((s, c) for s in range(s0, s1 + 1) for c in range(c0, c1 + 1))
+    values = [table_value(table, s, c) for s, c in points]
+    return min(values), max(values)
+
+def range_over_corners(table, s0, s1, c0, c1):
+    """The same range, from the corners of the pieces into which the grid lines cut the box."""
+    # In a piece the exact value is linear in either variable alone. So from any point one can
+    # walk to a side and along it to a corner without the value falling, and likewise without
+    # its rising. Corners are whole points, rounding down keeps the order of values, and
+    # beyond the ends of an axis the value does not change.
+    at_slews = {s0, s1, *(s for s in table.slews if s0 < s < s1)}
+    at_loads = {c0, c1, *(c for c in table.loads if c0 < c < c1)}
+    values = [table_value(table, s, c) for s in at_slews for c in at_loads]
+    return min(values), max(values)
+
+def table_range(table, s0, s1, c0, c1):
+    """The least and the greatest value of a table over all whole points of a box."""
+    if look_at_all_points and (s1 - s0 + 1) * (c1 - c0 + 1) <= SMALL_BOX:
+        return range_over_points(table, s0, s1, c0, c1)
+    return range_over_corners(table, s0, s1, c0, c1)
+
+def live(quad):
+    """Whether a quad admits any transition at all."""
+    return quad.tlo <= quad.thi and quad.slo <= quad.shi
+
+def join(quad, other):
+    """The smallest quad around two quads."""
+    return Quad(min(quad.tlo, other.tlo), max(quad.thi, other.thi),
+                min(quad.slo, other.slo), max(quad.shi, other.shi))
+
+def active_range(quad):
+    """From when to when a net may be switching: half a slew, rounded up, on both sides."""
+    half = -(-quad.shi // 2)
+    return quad.tlo - half, quad.thi + half
+
+def overlap(quad, other):
+    """Whether two nets may be switching at one moment; what never switches meets nothing."""
+    if not (live(quad) and live(other)):
+        return False
+    (a0, a1), (b0, b1) = active_range(quad), active_range(other)
+    return a0 <= b1 and b0 <= a1
+
+def overlap_in(windows):
+    """The overlap answers of an assignment: does edge e of net n meet edge f of net a?"""
+    return lambda n, e, a, f: overlap(windows[n][e], windows[a][f])
+
+def all_overlap(n, e, a, f):
+    """The overlap answers of the worst case, in which everything meets everything."""
+    return True
+
+def miller_factors(design, meets, n, e):
+    """The least and the greatest factor per coupling: along undoes it, against doubles it."""
+    couplings = design.nets[n].couplings
+    least = [0 if meets(n, e, coupling.to, e) else 1 for coupling in couplings]
+    greatest = [2 if meets(n, e, coupling.to, 1 - e) else 1 for coupling in couplings]
+    return least, greatest
+
+def load_range(design, meets, n, e):
+    """The least and the greatest capacitance that the driver of a net sees."""
+    net = design.nets[n]
+    sides = miller_factors(design, meets, n, e)
+    return [net.load + sum(m * c.cap for m, c in zip(side, net.couplings)) for side in sides]
+
+def wire_range(design, meets, n, e, sink):
+    """The least and the greatest Elmore delay from a net's driver to one of its sinks."""
+    _, base, coefs = design.nets[n].sinks[sink]
+    sides = miller_factors(design, meets, n, e)
+    return [(base + sum(m * coef for m, coef in zip(side, coefs))) // 10**6 for side in sides]
+
+def slew_growth(wire):
+    """By how much a wire of that delay slows an edge down."""
+    return 11 * wire // 5
+
+def arrival_and_box(design, windows, meets, n, arc):
+    """The arrival times at an arc's input pin, and the box in which its tables are read."""
+    quad = windows[arc.source][arc.input]
+    w0, w1 = wire_range(design, meets, arc.source, arc.input, arc.sink)
+    c0, c1 = load_range(design, meets, n, arc.output)
+    box = quad.slo + slew_growth(w0), quad.shi + slew_growth(w1), c0, c1
+    return quad.tlo + w0, quad.thi + w1, box
+
+def contribution(design, windows, meets, n, arc):
+    """The quad that one arc alone gives its output net."""
+    earliest, latest, box = arrival_and_box(design, windows, meets, n, arc)
+    d0, d1 = table_range(design.tables[arc.delay], *box)
+    s0, s1 = table_range(design.tables[arc.slew], *box)
+    return Quad(earliest + d0, latest + d1, max(s0, 0), max(s1, 0))
+
+def evaluate(design, windows, meets, n):
+    """The windows of one net, computed from an assignment and from overlap answers."""
+    net = design.nets[n]
+    if not net.arcs:
+        return net.given
+    quads = [BOTTOM, BOTTOM]
+    for arc in net.arcs:
+        if live(windows[arc.source][arc.input]):
+            quad = contribution(design, windows, meets, n, arc)
+            quads[arc.output] = join(quads[arc.output], quad)
+    return tuple(quads)
+
+def operator(design, windows):
+    """The window operator: all nets at once, from one and the same assignment."""
+    meets = overlap_in(windows)
+    return [evaluate(design, windows, meets, n) for n in range(len(design.nets))]
+
+def fixpoint(design, windows):
+    """The assignment at which the operator, applied again and again, comes to rest."""
+    while True:
+        after = operator(design, windows)
+        if after == windows:
+            return windows
+        windows = after
+
+def nothing(design):
+    """The assignment in which no net ever switches."""
+    return [QUIET] * len(design.nets)
+
+def level_order(design):
+    """The nets by level, those of one level by number."""
+    level = levels(design.nets)
+    return sorted(range(len(design.nets)), key=lambda n: (level[n], n))
+
+def envelope(design):
+    """The windows if everything overlapped, found level by level."""
+    windows = nothing(design)
+    for n in level_order(design):
+        windows[n] = evaluate(design, windows, all_overlap, n)
+    return windows
+
+def limit_tests(design, windows, n):
+    """What is held against a limit at one net, in order: test, kind of limit, value, passed."""
+    for e in BOTH:
+        quad = windows[n][e]
+        if not live(quad):
+            continue
+        yield "tlo", "time", quad.tlo, abs(quad.tlo) > MOST_TIME
+        yield "thi", "time", quad.thi, abs(quad.thi) > MOST_TIME
+        yield "shi", "slew", quad.shi, quad.shi > MOST_SLEW
+        for sink in range(len(design.nets[n].sinks)):
+            _, wire = wire_range(design, all_overlap, n, e, sink)
+            arrival, slew = quad.thi + wire, quad.shi + slew_growth(wire)
+            yield "arrival at a sink", "time", arrival, abs(arrival) > MOST_TIME
+            yield "slew at a sink", "slew", slew, slew > MOST_SLEW
+
+def first_past_limit(design, windows):
+    """The first test that an envelope fails, as test, kind of limit, net and value, or None."""
+    for n in level_order(design):
+        for test, kind, value, passed in limit_tests(design, windows, n):
+            if passed:
+                return test, kind, design.nets[n].name, value
+    return None
+
+def thousandths(number):
+    """A whole number of thousandths, written with three decimals."""
+    sign = "-" if number < 0 else ""
+    return f"{sign}{abs(number) // 1000}.{abs(number) % 1000:03d}"
+
+def coupled_pairs(nets):
+    """How many pairs of nets are coupled, from whichever side."""
+    return len({frozenset((n, c.to)) for n, net in enumerate(nets) for c in net.couplings})
+
+def guilt_mark(low, high, n, e, a, f):
+    """How certain it is that two edges meet: in the least windows, in the greatest alone, never."""
+    if overlap_in(low)(n, e, a, f):
+        return "sure"
+    return "possible" if overlap_in(high)(n, e, a, f) else "no"
+
+def guilty_lines(nets, low, high):
+    """The couplings that may change a victim's timing, by net, edge and coupling."""
+    for n, net in enumerate(nets):
+        for e in BOTH:
+            for coupling in net.couplings:
+                fast = guilt_mark(low, high, n, e, coupling.to, e)
+                slow = guilt_mark(low, high, n, e, coupling.to, 1 - e)
+                if (fast, slow) != ("no", "no"):
+                    who = net.name, EDGES[e], nets[coupling.to].name, thousandths(coupling.cap)
+                    yield line("guilty", *who, "fast", fast, "slow", slow)
+
+def report(design, low, high, kind="all"):
+    """The text that stands for a design without checks and its two extreme fixpoints."""
+    nets, period = design.nets, design.period
+    depth, pairs = max(levels(nets), default=0), coupled_pairs(nets)
+    entries = sum(len(net.couplings) for net in nets)
+    text = [line("xtalk", 1)]
+    text.append(line("nets", len(nets), "couplings", entries, "pairs", pairs, "levels", depth,
+                     "bound", (4 * pairs + 1) * depth))
+    text.append(line("period", "none" if period is None else thousandths(period)))
+    for n, net in enumerate(nets):
+        for e in BOTH if kind == "all" else ():
+            if live(low[n][e]):
+                least, greatest = map(thousandths, low[n][e]), map(thousandths, high[n][e])
+                text.append(line("net", net.name, EDGES[e], "least", *least, "greatest", *greatest))
+            else:
+                text.append(line("net", net.name, EDGES[e], "quiet"))
+    for net in nets:
+        if net.kind == "i" and not any(map(live, net.given)):
+            text.append(line("unconstrained", net.name))
+    if kind == "all":
+        text.extend(guilty_lines(nets, low, high))
+    return "".join(text) + line("end")
+
+def judge(data):
+    """The verdict on the bytes of a file: the design and its windows, as far as one comes."""
+    design = read_linked(data)
+    if design is None:
+        return Verdict(None, None, None, None, None)
+    top = envelope(design)
+    passed = first_past_limit(design, top)
+    if passed:
+        return Verdict(design, top, passed, None, None)
+    return Verdict(design, top, None, fixpoint(design, nothing(design)), fixpoint(design, top))
+
+def answer(file, verdict, kind="all"):
+    """Status, standard output and standard error that a verdict on a file asks for."""
+    if verdict.design is None:
+        return 3, "", f"{file}:1: X9\n"
+    if verdict.passed:
+        _, kind, net, value = verdict.passed
+        return 5, "", line("limit:", kind, net, value)
+    return 0, report(verdict.design, verdict.low, verdict.high, kind), ""
+
+def job(words):
+    """The file and the kind of report that a command line asks for, or None."""
+    files, said, rest = [], {}, list(words[1:])
+    while rest:
+        word = rest.pop(0)
+        name, equals, value = word.partition("=")
+        if name not in ("--workers", "--kind"):
+            files.append(word)
+            continue
+        value = value if equals else rest.pop(0) if rest else ""
+        if name in said or not plain_word(value):
+            return None
+        said[name] = value
+    workers, kind = said.get("--workers", "1"), said.get("--kind", "all")
+    digits = 1 <= len(workers) <= 20 and all("0" <= letter <= "9" for letter in workers)
+    if words[:1] != ["solve"] or len(files) != 1 or not plain_word(files[0]):
+        return None
+    return (files[0], kind) if digits and 1 <= int(workers) <= 64 and kind in ("all", "checks") else None
+
+def plain_word(word):
+    """Whether a word can be a file or a value."""
+    return word != "" and not word.startswith("-")
+
+def outcome(words):
+    """Status, standard output and standard error of the program on its command line."""
+    asked = job(words)
+    if asked is None:
+        return 2, "", "xtalk: bad command line\n"
+    name, kind = asked
+    try:
+        with open(name, "rb") as file:
+            data = file.read(MOST_BYTES + 1)
+    except OSError:
+        return 6, "", f"read fault: {name}\n"
+    if len(data) > MOST_BYTES:
+        return 5, "", line("limit:", "file", name, MOST_BYTES + 1)
+    return answer(name, judge(data), kind)
+
+def selftest(times):
+    """Compares what is computed by a short cut with what plain counting gives."""
+    steep = Table([0, 100000], [0, 10000], [[10000, 30000], [20000, 60000]])
+    assert table_value(steep, 50000, 5000) == 30000 and table_value(steep, 250000, 5000) == 40000
+    assert table_range(steep, 0, 100000, 5000, 5000) == (20000, 40000)
+    assert table_range(Table([0, 10, 20], [0], [[5], [1], [9]]), 0, 20, 0, 0) == (1, 9)
+    inner, rng = 0, random.Random(1)
+    for _ in range(times):
+        slews = sorted(rng.sample(range(-9, 14), rng.randint(1, 4)))
+        loads = sorted(rng.sample(range(-9, 14), rng.randint(1, 4)))
+        table = Table(slews, loads, [[rng.randint(-30, 30) for _ in loads] for _ in slews])
+        (s0, s1), (c0, c1) = (sorted(rng.randint(-12, 16) for _ in BOTH) for _ in BOTH)
+        by_points = range_over_points(table, s0, s1, c0, c1)
+        assert by_points == range_over_corners(table, s0, s1, c0, c1), (table, s0, s1, c0, c1)
+        box_ends = [table_value(table, s, c) for s in (s0, s1) for c in (c0, c1)]
+        inner += by_points != (min(box_ends), max(box_ends))
+        a, b = (Quad(t, t + rng.randint(-1, 4), 0, rng.randint(-1, 5))
+                for t in (rng.randint(0, 12), rng.randint(0, 12)))
+        wide = [q.shi + q.shi % 2 if live(q) else -99 for q in (a, b)]
+        moments = [{*range(2 * q.tlo - w, 2 * q.thi + w + 1)} for q, w in zip((a, b), wide)]
+        assert overlap(a, b) == bool(moments[0] & moments[1]), (a, b)
+    print(f"selftest: {times} tables agree, {inner} with an extreme at no corner of the box")
+
+def main(words):
+    """Runs one command line and gives its status."""
+    global look_at_all_points
+    if words[:1] == ["selftest"]:
+        selftest(int(words[1]) if words[1:] else 3000)
+        return 0
+    if words[:1] == ["slow"]:
+        look_at_all_points, words = True, ["solve", *words[1:]]
+    if any("\udc80" <= letter <= "\udcff" for word in words for letter in word):
+        return 9
+    status, out, err = outcome(words)
+    try:
+        sys.stdout.buffer.write(os.fsencode(out))
+        sys.stdout.buffer.flush()
+    except OSError:
+        status, err = 7, "write fault\n"
+    sys.stderr.buffer.write(os.fsencode(err))
+    return status
+
+if __name__ == "__main__":
+    sys.exit(main(sys.argv[1:]))
