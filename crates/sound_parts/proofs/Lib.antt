@@ -1,2 +1,2 @@
-pub mod Indexed
-pub mod Seen
+mod Indexed
+mod Seen

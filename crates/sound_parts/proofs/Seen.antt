@@ -1,5 +1,5 @@
--- A set of the names of the first nets: what it has, what one more name changes, and what a name that is
--- there already tells.
+-- A set of the names of the first nets: what it has, what one more name changes, and what follows from a name
+-- that is there already.
 use Rattle.std.proofs.Common.{◌≡◌, ◌≢◌, ℕ, ◌+◌, ◌<◌, ◌≤◌, Bool, true, false, cond, List, length, Some, inl, inr, refl, sym, ap, ◌∙◌, arith}
 use Rattle.std.specs.List.{slice_get}
 use Rattle.std.specs.Str.{bytes_eq}
@@ -10,7 +10,7 @@ use Rattle.std.specs.Option.{unwrap_or}
 use Rattle.xt_model.specs.declared.net.Net.{Net}
 use Rattle.xt_model.specs.Sound.{HasOwnNames}
 
--- `has` tells of a key whether its bytes, `now`, are the name of one of the first `count` nets
+-- `has` is whether the bytes of a key, `now`, are the name of one of the first `count` nets
 pub record IsSeen {K : Type 0} (now : K → List ℕ) (nets : List Net) (count : ℕ) (has : K → Bool) : Type 0 where
   pub every : (k : ℕ) (n : Net) (q : K) → k < count → slice_get nets k ≡ Some n → n.name ≡ now q → has q ≡ true
   pub only : (q : K) → has q ≡ true → (k : ℕ) × (n : Net) × (k < count) × (slice_get nets k ≡ Some n) × (n.name ≡ now q)

@@ -2,14 +2,12 @@ ghost use Rattle.std.specs.Prelude.{◌↔◌, IsTrue};
 ghost use Rattle.xt_model.specs.Sound.{IsDelayOption, IsSoundCheck, IsTableOption};
 
 use crate::net::{has_sink, is_name};
-use crate::parts::PartsView;
 use crate::range::is_between;
-use xt_model::CheckPoint;
-
-const LARGEST_DELAY: i64 = 1 << 40;
+use xt_model::limits::MOST_DELAY;
+use xt_model::{CheckPoint, DesignParts};
 
 /// Whether the constraint table of a check, where it has one, is there.
-fn is_table_option(parts: &PartsView, table: Option<u32>) -> bool
+fn is_table_option(parts: &DesignParts, table: Option<u32>) -> bool
     ensures { IsTrue result ↔ IsTableOption parts.now table }
 {
     match table {
@@ -23,13 +21,13 @@ fn is_delay_option(delay: Option<i64>) -> bool
     ensures { IsTrue result ↔ IsDelayOption delay }
 {
     match delay {
-        Some(delay) => is_between(-LARGEST_DELAY, LARGEST_DELAY, delay),
+        Some(delay) => is_between(-MOST_DELAY, MOST_DELAY, delay),
         None => true,
     }
 }
 
 /// Whether the sinks and tables of a check are there and its delays are in range.
-pub(crate) fn is_sound_check(parts: &PartsView, check: &CheckPoint) -> bool
+pub(crate) fn is_sound_check(parts: &DesignParts, check: &CheckPoint) -> bool
     ensures { IsTrue result ↔ IsSoundCheck parts.now check.now }
 {
     match check {

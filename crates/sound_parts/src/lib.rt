@@ -8,7 +8,6 @@ mod given;
 mod limits;
 mod names;
 mod net;
-mod parts;
 mod range;
 mod sound;
 #[cfg(test)]

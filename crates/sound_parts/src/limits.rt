@@ -2,22 +2,10 @@ ghost use Rattle.std.specs.Prelude.{◌≡◌, ◌↔◌, ◌-◌, ◌^◌, IsTr
 ghost use Rattle.std.specs.List.{sum_by};
 ghost use Rattle.xt_model.specs.Sound.{IsWithinLimits, coefficients_of, couplings_at, reads_by, reads_of};
 
-use crate::parts::PartsView;
-use xt_model::{Net, NetId, TimingArc};
-
-const MOST_NETS: usize = 262_144;
-
-const MOST_TABLES: usize = 262_144;
-
-const MOST_CHECKS: usize = 1_048_576;
-
-const MOST_COUPLINGS: usize = 1_048_576;
-
-const MOST_COEFFICIENTS: usize = 16_777_216;
-
-const MOST_ARCS: usize = 4_194_304;
-
-const MOST_READS: usize = 134_217_728;
+use xt_model::limits::{
+    MOST_ARCS, MOST_CHECKS, MOST_COEFFICIENTS, MOST_COUPLINGS, MOST_NETS, MOST_READS, MOST_TABLES,
+};
+use xt_model::{DesignParts, Net, NetId, TimingArc};
 
 /// How many couplings the nets have in all, at most the greatest `usize`.
 fn couplings_in_all(nets: &[Net]) -> usize
@@ -53,10 +41,10 @@ fn arcs_in_all(nets: &[Net]) -> usize
 }
 
 /// How many couplings the net of this number has, 0 where there is no such net.
-fn couplings_at(parts: &PartsView, net: NetId) -> usize
+fn couplings_at(parts: &DesignParts, net: NetId) -> usize
     ensures { result ≡ couplings_at parts.now net.0 }
 {
-    match parts.nets.get(net.0 as usize) {
+    match parts.nets.as_slice().get(net.0 as usize) {
         Some(net) => net.couplings.len(),
         None => 0,
     }
@@ -64,7 +52,7 @@ fn couplings_at(parts: &PartsView, net: NetId) -> usize
 
 /// How many nets and couplings one evaluation of a net with `own` couplings and these arcs looks at, at
 /// most the greatest `usize`. A source looks at none.
-fn reads_by(parts: &PartsView, own: usize, arcs: &[TimingArc]) -> usize
+fn reads_by(parts: &DesignParts, own: usize, arcs: &[TimingArc]) -> usize
     ensures { result ≡ min (reads_by parts.now own arcs.now) (2 ^ 64 - 1) }
 {
     if arcs.is_empty() {
@@ -79,11 +67,11 @@ fn reads_by(parts: &PartsView, own: usize, arcs: &[TimingArc]) -> usize
 }
 
 /// How many nets and couplings one evaluation of every net looks at, at most the greatest `usize`.
-fn reads_in_all(parts: &PartsView) -> usize
+fn reads_in_all(parts: &DesignParts) -> usize
     ensures { result ≡ min (sum_by (reads_of parts.now) parts.now.nets) (2 ^ 64 - 1) }
 {
     let mut total: usize = 0;
-    for net in parts.nets {
+    for net in parts.nets.as_slice() {
         let reads = reads_by(parts, net.couplings.len(), net.arcs.as_slice());
         total = total.saturating_add(reads);
     }
@@ -91,14 +79,14 @@ fn reads_in_all(parts: &PartsView) -> usize
 }
 
 /// Whether the parts pass no limit on the size of a design.
-pub(crate) fn is_within_limits(parts: &PartsView) -> bool
+pub(crate) fn is_within_limits(parts: &DesignParts) -> bool
     ensures { IsTrue result ↔ IsWithinLimits parts.now }
 {
     parts.nets.len() <= MOST_NETS
         && parts.tables.len() <= MOST_TABLES
         && parts.checks.len() <= MOST_CHECKS
-        && couplings_in_all(parts.nets) <= MOST_COUPLINGS
-        && coefficients_in_all(parts.nets) <= MOST_COEFFICIENTS
-        && arcs_in_all(parts.nets) <= MOST_ARCS
+        && couplings_in_all(parts.nets.as_slice()) <= MOST_COUPLINGS
+        && coefficients_in_all(parts.nets.as_slice()) <= MOST_COEFFICIENTS
+        && arcs_in_all(parts.nets.as_slice()) <= MOST_ARCS
         && reads_in_all(parts) <= MOST_READS
 }

@@ -1,13 +1,15 @@
 ghost use Rattle.std.specs.Prelude.{◌↔◌, ◌<◌, ◌^◌, pos, ◌≤ℤ◌, IsTrue, length};
 ghost use Rattle.std.specs.List.{All};
 ghost use Rattle.xt_model.specs.Names.{IsName};
-ghost use Rattle.xt_model.specs.Sound.{HasSink, IsCap, IsSoundArc, IsSoundCoupling, IsSoundNet, IsSoundSink, greatest_load};
+ghost use Rattle.xt_model.specs.Limits.{most_cap};
+ghost use Rattle.sound_parts.specs.Items.{HasSoundLists, HasSoundSizes};
+ghost use Rattle.xt_model.specs.Sound.{HasSink, IsCap, IsSoundArc, IsSoundCoupling, IsSoundNet, IsSoundSink};
+ghost use Rattle.xt_model.specs.Sound.{greatest_load};
 
 use crate::coupling::{is_sound_coupling, is_within_greatest_load};
 use crate::given::is_sound_given;
-use crate::parts::PartsView;
 use crate::range::{is_cap, is_product};
-use xt_model::{Name, Net, NetId, SinkPin, TimingArc};
+use xt_model::{DesignParts, Name, Net, NetId, SinkPin, TimingArc};
 
 const SINK_NUMBERS: usize = 1 << 32;
 
@@ -19,10 +21,10 @@ pub(crate) fn is_name(name: &Name) -> bool
 }
 
 /// Whether the net has a sink of this number.
-pub(crate) fn has_sink(parts: &PartsView, net: NetId, sink: u32) -> bool
+pub(crate) fn has_sink(parts: &DesignParts, net: NetId, sink: u32) -> bool
     ensures { IsTrue result ↔ HasSink parts.now net.0 sink }
 {
-    match parts.nets.get(net.0 as usize) {
+    match parts.nets.as_slice().get(net.0 as usize) {
         Some(net) => (sink as usize) < net.sinks.len(),
         None => false,
     }
@@ -40,7 +42,7 @@ fn is_sound_sink(couplings: usize, sink: &SinkPin) -> bool
 }
 
 /// Whether the arc comes from a sink that is there and reads tables that are there.
-fn is_sound_arc(parts: &PartsView, arc: &TimingArc) -> bool
+fn is_sound_arc(parts: &DesignParts, arc: &TimingArc) -> bool
     ensures { IsTrue result ↔ IsSoundArc parts.now arc.now }
 {
     has_sink(parts, arc.from, arc.sink)
@@ -49,8 +51,8 @@ fn is_sound_arc(parts: &PartsView, arc: &TimingArc) -> bool
 }
 
 /// Whether the couplings, sinks and arcs of the net number `own` are sound.
-fn has_sound_lists(parts: &PartsView, own: usize, net: &Net) -> bool
-    ensures { IsTrue result ↔ (All (IsSoundCoupling parts.now own) net.now.couplings × All (IsSoundSink (length net.now.couplings)) net.now.sinks × All (IsSoundArc parts.now) net.now.arcs) }
+fn has_sound_lists(parts: &DesignParts, own: usize, net: &Net) -> bool
+    ensures { IsTrue result ↔ HasSoundLists parts.now own net.now }
 {
     let couplings = net.couplings.as_slice();
     couplings
@@ -71,13 +73,13 @@ fn has_sound_lists(parts: &PartsView, own: usize, net: &Net) -> bool
 /// Whether the load of the net is in range, also with every coupling counted twice, and a `u32` can name
 /// each of its sinks.
 fn has_sound_sizes(net: &Net) -> bool
-    ensures { IsTrue result ↔ (IsCap net.now.load × (greatest_load net.now ≤ℤ pos (2 ^ 46)) × (length net.now.sinks < 2 ^ 32)) }
+    ensures { IsTrue result ↔ HasSoundSizes net.now }
 {
     is_cap(net.load) && is_within_greatest_load(net) && net.sinks.len() < SINK_NUMBERS
 }
 
 /// Whether the net, which has the number `own`, is sound.
-pub(crate) fn is_sound_net(parts: &PartsView, own: usize, net: &Net) -> bool
+pub(crate) fn is_sound_net(parts: &DesignParts, own: usize, net: &Net) -> bool
     ensures { IsTrue result ↔ IsSoundNet parts.now own net.now }
 {
     is_name(&net.name)

@@ -1,13 +1,7 @@
 ghost use Rattle.std.specs.Prelude.{◌↔◌, pos, neg_ℤ, ◌^◌, IsTrue};
 ghost use Rattle.xt_model.specs.Sound.{IsBetween, IsTime, IsSlew, IsCap, IsProduct};
 
-const LARGEST_TIME: i64 = 1 << 46;
-
-const LARGEST_SLEW: i64 = 1 << 40;
-
-const LARGEST_CAP: i64 = 1 << 46;
-
-const LARGEST_PRODUCT: i128 = 1 << 102;
+use xt_model::limits::{MOST_CAP, MOST_PRODUCT, MOST_SLEW, MOST_TIME};
 
 /// Whether `x` is from `low` to `high`.
 pub(crate) fn is_between(low: i64, high: i64, x: i64) -> bool
@@ -20,26 +14,26 @@ pub(crate) fn is_between(low: i64, high: i64, x: i64) -> bool
 pub(crate) fn is_time(x: i64) -> bool
     ensures { IsTrue result ↔ IsTime x }
 {
-    is_between(-LARGEST_TIME, LARGEST_TIME, x)
+    is_between(-MOST_TIME, MOST_TIME, x)
 }
 
 /// Whether `x` is a slew in fs: 0 to 2^40.
 pub(crate) fn is_slew(x: i64) -> bool
     ensures { IsTrue result ↔ IsSlew x }
 {
-    is_between(0, LARGEST_SLEW, x)
+    is_between(0, MOST_SLEW, x)
 }
 
 /// Whether `x` is a capacitance in aF: 0 to 2^46.
 pub(crate) fn is_cap(x: i64) -> bool
     ensures { IsTrue result ↔ IsCap x }
 {
-    is_between(0, LARGEST_CAP, x)
+    is_between(0, MOST_CAP, x)
 }
 
 /// Whether `x` is a product of resistance and capacitance in milliohms times aF: 0 to 2^102.
 pub(crate) fn is_product(x: i128) -> bool
     ensures { IsTrue result ↔ IsProduct x }
 {
-    0 <= x && x <= LARGEST_PRODUCT
+    0 <= x && x <= MOST_PRODUCT
 }

@@ -5,7 +5,8 @@ use crate::is_sound;
 use std::alloc::{AllocError, Global};
 use std::test::Fail;
 use xt_model::{
-    CheckPoint, Coupling, Edge, Name, Net, NetId, Pair, Quad, Row, SinkPin, Table, TimingArc,
+    CheckPoint, Coupling, DesignParts, Edge, Miller, Name, Net, NetId, Pair, Quad, Row, SinkPin,
+    Table, TimingArc,
 };
 
 const LIVE: Quad = Quad {
@@ -256,12 +257,17 @@ fn each_fault_is_found(rt: HostRuntime) -> Result<(), Fail> {
         ),
     ];
     let alloc = rt.alloc();
-    let mut tables = Vec::new(alloc);
-    tables.push(table(alloc, 1 << 40)?)?;
     for (number, (sample, sound)) in cases.iter().enumerate() {
-        let nets = nets(alloc, sample)?;
-        let checks = checks(alloc, sample)?;
-        let found = is_sound(alloc, sample.period, &tables, &nets, &checks)?;
+        let mut tables = Vec::new(alloc);
+        tables.push(table(alloc, 1 << 40)?)?;
+        let parts = DesignParts {
+            period: sample.period,
+            tables: Row::from_vec(tables),
+            nets: Row::from_vec(nets(alloc, sample)?),
+            checks: Row::from_vec(checks(alloc, sample)?),
+            miller: Miller::classical(),
+        };
+        let found = is_sound(alloc, &parts)?;
         assert_eq!(rt; found, *sound, "case {number}");
     }
     Ok(())

@@ -7,7 +7,7 @@ use Rattle.std.proofs.lemmas.Option.{slice_get-get_or}
 use Rattle.xt_model.specs.declared.net.TimingArc.{TimingArc}
 use Rattle.xt_model.specs.declared.net.Net.{Net}
 use Rattle.xt_model.specs.Levels.{greatest_of, level_from}
-use Rattle.xt_model.specs.Visits.{AreInputsThere, HaveLevels, IsWaitedFor}
+use Rattle.xt_model.specs.visits.Walk.{AreInputsThere, HaveLevels, IsWaitedFor}
 use Rattle.xt_model.proofs.LevelLaws.{greatest_push}
 
 -- the level of an arc's input

@@ -5,3 +5,4 @@ pub mod OrderLaws
 pub mod PairLaws
 pub mod WalkSteps
 pub mod WindowLaws
+pub mod WorkedDesigns

@@ -9,7 +9,8 @@ use Rattle.std.proofs.lemmas.Option.{same_Some, slice_get_within}
 use Rattle.xt_model.specs.declared.net.TimingArc.{TimingArc}
 use Rattle.xt_model.specs.declared.net.Net.{Net}
 use Rattle.xt_model.specs.Levels.{greatest_of, level_from, AreLevels, Reads, IsLoop}
-use Rattle.xt_model.specs.Visits.{HaveLevels, IsWalk, zeros_in, last_of}
+use Rattle.xt_model.specs.Limits.{most_nets}
+use Rattle.xt_model.specs.visits.Walk.{HaveLevels, IsWalk, zeros_in, last_of}
 use Rattle.xt_model.proofs.ListLaws.{element_at}
 use Rattle.xt_model.proofs.LevelLaws.{greatest_least, level_agrees}
 
@@ -255,7 +256,7 @@ module _ (nets : List Net) (levels cursors places path : List ℕ) (w : IsWalk n
       let counts : length levels ≡ length nets = w.levels_count in
       greatest_least levels (length nets) (λ i h. omega (arith, w.most i))
 
-  pub no_level_past : length nets ≤ 262144 → (i : ℕ) → get_or levels i 0 ≤ 262144
+  pub no_level_past : length nets ≤ most_nets → (i : ℕ) → get_or levels i 0 ≤ most_nets
   no_level_past few i = let counts : length levels ≡ length nets = w.levels_count in omega (arith, w.most i)
 
   -- the end of the path reads a net that waits on it: from there on the path is a loop

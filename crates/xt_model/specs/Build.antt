@@ -3,6 +3,7 @@ use Rattle.std.specs.Prelude.{◌≡◌, ℕ, ◌≤◌, List, map}
 use Rattle.xt_model.specs.declared.net.Net.{Net}
 use Rattle.xt_model.specs.declared.fault.BuildFault.{BuildFault}
 use Rattle.xt_model.specs.declared.fault.BuildFault.TheVariants.{Loop, NoMemory}
+use Rattle.xt_model.specs.Limits.{most_nets, most_couplings}
 use Rattle.xt_model.specs.Parts.{Parts}
 use Rattle.xt_model.specs.Sound.{IsSound}
 use Rattle.xt_model.specs.Levels.{AreLevels, IsOrderBy, IsLoop, IsPairCount, IsDepth, greatest_of, bound_of}
@@ -15,12 +16,13 @@ pub record IsDesign (d : Parts) (levels order : List ℕ) (depth pairs : ℕ) : 
   pub is_order : IsOrderBy d.nets levels order
   pub is_depth : depth ≡ greatest_of levels
   pub is_pair_count : IsPairCount d.nets pairs
-  pub most_depth : depth ≤ 262144
-  pub most_pairs : pairs ≤ 1048576
+  pub most_depth : depth ≤ most_nets
+  pub most_pairs : pairs ≤ most_couplings
 
 -- the bound on rounds of these nets
 abbrev pub IsRoundBound : List Net → ℕ → Type 0
-IsRoundBound nets bound = (pairs : ℕ) × (depth : ℕ) × IsPairCount nets pairs × IsDepth nets depth × (bound ≡ bound_of pairs depth)
+IsRoundBound nets bound =
+    (pairs : ℕ) × (depth : ℕ) × IsPairCount nets pairs × IsDepth nets depth × (bound ≡ bound_of pairs depth)
 
 -- the fault is true of the nets: a loop is one that their arcs make, and want of memory is always free
 abbrev pub IsFaultOf : List Net → BuildFault → Type 0

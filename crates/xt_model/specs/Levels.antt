@@ -43,7 +43,8 @@ pub record IsLoop (nets : List Net) (path : List ℕ) : Type 0 where
 
 -- net a stands before net b: by level, and by number within a level
 abbrev pub StandsBefore : List ℕ → ℕ → ℕ → Type 0
-StandsBefore levels a b = (slice_index levels a < slice_index levels b) ⊎ ((slice_index levels a ≡ slice_index levels b) × (a < b))
+StandsBefore levels a b =
+    (slice_index levels a < slice_index levels b) ⊎ ((slice_index levels a ≡ slice_index levels b) × (a < b))
 
 -- every net once, by level and then by number
 pub record IsOrderBy (nets : List Net) (levels order : List ℕ) : Type 0 where

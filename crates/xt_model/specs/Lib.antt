@@ -1,10 +1,13 @@
 pub mod Quads
+pub mod Limits
 pub mod Names
 pub mod Tables
+pub mod Miller
 pub mod Parts
 pub mod Sound
 pub mod Levels
 pub mod Assign
 pub mod Build
-pub mod Visits
 pub mod Couples
+pub mod visits
+pub mod Codes

@@ -30,11 +30,21 @@ pub record IsWithin (q r : Quad) : Type 0 where
 
 -- the least window that both lie within
 abbrev pub join_of : Quad → Quad → Quad
-join_of q r = record { tlo = int_min q.tlo r.tlo; thi = int_max q.thi r.thi; slo = int_min q.slo r.slo; shi = int_max q.shi r.shi }
+join_of q r = record {
+  tlo = int_min q.tlo r.tlo;
+  thi = int_max q.thi r.thi;
+  slo = int_min q.slo r.slo;
+  shi = int_max q.shi r.shi;
+}
 
 -- the greatest window that lies within both
 abbrev pub meet_of : Quad → Quad → Quad
-meet_of q r = record { tlo = int_max q.tlo r.tlo; thi = int_min q.thi r.thi; slo = int_max q.slo r.slo; shi = int_min q.shi r.shi }
+meet_of q r = record {
+  tlo = int_max q.tlo r.tlo;
+  thi = int_min q.thi r.thi;
+  slo = int_max q.slo r.slo;
+  shi = int_min q.shi r.shi;
+}
 
 -- a bound that a word can hold
 pub record IsBound (b : ℤ) : Type 0 where

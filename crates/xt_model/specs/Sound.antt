@@ -1,6 +1,7 @@
 -- What makes the parts of a design sound: no reference leads nowhere, each quantity keeps its range, and the
 -- design keeps its limits.
-use Rattle.std.specs.Prelude.{◌≡◌, ◌≢◌, ℕ, ◌+◌, ◌*◌, ◌<◌, ◌≤◌, ◌^◌, ◌⊎◌, ℤ, pos, neg_ℤ, ◌≤ℤ◌, ◌+ℤ◌, ◌*ℤ◌, List, [], ◌∷◌, length, Option, Some, IfSome, IsSome}
+use Rattle.std.specs.Prelude.{◌≡◌, ◌≢◌, ℕ, ◌+◌, ◌*◌, ◌<◌, ◌≤◌, ◌^◌, ◌⊎◌, ℤ, pos, neg_ℤ, ◌≤ℤ◌, ◌+ℤ◌, ◌*ℤ◌, List, []}
+use Rattle.std.specs.Prelude.{◌∷◌, length, Option, Some, IfSome, IsSome}
 use Rattle.std.specs.List.{All, slice_get, sum_by}
 use Rattle.std.specs.Option.{IsSomeAnd, option_map, unwrap_or}
 use Rattle.xt_model.specs.declared.quad.Quad.{Quad}
@@ -14,6 +15,9 @@ use Rattle.xt_model.specs.declared.check.CheckPoint.TheVariants.{Flop, Port}
 use Rattle.xt_model.specs.Quads.{bottom, IsLive}
 use Rattle.xt_model.specs.Names.{IsName}
 use Rattle.xt_model.specs.Tables.{IsTable}
+use Rattle.xt_model.specs.Limits.{most_time, most_slew, most_cap, most_product, most_delay, most_period, most_nets}
+use Rattle.xt_model.specs.Limits.{most_tables, most_checks, most_couplings, most_coefficients, most_arcs, most_reads}
+use Rattle.xt_model.specs.Miller.{IsMiller}
 use Rattle.xt_model.specs.Parts.{Parts}
 
 -- a number from low to high
@@ -23,19 +27,19 @@ pub record IsBetween (low high x : ℤ) : Type 0 where
 
 -- a time in fs is at most 2^46 in size
 abbrev pub IsTime : ℤ → Type 0
-IsTime x = IsBetween (neg_ℤ (pos (2 ^ 46))) (pos (2 ^ 46)) x
+IsTime x = IsBetween (neg_ℤ most_time) most_time x
 
 -- a slew in fs is 0 to 2^40
 abbrev pub IsSlew : ℤ → Type 0
-IsSlew x = IsBetween (pos 0) (pos (2 ^ 40)) x
+IsSlew x = IsBetween (pos 0) most_slew x
 
 -- a capacitance in aF is 0 to 2^46
 abbrev pub IsCap : ℤ → Type 0
-IsCap x = IsBetween (pos 0) (pos (2 ^ 46)) x
+IsCap x = IsBetween (pos 0) most_cap x
 
 -- a product of resistance and capacitance in milliohms times aF is 0 to 2^102
 abbrev pub IsProduct : ℤ → Type 0
-IsProduct x = IsBetween (pos 0) (pos (2 ^ 102)) x
+IsProduct x = IsBetween (pos 0) most_product x
 
 -- the times and slews of a live window are in their ranges
 pub record IsConstraint (q : Quad) : Type 0 where
@@ -96,7 +100,7 @@ pub record IsSoundNet (d : Parts) (own : ℕ) (n : Net) : Type 0 where
   pub sinks : All (IsSoundSink (length n.couplings)) n.sinks
   pub arcs : All (IsSoundArc d) n.arcs
   pub few_sinks : length n.sinks < 2 ^ 32
-  pub most_load : greatest_load n ≤ℤ pos (2 ^ 46)
+  pub most_load : greatest_load n ≤ℤ most_cap
 
 -- a constraint table of a check, where it has one, is there
 abbrev pub IsTableOption : Parts → Option ℕ → Type 0
@@ -104,11 +108,14 @@ IsTableOption d o = IfSome o (λ t. t < length d.tables)
 
 -- an external delay in fs is at most 2^40 in size
 abbrev pub IsDelayOption : Option ℤ → Type 0
-IsDelayOption o = IfSome o (IsBetween (neg_ℤ (pos (2 ^ 40))) (pos (2 ^ 40)))
+IsDelayOption o = IfSome o (IsBetween (neg_ℤ most_delay) most_delay)
 
 abbrev pub IsSoundCheck : Parts → CheckPoint → Type 0
-IsSoundCheck d (Flop name hold datum datum_sink clock clock_sink rise fall) = IsName name × HasSink d datum.0 datum_sink × HasSink d clock.0 clock_sink × IsTableOption d rise × IsTableOption d fall
-IsSoundCheck d (Port name hold net sink rise fall) = IsName name × HasSink d net.0 sink × IsDelayOption rise × IsDelayOption fall
+IsSoundCheck d (Flop name hold datum datum_sink clock clock_sink rise fall) =
+    IsName name × HasSink d datum.0 datum_sink × HasSink d clock.0 clock_sink
+    × IsTableOption d rise × IsTableOption d fall
+IsSoundCheck d (Port name hold net sink rise fall) =
+    IsName name × HasSink d net.0 sink × IsDelayOption rise × IsDelayOption fall
 
 -- how many wire coefficients a net has
 abbrev pub coefficients_of : Net → ℕ
@@ -132,17 +139,17 @@ pub record HasOwnNames (nets : List Net) : Type 0 where
 
 -- the limits on the size of a design
 pub record IsWithinLimits (d : Parts) : Type 0 where
-  pub nets : length d.nets ≤ 262144
-  pub tables : length d.tables ≤ 262144
-  pub checks : length d.checks ≤ 1048576
-  pub couplings : sum_by (λ n. length n.couplings) d.nets ≤ 1048576
-  pub coefficients : sum_by coefficients_of d.nets ≤ 16777216
-  pub arcs : sum_by (λ n. length n.arcs) d.nets ≤ 4194304
-  pub reads : sum_by (reads_of d) d.nets ≤ 134217728
+  pub nets : length d.nets ≤ most_nets
+  pub tables : length d.tables ≤ most_tables
+  pub checks : length d.checks ≤ most_checks
+  pub couplings : sum_by (λ n. length n.couplings) d.nets ≤ most_couplings
+  pub coefficients : sum_by coefficients_of d.nets ≤ most_coefficients
+  pub arcs : sum_by (λ n. length n.arcs) d.nets ≤ most_arcs
+  pub reads : sum_by (reads_of d) d.nets ≤ most_reads
 
 -- a period in fs is 1 to 2^40, and checks need one
 pub record IsPeriod (d : Parts) : Type 0 where
-  pub range : IfSome d.period (IsBetween (pos 1) (pos (2 ^ 40)))
+  pub range : IfSome d.period (IsBetween (pos 1) most_period)
   pub there : 0 < length d.checks → IsSome d.period
 
 pub record IsSound (d : Parts) : Type 0 where
@@ -152,3 +159,4 @@ pub record IsSound (d : Parts) : Type 0 where
   pub checks : All (IsSoundCheck d) d.checks
   pub limits : IsWithinLimits d
   pub period : IsPeriod d
+  pub miller : IsMiller d.miller

@@ -1,6 +1,7 @@
 -- Look-up tables of cells: two index lists that rise, and values row by row.
-use Rattle.std.specs.Prelude.{◌≡◌, ℕ, ◌*◌, ◌<◌, ◌≤◌, ◌^◌, ℤ, pos, neg_ℤ, ◌≤ℤ◌, ◌<ℤ◌, List, length}
+use Rattle.std.specs.Prelude.{◌≡◌, ℕ, ◌*◌, ◌<◌, ◌≤◌, ℤ, pos, neg_ℤ, ◌≤ℤ◌, ◌<ℤ◌, List, length}
 use Rattle.std.specs.List.{All, slice_index_or}
+use Rattle.xt_model.specs.Limits.{most_in_table, most_lines}
 
 -- a table, seen as its three lists
 pub record TableParts : Type 0 where
@@ -10,8 +11,8 @@ pub record TableParts : Type 0 where
 
 -- a number of a table is at most 2^40 in size
 pub record IsTableNumber (x : ℤ) : Type 0 where
-  pub low : neg_ℤ (pos (2 ^ 40)) ≤ℤ x
-  pub high : x ≤ℤ pos (2 ^ 40)
+  pub low : neg_ℤ most_in_table ≤ℤ x
+  pub high : x ≤ℤ most_in_table
 
 -- each number is less than every later one
 pub record IsRising (xs : List ℤ) : Type 0 where
@@ -20,7 +21,7 @@ pub record IsRising (xs : List ℤ) : Type 0 where
 -- 1 to 64 numbers in rising order
 pub record IsIndex (xs : List ℤ) : Type 0 where
   pub some : 0 < length xs
-  pub most : length xs ≤ 64
+  pub most : length xs ≤ most_lines
   pub rising : IsRising xs
   pub numbers : All IsTableNumber xs
 

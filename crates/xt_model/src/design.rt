@@ -1,8 +1,10 @@
 use crate::check::CheckPoint;
 use crate::fault::BuildFault;
+use crate::miller::Miller;
 use crate::net::{Net, NetId};
 use crate::order::{greatest, order_by_level};
 use crate::pairs::coupled_pairs;
+use crate::parts::DesignParts;
 use crate::row::Row;
 use crate::table::Table;
 use crate::visits::find_levels;
@@ -12,10 +14,7 @@ use std::marker::Model;
 /// A design whose arcs make no loop, with the level of each net and the nets in order of level.
 #[derive(Debug, Drop)]
 pub struct Design {
-    period: Option<i64>,
-    tables: Row<Table>,
-    nets: Row<Net>,
-    checks: Row<CheckPoint>,
+    parts: DesignParts,
     levels: Row<u32>,
     order: Row<u32>,
     depth: u32,
@@ -28,21 +27,22 @@ impl Model for Design {
 
     ghost Value = { Parts };
 
-    ghost view = { λ d. record { period = d.period; tables = d.tables; nets = d.nets; checks = d.checks } };
+    ghost view = { λ d. d.parts };
 
-    ghost invariant = { λ d. IsDesign (record { period = d.period; tables = d.tables; nets = d.nets; checks = d.checks }) d.levels d.order d.depth d.pairs };
+    ghost invariant = { λ d. IsDesign d.parts d.levels d.order d.depth d.pairs };
 }
 
 impl Design {
     ghost use Rattle.std.specs.Prelude.{◌≡◌, ℕ, ◌<◌, List, length, Some, IfOk, OnOk, IfErr};
     ghost use Rattle.std.specs.List.{slice_get};
-    ghost use Rattle.xt_model.specs.Parts.{Parts};
+    ghost use Rattle.xt_model.specs.Miller.{IsMiller};
+    ghost use Rattle.xt_model.specs.Parts.{Parts, classical_parts};
     ghost use Rattle.xt_model.specs.Sound.{IsSound, IsSoundNet};
     ghost use Rattle.xt_model.specs.Levels.{AreLevelled, IsLoop, IsLevel, IsDepth, IsOrder, IsPairCount};
     ghost use Rattle.xt_model.specs.Build.{IsFaultOf, IsRoundBound};
 
-    /// The design of these parts, or the loop that their arcs make. Takes time in proportion to the arcs,
-    /// and a sort of the nets and of the couplings.
+    /// The design of these parts, whose couplings count by the classical factors, or the loop that their
+    /// arcs make: `Design::from_parts`.
     pub fn new(
         alloc: Global,
         period: Option<i64>,
@@ -50,20 +50,36 @@ impl Design {
         nets: Vec<Net>,
         checks: Vec<CheckPoint>,
     ) -> Result<Design, BuildFault>
-        requires sound { IsSound (record { period = period; tables = tables.items; nets = nets.items; checks = checks.items }) }
-        ensures ok { IfOk result (λ d. d ≡ record { period = period; tables = tables.items; nets = nets.items; checks = checks.items }) }
+        requires sound { IsSound (classical_parts period tables.items nets.items checks.items) }
+        ensures ok { IfOk result (λ d. d ≡ classical_parts period tables.items nets.items checks.items) }
         ensures acyclic { OnOk result ((path : List ℕ) → IsLoop nets.items path → ⊥) }
         ensures loops { IfErr result (IsFaultOf nets.items) }
     {
-        let levels = find_levels(alloc, &nets)?;
-        let order = order_by_level(alloc, &nets, &levels)?;
-        let pairs = coupled_pairs(alloc, &nets)?.len() as u64;
-        let depth = greatest(&levels);
-        Ok(Design {
+        let parts = DesignParts {
             period,
             tables: Row::from_vec(tables),
             nets: Row::from_vec(nets),
             checks: Row::from_vec(checks),
+            miller: Miller::classical(),
+        };
+        Design::from_parts(alloc, parts)
+    }
+
+    /// The design of these parts, or the loop that their arcs make. Takes time in proportion to the arcs,
+    /// and a sort of the nets and of the couplings.
+    pub fn from_parts(alloc: Global, parts: DesignParts) -> Result<Design, BuildFault>
+        requires sound { IsSound parts }
+        ensures ok { IfOk result (λ d. d ≡ parts) }
+        ensures acyclic { OnOk result ((path : List ℕ) → IsLoop parts.nets path → ⊥) }
+        ensures loops { IfErr result (IsFaultOf parts.nets) }
+    {
+        let nets = parts.nets.as_slice();
+        let levels = find_levels(alloc, nets)?;
+        let order = order_by_level(alloc, nets, &levels)?;
+        let pairs = coupled_pairs(alloc, nets)?.len() as u64;
+        let depth = greatest(&levels);
+        Ok(Design {
+            parts,
             levels: Row::from_vec(levels),
             order: Row::from_vec(order),
             depth,
@@ -71,12 +87,53 @@ impl Design {
         })
     }
 
+    /// The same design with its couplings counted by other factors.
+    pub fn with_miller(self, miller: Miller) -> Design
+        ensures { result ≡ record self { miller = miller } }
+    {
+        let Design {
+            parts,
+            levels,
+            order,
+            depth,
+            pairs,
+        } = self;
+        let DesignParts {
+            period,
+            tables,
+            nets,
+            checks,
+            miller: _,
+        } = parts;
+        Design {
+            parts: DesignParts {
+                period,
+                tables,
+                nets,
+                checks,
+                miller,
+            },
+            levels,
+            order,
+            depth,
+            pairs,
+        }
+    }
+
     /// The clock period in fs; a design with checks has one.
     pub fn period(&self) -> Option<i64>
         ensures value { result ≡ self.now.period }
         ensures sound { IsSound self.now }
     {
-        self.period
+        self.parts.period
+    }
+
+    /// The factors by which couplings count.
+    pub fn miller(&self) -> Miller
+        ensures value { result ≡ self.now.miller }
+        ensures sound { IsSound self.now }
+    {
+        self.parts.miller
     }
 
     /// The look-up tables of the cells.
@@ -84,7 +141,7 @@ impl Design {
         ensures value { result.now ≡ self.now.tables }
         ensures sound { IsSound self.now }
     {
-        self.tables.as_slice()
+        self.parts.tables.as_slice()
     }
 
     /// The nets, by number.
@@ -93,7 +150,7 @@ impl Design {
         ensures sound { IsSound self.now }
         ensures levelled { AreLevelled self.now.nets }
     {
-        self.nets.as_slice()
+        self.parts.nets.as_slice()
     }
 
     /// The places where data has to be in time.
@@ -101,7 +158,7 @@ impl Design {
         ensures value { result.now ≡ self.now.checks }
         ensures sound { IsSound self.now }
     {
-        self.checks.as_slice()
+        self.parts.checks.as_slice()
     }
 
     /// The net of this number.
@@ -110,7 +167,7 @@ impl Design {
         ensures there { slice_get self.now.nets number ≡ Some result.now }
         ensures sound { IsSoundNet self.now number result.now }
     {
-        &self.nets.as_slice()[number]
+        &self.parts.nets.as_slice()[number]
     }
 
     /// 1 for a source, else 1 more than the greatest level of the inputs of the net's arcs.

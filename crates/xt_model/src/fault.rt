@@ -37,13 +37,6 @@ impl<T: Drop> From<AllocFailed<T>> for BuildFault {
     }
 }
 
-/// Why a text is refused, as the formats name it.
-#[derive(Clone, Copy, Debug, PartialEq, Eq)]
-pub enum Code {
-    /// The text is no linked text of a design that can be analysed yet.
-    X9,
-}
-
 /// What has a limit.
 #[derive(Clone, Copy, Debug, PartialEq, Eq)]
 pub enum LimitKind {

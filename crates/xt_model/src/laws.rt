@@ -8,38 +8,38 @@ ghost use Rattle.xt_model.specs.Quads.{bottom, IsInRange, IsWithin, join_of, mee
 
 /// Nets have one list of levels at most.
 pub fn levels_are_unique()
-    ensures { (nets : List Net) → (a : List ℕ) → (b : List ℕ) → AreLevels nets a → AreLevels nets b → a ≡ b }
+    ensures { (nets : List Net) (a b : List ℕ) → AreLevels nets a → AreLevels nets b → a ≡ b }
 {}
 
 /// Nets and levels have one order at most.
 pub fn an_order_is_unique()
-    ensures { (nets : List Net) → (levels : List ℕ) → (a : List ℕ) → (b : List ℕ) → IsOrderBy nets levels a → IsOrderBy nets levels b → a ≡ b }
+    ensures { (nets : List Net) (levels a b : List ℕ) → IsOrderBy nets levels a → IsOrderBy nets levels b → a ≡ b }
 {}
 
 /// Nets have one count of coupled pairs.
 pub fn a_pair_count_is_unique()
-    ensures { (nets : List Net) → (a : ℕ) → (b : ℕ) → IsPairCount nets a → IsPairCount nets b → a ≡ b }
+    ensures { (nets : List Net) (a b : ℕ) → IsPairCount nets a → IsPairCount nets b → a ≡ b }
 {}
 
 /// Nets with levels have no loop.
 pub fn a_loop_excludes_levels()
-    ensures { (nets : List Net) → (levels : List ℕ) → (path : List ℕ) → AreLevels nets levels → IsLoop nets path → ⊥ }
+    ensures { (nets : List Net) (levels path : List ℕ) → AreLevels nets levels → IsLoop nets path → ⊥ }
 {}
 
 /// Containment is an order of windows, and a window that never switches is the least in range.
 pub fn within_is_an_order()
     ensures reflexive { (q : Quad) → IsWithin q q }
-    ensures transitive { (q : Quad) → (r : Quad) → (s : Quad) → IsWithin q r → IsWithin r s → IsWithin q s }
-    ensures antisymmetric { (q : Quad) → (r : Quad) → IsWithin q r → IsWithin r q → q ≡ r }
+    ensures transitive { (q r s : Quad) → IsWithin q r → IsWithin r s → IsWithin q s }
+    ensures antisymmetric { (q r : Quad) → IsWithin q r → IsWithin r q → q ≡ r }
     ensures least { (q : Quad) → IsInRange q → IsWithin bottom q }
 {}
 
 /// The join is the least window that contains both, the meet the greatest within both.
 pub fn joins_and_meets_are_bounds()
-    ensures join_left { (q : Quad) → (r : Quad) → IsWithin q (join_of q r) }
-    ensures join_right { (q : Quad) → (r : Quad) → IsWithin r (join_of q r) }
-    ensures join_least { (q : Quad) → (r : Quad) → (s : Quad) → IsWithin q s → IsWithin r s → IsWithin (join_of q r) s }
-    ensures meet_left { (q : Quad) → (r : Quad) → IsWithin (meet_of q r) q }
-    ensures meet_right { (q : Quad) → (r : Quad) → IsWithin (meet_of q r) r }
-    ensures meet_greatest { (q : Quad) → (r : Quad) → (s : Quad) → IsWithin s q → IsWithin s r → IsWithin s (meet_of q r) }
+    ensures join_left { (q r : Quad) → IsWithin q (join_of q r) }
+    ensures join_right { (q r : Quad) → IsWithin r (join_of q r) }
+    ensures join_least { (q r s : Quad) → IsWithin q s → IsWithin r s → IsWithin (join_of q r) s }
+    ensures meet_left { (q r : Quad) → IsWithin (meet_of q r) q }
+    ensures meet_right { (q r : Quad) → IsWithin (meet_of q r) r }
+    ensures meet_greatest { (q r s : Quad) → IsWithin s q → IsWithin s r → IsWithin s (meet_of q r) }
 {}

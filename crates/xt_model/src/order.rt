@@ -2,6 +2,7 @@
 
 ghost use Rattle.std.specs.Prelude.{◌≡◌, ◌≤◌, length, IfOk, slice_index};
 ghost use Rattle.std.specs.List.{range_with_len};
+ghost use Rattle.xt_model.specs.Limits.{most_nets};
 ghost use Rattle.xt_model.specs.Levels.{IsOrderBy, greatest_of};
 
 use crate::net::Net;
@@ -28,7 +29,7 @@ fn numbers_below(alloc: Global, count: u32) -> Result<Vec<u32>, AllocError>
 /// The numbers of the nets by level, and by number within a level.
 pub fn order_by_level(alloc: Global, nets: &[Net], levels: &[u32]) -> Result<Vec<u32>, AllocError>
     requires count { length levels.now ≡ length nets.now }
-    requires few { length nets.now ≤ 262144 }
+    requires few { length nets.now ≤ most_nets }
     ensures { IfOk result (λ order. IsOrderBy nets.now levels.now order.items) }
 {
     let mut order = numbers_below(alloc, nets.len() as u32)?;

@@ -2,6 +2,7 @@
 
 ghost use Rattle.std.specs.Prelude.{◌≡◌, ℕ, ◌≤◌, ◌++◌, map, length, IfOk, OnOk, Some};
 ghost use Rattle.std.specs.List.{slice_get, sum_by};
+ghost use Rattle.xt_model.specs.Limits.{most_nets};
 ghost use Rattle.xt_model.specs.Levels.{ArePairs};
 ghost use Rattle.xt_model.specs.Couples.{pair_of, CoupleToOthers};
 
@@ -32,7 +33,7 @@ fn push_pairs(
 /// Each unordered pair of nets with a coupling on either side once, the lesser number first.
 pub fn coupled_pairs(alloc: Global, nets: &[Net]) -> Result<Vec<(u32, u32)>, AllocError>
     requires couplings { CoupleToOthers nets.now }
-    requires few { length nets.now ≤ 262144 }
+    requires few { length nets.now ≤ most_nets }
     ensures pairs { IfOk result (λ pairs. ArePairs nets.now pairs.items) }
     ensures most { IfOk result (λ pairs. length pairs.items ≤ sum_by (λ n. length n.couplings) nets.now) }
 {

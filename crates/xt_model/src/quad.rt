@@ -2,6 +2,7 @@ ghost use Rattle.std.specs.Prelude.{◌≡◌, ◌↔◌, ◌≤ℤ◌, IsTrue};
 ghost use Rattle.xt_model.specs.Quads.{bottom, is_live, IsWithin, join_of, meet_of, quad_at};
 
 use crate::edge::Edge;
+use crate::limits::TOP_BOUND;
 
 /// The window of one edge of one net: the earliest and latest time of its transition at the driver's
 /// output in fs, and the least and greatest slew of it in fs.
@@ -30,10 +31,10 @@ fn is_inside(low: i64, high: i64, outer_low: i64, outer_high: i64) -> bool
 impl Quad {
     /// The window of an edge that never switches; it lies within every window with bounds up to 2^62.
     pub const BOTTOM: Quad = Quad {
-        tlo: 4_611_686_018_427_387_904,
-        thi: -4_611_686_018_427_387_904,
-        slo: 4_611_686_018_427_387_904,
-        shi: -4_611_686_018_427_387_904,
+        tlo: TOP_BOUND,
+        thi: -TOP_BOUND,
+        slo: TOP_BOUND,
+        shi: -TOP_BOUND,
     };
 
     /// `Quad::BOTTOM`.

@@ -34,7 +34,12 @@ fn windows_are_ordered_by_containment(rt: HostRuntime) {
 /// A source that never switches, with a coupling of 10 aF.
 fn coupled_net(alloc: Global, name: u8, to: u32) -> Result<Net, AllocError>
     requires { (33 ≤ name) × (name ≤ 126) }
-    ensures { IfOk result (λ n. n ≡ record { name = name ∷ []; input = true; load = pos 0; given = record { rise = bottom; fall = bottom }; couplings = (record { to = record { 0 = to }; cap = pos 10 }) ∷ []; sinks = []; arcs = [] }) }
+    ensures named { IfOk result (λ n. n.name ≡ name ∷ []) }
+    ensures load { IfOk result (λ n. n.load ≡ pos 0) }
+    ensures given { IfOk result (λ n. n.given ≡ record { rise = bottom; fall = bottom }) }
+    ensures couplings { IfOk result (λ n. n.couplings ≡ (record { to = record { 0 = to }; cap = pos 10 }) ∷ []) }
+    ensures sinks { IfOk result (λ n. n.sinks ≡ []) }
+    ensures arcs { IfOk result (λ n. n.arcs ≡ []) }
 {
     let bytes = vec![in alloc; name]?;
     let coupling = Coupling {
@@ -79,7 +84,26 @@ fn two_coupled_sources_are_a_design(rt: HostRuntime) -> Result<(), Fail> {
     assert_eq!(rt; design.period(), None);
     assert_eq!(rt; design.net(1).name.bytes(), b"b".as_slice());
     assert!(rt; design.tables().is_empty() && design.checks().is_empty());
+    assert_eq!(rt; design.miller(), Miller::classical());
+    let thrice = Miller::new(0, 4, 12).ok_or("they rise")?;
+    let design = design.with_miller(thrice);
+    assert_eq!(rt; design.miller().high(), 12);
+    assert_eq!(rt; design.pairs(), 1);
     Ok(())
+}
+
+#[test]
+fn miller_numbers_rise_up_to_twelve(rt: HostRuntime) {
+    for (low, mid, high, there) in [
+        (0, 4, 8, true),
+        (4, 4, 4, true),
+        (12, 12, 12, true),
+        (5, 4, 8, false),
+        (0, 9, 8, false),
+        (0, 4, 13, false),
+    ] {
+        assert_eq!(rt; Miller::new(low, mid, high).is_some(), there);
+    }
 }
 
 #[test]

@@ -1,11 +1,14 @@
 //! The level of each net, by a walk against the arcs from every net. The path of the walk is kept as a
 //! list, so a long chain of nets takes no deep recursion, and each arc is looked at a fixed number of times.
 
-ghost use Rattle.std.specs.Prelude.{◌≡◌, ◌≢◌, ℕ, ◌+◌, ◌*◌, ◌-◌, ◌<◌, ◌≤◌, length, take, drop, replicate, List, [], slice_index, IfSome, MatchOption, IfOk, IfErr, OnOk, map};
+ghost use Rattle.std.specs.Prelude.{◌≡◌, ◌≢◌, ℕ, ◌+◌, ◌*◌, ◌-◌, ◌<◌, ◌≤◌, length, take, drop, replicate, List, []};
+ghost use Rattle.std.specs.Prelude.{slice_index, IfSome, MatchOption, IfOk, IfErr, OnOk, map};
 ghost use Rattle.std.specs.List.{All, slice_get};
 ghost use Rattle.xt_model.specs.Build.{IsFaultOf};
+ghost use Rattle.xt_model.specs.Limits.{most_nets};
 ghost use Rattle.xt_model.specs.Levels.{AreLevels, level_from, greatest_of, IsLoop, Reads};
-ghost use Rattle.xt_model.specs.Visits.{AreInputsThere, HaveLevels, IsWalk, IsWaitedFor, last_of, steps_left};
+ghost use Rattle.xt_model.specs.visits.Walk.{AreInputsThere, HaveLevels, IsWalkOf, HasLessLeft, KeepsLevels};
+ghost use Rattle.xt_model.specs.visits.Walk.{HasInputs, WaitsAt, IsWaitedFor, last_of};
 
 use crate::fault::BuildFault;
 use crate::net::{Net, NetId, TimingArc};
@@ -30,7 +33,7 @@ fn first_waiting(arcs: &[TimingArc], levels: &[u32], start: usize) -> usize
     requires before { HaveLevels levels.now (take start arcs.now) }
     ensures within { result ≤ length arcs.now }
     ensures before { HaveLevels levels.now (take result arcs.now) }
-    ensures waits { result < length arcs.now → IfSome (slice_get arcs.now result) (λ a. slice_index levels.now a.from.0 ≡ 0) }
+    ensures waits { result < length arcs.now → WaitsAt arcs.now levels.now result }
 {
     for i in start..arcs.len() {
         if levels[arcs[i].from.0 as usize] == 0 {
@@ -43,7 +46,7 @@ fn first_waiting(arcs: &[TimingArc], levels: &[u32], start: usize) -> usize
 /// 1 more than the greatest level of the arcs' inputs.
 fn level_above(arcs: &[TimingArc], levels: &[u32]) -> u32
     requires inputs { All (λ a. a.from.0 < length levels.now) arcs.now }
-    requires most { (i : ℕ) → slice_index levels.now i ≤ 262144 }
+    requires most { (i : ℕ) → slice_index levels.now i ≤ most_nets }
     ensures { result ≡ level_from levels.now arcs.now }
 {
     let mut greatest = 0;
@@ -88,14 +91,14 @@ impl Walk {
 
     /// Puts a net that was never on the path at its end.
     fn enter(&mut self, nets: &[Net], net: u32) -> Result<(), AllocError>
-        requires walk { IsWalk nets.now self.old.levels.items self.old.cursors.items self.old.places.items self.old.path.items }
+        requires walk { IsWalkOf nets.now self.old }
         requires there { net < length nets.now }
         requires waits { slice_index self.old.levels.items net ≡ 0 }
         requires fresh { slice_index self.old.places.items net ≡ 0 }
         requires reads { 0 < length self.old.path.items → Reads nets.now (last_of self.old.path.items) net }
-        ensures walk { OnOk result (IsWalk nets.now self.new.levels.items self.new.cursors.items self.new.places.items self.new.path.items) }
+        ensures walk { OnOk result (IsWalkOf nets.now self.new) }
         ensures levels { self.new.levels.items ≡ self.old.levels.items }
-        ensures less { OnOk result (steps_left self.new.places.items self.new.path.items < steps_left self.old.places.items self.old.path.items) }
+        ensures less { OnOk result (HasLessLeft self.new self.old) }
     {
         self.path.push(net)?;
         self.places[net as usize] = self.path.len();
@@ -104,15 +107,15 @@ impl Walk {
 
     /// Gives the net at the end of the path its level, and takes it off.
     fn leave(&mut self, nets: &[Net], net: u32)
-        requires walk { IsWalk nets.now self.old.levels.items self.old.cursors.items self.old.places.items self.old.path.items }
+        requires walk { IsWalkOf nets.now self.old }
         requires inputs { AreInputsThere nets.now }
-        requires few { length nets.now ≤ 262144 }
+        requires few { length nets.now ≤ most_nets }
         requires some { 0 < length self.old.path.items }
         requires last { net ≡ last_of self.old.path.items }
-        requires known { IfSome (slice_get nets.now net) (λ n. HaveLevels self.old.levels.items n.arcs) }
-        ensures walk { IsWalk nets.now self.new.levels.items self.new.cursors.items self.new.places.items self.new.path.items }
-        ensures keeps { (i : ℕ) → 0 < slice_index self.old.levels.items i → 0 < slice_index self.new.levels.items i }
-        ensures less { steps_left self.new.places.items self.new.path.items < steps_left self.old.places.items self.old.path.items }
+        requires known { HasInputs nets.now self.old net }
+        ensures walk { IsWalkOf nets.now self.new }
+        ensures keeps { KeepsLevels self.old self.new }
+        ensures less { HasLessLeft self.new self.old }
     {
         let level = level_above(nets[net as usize].arcs.as_slice(), &self.levels);
         self.levels[net as usize] = level;
@@ -123,15 +126,16 @@ impl Walk {
 impl Walk {
     /// The next input without a level of the net at the end of the path, after which the net's cursor stands.
     fn next_input(&mut self, nets: &[Net], net: u32) -> Option<u32>
-        requires walk { IsWalk nets.now self.old.levels.items self.old.cursors.items self.old.places.items self.old.path.items }
+        requires walk { IsWalkOf nets.now self.old }
         requires inputs { AreInputsThere nets.now }
         requires some { 0 < length self.old.path.items }
         requires last { net ≡ last_of self.old.path.items }
-        ensures walk { IsWalk nets.now self.new.levels.items self.new.cursors.items self.new.places.items self.new.path.items }
+        ensures walk { IsWalkOf nets.now self.new }
         ensures levels { self.new.levels.items ≡ self.old.levels.items }
         ensures places { self.new.places.items ≡ self.old.places.items }
         ensures path { self.new.path.items ≡ self.old.path.items }
-        ensures next { MatchOption result (IfSome (slice_get nets.now net) (λ n. HaveLevels self.old.levels.items n.arcs)) (λ input. IsWaitedFor nets.now self.old.levels.items net input) }
+        ensures next { MatchOption result (HasInputs nets.now self.old net)
+            (IsWaitedFor nets.now self.old.levels.items net) }
     {
         let arcs = nets[net as usize].arcs.as_slice();
         let next = first_waiting(arcs, &self.levels, self.cursors[net as usize]);
@@ -145,12 +149,12 @@ impl Walk {
 
     /// Puts an input of the net at the end of the path there, or finds it on the path.
     fn wait_for(&mut self, alloc: Global, nets: &[Net], input: u32) -> Result<(), BuildFault>
-        requires walk { IsWalk nets.now self.old.levels.items self.old.cursors.items self.old.places.items self.old.path.items }
+        requires walk { IsWalkOf nets.now self.old }
         requires some { 0 < length self.old.path.items }
         requires waits { IsWaitedFor nets.now self.old.levels.items (last_of self.old.path.items) input }
-        ensures walk { OnOk result (IsWalk nets.now self.new.levels.items self.new.cursors.items self.new.places.items self.new.path.items) }
+        ensures walk { OnOk result (IsWalkOf nets.now self.new) }
         ensures levels { self.new.levels.items ≡ self.old.levels.items }
-        ensures less { OnOk result (steps_left self.new.places.items self.new.path.items < steps_left self.old.places.items self.old.path.items) }
+        ensures less { OnOk result (HasLessLeft self.new self.old) }
         ensures fault { IfErr result (IsFaultOf nets.now) }
     {
         let place = self.places[input as usize];
@@ -164,14 +168,14 @@ impl Walk {
 
     /// Moves the walk on by one net: onto the path, or off it with its level. `root` is where a path begins.
     fn step(&mut self, alloc: Global, nets: &[Net], root: u32) -> Result<(), BuildFault>
-        requires walk { IsWalk nets.now self.old.levels.items self.old.cursors.items self.old.places.items self.old.path.items }
+        requires walk { IsWalkOf nets.now self.old }
         requires inputs { AreInputsThere nets.now }
-        requires few { length nets.now ≤ 262144 }
+        requires few { length nets.now ≤ most_nets }
         requires there { root < length nets.now }
         requires waits { slice_index self.old.levels.items root ≡ 0 }
-        ensures walk { OnOk result (IsWalk nets.now self.new.levels.items self.new.cursors.items self.new.places.items self.new.path.items) }
-        ensures keeps { OnOk result ((i : ℕ) → 0 < slice_index self.old.levels.items i → 0 < slice_index self.new.levels.items i) }
-        ensures less { OnOk result (steps_left self.new.places.items self.new.path.items < steps_left self.old.places.items self.old.path.items) }
+        ensures walk { OnOk result (IsWalkOf nets.now self.new) }
+        ensures keeps { OnOk result (KeepsLevels self.old self.new) }
+        ensures less { OnOk result (HasLessLeft self.new self.old) }
         ensures fault { IfErr result (IsFaultOf nets.now) }
     {
         if self.path.is_empty() {
@@ -192,7 +196,7 @@ impl Walk {
 /// The level of each net, or the loop that their arcs make.
 pub fn find_levels(alloc: Global, nets: &[Net]) -> Result<Vec<u32>, BuildFault>
     requires inputs { AreInputsThere nets.now }
-    requires few { length nets.now ≤ 262144 }
+    requires few { length nets.now ≤ most_nets }
     ensures levels { IfOk result (λ v. AreLevels nets.now v.items) }
     ensures most { IfOk result (λ v. greatest_of v.items ≤ length nets.now) }
     ensures fault { IfErr result (IsFaultOf nets.now) }

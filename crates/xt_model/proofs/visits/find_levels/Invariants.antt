@@ -1,5 +1,5 @@
 use Rattle.std.proofs.Common.{ℕ, ◌<◌, get_or}
-use Rattle.xt_model.specs.Visits.{IsWalk, steps_left}
+use Rattle.xt_model.specs.visits.Walk.{IsWalk, steps_left}
 use Rattle.xt_model.proofs.visits.find_levels.Given as goal
 
 abbrev pub invariant-loop-root : goal.invariant-loop-root

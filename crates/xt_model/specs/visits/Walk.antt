@@ -1,8 +1,9 @@
 -- How far a walk against the arcs has come that gives each net its level.
-use Rattle.std.specs.Prelude.{◌≡◌, ℕ, ◌+◌, ◌*◌, ◌-◌, ◌<◌, ◌≤◌, ◌==◌, List, length, take, Some, count_by}
+use Rattle.std.specs.Prelude.{◌≡◌, ℕ, ◌+◌, ◌*◌, ◌-◌, ◌<◌, ◌≤◌, ◌==◌, List, length, take, Some, IfSome, count_by}
 use Rattle.std.specs.List.{All, slice_get, slice_index}
 use Rattle.xt_model.specs.declared.net.TimingArc.{TimingArc}
 use Rattle.xt_model.specs.declared.net.Net.{Net}
+use Rattle.xt_model.specs.declared.visits.Walk.{Walk}
 use Rattle.xt_model.specs.Levels.{level_from, Reads}
 
 -- the input of each arc is a net that is there
@@ -12,6 +13,10 @@ AreInputsThere nets = (i : ℕ) (n : Net) → slice_get nets i ≡ Some n → Al
 -- the input of each of the arcs has a level; 0 stands for no level yet
 abbrev pub HaveLevels : List ℕ → List TimingArc → Type 0
 HaveLevels levels arcs = All (λ a. 0 < slice_index levels a.from.0) arcs
+
+-- the input of the arc of this number has no level yet
+abbrev pub WaitsAt : List TimingArc → List ℕ → ℕ → Type 0
+WaitsAt arcs levels i = IfSome (slice_get arcs i) (λ a. slice_index levels a.from.0 ≡ 0)
 
 -- how many numbers are still 0
 abbrev pub zeros_in : List ℕ → ℕ
@@ -26,7 +31,8 @@ pub record IsWalk (nets : List Net) (levels cursors places path : List ℕ) : Ty
   pub cursors_count : length cursors ≡ length nets
   pub places_count : length places ≡ length nets
   pub inputs : (i : ℕ) (n : Net) → slice_get nets i ≡ Some n → 0 < slice_index levels i → HaveLevels levels n.arcs
-  pub each : (i : ℕ) (n : Net) → slice_get nets i ≡ Some n → 0 < slice_index levels i → slice_index levels i ≡ level_from levels n.arcs
+  pub each : (i : ℕ) (n : Net) → slice_get nets i ≡ Some n → 0 < slice_index levels i
+      → slice_index levels i ≡ level_from levels n.arcs
   pub most : (i : ℕ) → slice_index levels i + zeros_in levels ≤ length levels
   pub cursors_within : (i : ℕ) (n : Net) → slice_get nets i ≡ Some n → slice_index cursors i ≤ length n.arcs
   pub before : (i : ℕ) (n : Net) → slice_get nets i ≡ Some n → HaveLevels levels (take (slice_index cursors i) n.arcs)
@@ -35,7 +41,8 @@ pub record IsWalk (nets : List Net) (levels cursors places path : List ℕ) : Ty
   pub place : (k : ℕ) → k < length path → slice_index places (slice_index path k) ≡ k + 1
   pub steps : (k : ℕ) → k + 1 < length path → Reads nets (slice_index path k) (slice_index path (k + 1))
   pub on_path : (i : ℕ) → 0 < slice_index places i → slice_index levels i ≡ 0 → slice_index places i ≤ length path
-  pub stands : (i : ℕ) → 0 < slice_index places i → slice_index levels i ≡ 0 → slice_index path (slice_index places i - 1) ≡ i
+  pub stands : (i : ℕ) → 0 < slice_index places i → slice_index levels i ≡ 0
+      → slice_index path (slice_index places i - 1) ≡ i
 
 -- the net at the end of the path
 abbrev pub last_of : List ℕ → ℕ
@@ -50,3 +57,19 @@ pub record IsWaitedFor (nets : List Net) (levels : List ℕ) (a b : ℕ) : Type 
 -- how much of a walk is left: each net may still come onto the path once and leave it once
 abbrev pub steps_left : List ℕ → List ℕ → ℕ
 steps_left places path = 2 * zeros_in places + length path
+
+-- how far this walk has come, as data
+abbrev pub IsWalkOf : List Net → Walk → Type 0
+IsWalkOf nets w = IsWalk nets w.levels.items w.cursors.items w.places.items w.path.items
+
+-- less is left of the first walk than of the second
+abbrev pub HasLessLeft : Walk → Walk → Type 0
+HasLessLeft w v = steps_left w.places.items w.path.items < steps_left v.places.items v.path.items
+
+-- every net with a level keeps one
+abbrev pub KeepsLevels : Walk → Walk → Type 0
+KeepsLevels w v = (i : ℕ) → 0 < slice_index w.levels.items i → 0 < slice_index v.levels.items i
+
+-- the inputs of all arcs of this net have levels
+abbrev pub HasInputs : List Net → Walk → ℕ → Type 0
+HasInputs nets w net = IfSome (slice_get nets net) (λ n. HaveLevels w.levels.items n.arcs)

@@ -1,0 +1,37 @@
+-- The codes of refused texts, as they are printed.
+use Rattle.std.specs.Prelude.{ℕ, List, codes}
+use Rattle.xt_model.specs.declared.code.Code.{Code}
+use Rattle.xt_model.specs.declared.code.Code.TheVariants as causes
+
+abbrev pub code_text : Code → List ℕ
+code_text causes.L1 = codes "L1"
+code_text causes.L2 = codes "L2"
+code_text causes.L3 = codes "L3"
+code_text causes.L4 = codes "L4"
+code_text causes.L5 = codes "L5"
+code_text causes.L6 = codes "L6"
+code_text causes.L7 = codes "L7"
+code_text causes.L8 = codes "L8"
+code_text causes.V1 = codes "V1"
+code_text causes.V2 = codes "V2"
+code_text causes.V3 = codes "V3"
+code_text causes.V4 = codes "V4"
+code_text causes.V5 = codes "V5"
+code_text causes.V6 = codes "V6"
+code_text causes.S1 = codes "S1"
+code_text causes.S2 = codes "S2"
+code_text causes.S3 = codes "S3"
+code_text causes.S4 = codes "S4"
+code_text causes.S5 = codes "S5"
+code_text causes.S6 = codes "S6"
+code_text causes.S7 = codes "S7"
+code_text causes.C1 = codes "C1"
+code_text causes.C2 = codes "C2"
+code_text causes.C3 = codes "C3"
+code_text causes.C4 = codes "C4"
+code_text causes.C5 = codes "C5"
+code_text causes.C6 = codes "C6"
+code_text causes.X1 = codes "X1"
+code_text causes.X2 = codes "X2"
+code_text causes.X3 = codes "X3"
+code_text causes.X9 = codes "X9"

@@ -1,0 +1,20 @@
+-- The factors by which a coupling capacitor counts, in quarters.
+use Rattle.std.specs.Prelude.{ℕ, ◌≤◌}
+use Rattle.xt_model.specs.Limits.{most_factor}
+
+-- where the aggressor switches the same way at the same time, where it stands still, and where it switches
+-- the other way at the same time
+pub record MillerNumbers : Type 0 where
+  pub low : ℕ
+  pub mid : ℕ
+  pub high : ℕ
+
+-- they rise, up to three whole capacitors
+pub record IsMiller (m : MillerNumbers) : Type 0 where
+  pub low : m.low ≤ m.mid
+  pub mid : m.mid ≤ m.high
+  pub high : m.high ≤ most_factor
+
+-- the classical factors 0, 1 and 2
+abbrev pub classical : MillerNumbers
+classical = record { low = 0; mid = 4; high = 8 }

@@ -1,0 +1,2 @@
+-- Definitions that the walk over the arcs alone needs.
+pub mod Walk

@@ -1,0 +1,77 @@
+use crate::limits::MOST_FACTOR;
+use std::marker::Model;
+
+/// The factors by which a coupling capacitor counts, in quarters: where the aggressor switches the same
+/// way at the same time, where it stands still, and where it switches the other way.
+#[derive(Clone, Copy, Debug, PartialEq, Eq)]
+pub struct Miller {
+    low: u8,
+    mid: u8,
+    high: u8,
+}
+
+impl Model for Miller {
+    ghost use Rattle.xt_model.specs.Miller.{MillerNumbers, IsMiller};
+
+    ghost Value = { MillerNumbers };
+
+    ghost view = { λ m. record { low = m.low; mid = m.mid; high = m.high } };
+
+    ghost inverse = { λ m. record { low = m.low; mid = m.mid; high = m.high } };
+
+    ghost invariant = { λ m. IsMiller (record { low = m.low; mid = m.mid; high = m.high }) };
+}
+
+impl Miller {
+    ghost use Rattle.std.specs.Prelude.{◌≡◌, MatchOption};
+    ghost use Rattle.xt_model.specs.Miller.{MillerNumbers, IsMiller, classical};
+
+    /// The three factors in quarters, or none where they fall or the last is above 12.
+    pub fn new(low: u8, mid: u8, high: u8) -> Option<Miller>
+        ensures { MatchOption
+            result
+            (IsMiller (record { low = low; mid = mid; high = high }) → ⊥)
+            (λ m. (m ≡ record { low = low; mid = mid; high = high }) × IsMiller m) }
+    {
+        if low <= mid && mid <= high && high <= MOST_FACTOR {
+            Some(Miller { low, mid, high })
+        } else {
+            None
+        }
+    }
+
+    /// The classical factors 0, 1 and 2.
+    pub fn classical() -> Miller
+        ensures { result ≡ classical }
+    {
+        Miller {
+            low: 0,
+            mid: 4,
+            high: 8,
+        }
+    }
+
+    /// The factor where the aggressor switches the same way at the same time, in quarters.
+    pub fn low(&self) -> u8
+        ensures value { result ≡ self.now.low }
+        ensures sound { IsMiller self.now }
+    {
+        self.low
+    }
+
+    /// The factor where the aggressor stands still, in quarters.
+    pub fn mid(&self) -> u8
+        ensures value { result ≡ self.now.mid }
+        ensures sound { IsMiller self.now }
+    {
+        self.mid
+    }
+
+    /// The factor where the aggressor switches the other way at the same time, in quarters.
+    pub fn high(&self) -> u8
+        ensures value { result ≡ self.now.high }
+        ensures sound { IsMiller self.now }
+    {
+        self.high
+    }
+}
