@@ -2,6 +2,7 @@ pub mod WorkedValues
 pub mod WorkedDesigns
 pub mod Ranges
 pub mod Order
+pub mod Meeting
 pub mod Growth
 pub mod Monotone
 pub mod Words
@@ -17,3 +18,8 @@ pub mod Existence
 pub mod Runs
 pub mod Rounds
 pub mod Passes
+pub mod Answers
+pub mod Sums
+pub mod ReadLists
+pub mod Numbers
+pub mod Whole

@@ -1,6 +1,5 @@
 -- How far windows can still go in a direction: the measure of a run.
-use Rattle.std.proofs.Common.{◌≡◌, ℕ, suc, ◌+◌, ◌<◌, ◌≤◌, ◌⊎◌, inl, inr, refl, List, [], ◌∷◌, length, ℤ, ◌+ℤ◌, ◌-ℤ◌, ◌≤ℤ◌, arith}
-use Rattle.std.specs.Prelude.{unsigned_abs}
+use Rattle.std.proofs.Common.{◌≡◌, ℕ, suc, ◌+◌, ◌<◌, ◌≤◌, ◌⊎◌, inl, inr, refl, List, [], ◌∷◌, length, ℤ, ◌≤ℤ◌, arith}
 use Rattle.std.specs.List.{All}
 use Rattle.std.proofs.lemmas.Int.{ints}
 use Rattle.std.proofs.lemmas.Bool.{cases_lt}
@@ -10,32 +9,14 @@ use Rattle.xt_model.specs.declared.direction.Direction.TheVariants.{Widen, Narro
 use Rattle.xt_model.specs.declared.edge.Edge.TheVariants.{Rise, Fall}
 use Rattle.xt_model.specs.declared.quad.Quad.{Quad}
 use Rattle.xt_model.specs.declared.quad.Pair.{Pair}
-use Rattle.xt_model.specs.Quads.{top_bound, IsBound, IsInRange, IsPairInRange}
+use Rattle.xt_model.specs.Quads.{IsBound, IsInRange, IsPairInRange}
 use Rattle.xt_model.specs.Parts.{Parts}
 use Rattle.xt_model.specs.Assign.{assigned}
+use Rattle.xt_meaning.specs.Measure.{above_least, below_greatest, quad_room, pair_room, room}
 use Rattle.xt_meaning.specs.Fixpoint.{IsWindows}
 use Rattle.xt_meaning.specs.Barrier.{IsNoFurther, NoFurther}
 use Rattle.xt_meaning.proofs.Order.{same_quad}
 use Rattle.xt_meaning.proofs.Extremes.{same_pair}
-
--- how far a bound is above the least one, and below the greatest one
-abbrev pub above_least : ℤ → ℕ
-above_least z = unsigned_abs (z +ℤ top_bound)
-
-abbrev pub below_greatest : ℤ → ℕ
-below_greatest z = unsigned_abs (top_bound -ℤ z)
-
--- how far the bounds of a window can still go
-abbrev pub quad_room : Direction → Quad → ℕ
-quad_room Widen q = (above_least q.tlo + below_greatest q.thi) + (above_least q.slo + below_greatest q.shi)
-quad_room Narrow q = (below_greatest q.tlo + above_least q.thi) + (below_greatest q.slo + above_least q.shi)
-
-abbrev pub pair_room : Direction → Pair → ℕ
-pair_room way p = quad_room way p.rise + quad_room way p.fall
-
-abbrev pub room : Direction → List Pair → ℕ
-room way [] = 0
-room way (p ∷ more) = pair_room way p + room way more
 
 -- ---- one bound
 above_falls : (a b : ℤ) → IsBound b → b ≤ℤ a → above_least b ≤ above_least a

@@ -1,5 +1,5 @@
 -- The operator is monotone, on any set of nets that covers what it looks at.
-use Rattle.std.proofs.Common.{◌≡◌, ℕ, Bool, true, false, refl, subst, List, [], ◌∷◌, arith}
+use Rattle.std.proofs.Common.{◌≡◌, ℕ, Bool, true, false, refl, subst, List, [], ◌∷◌, ℤ, arith}
 use Rattle.std.specs.Prelude.{IsTrue, if◌then◌else◌, Option, Some, None, IfSome}
 use Rattle.std.specs.List.{All, slice_get, fold}
 use Rattle.std.proofs.lemmas.Int.{ints}
@@ -15,13 +15,14 @@ use Rattle.xt_model.specs.Quads.{bottom, is_live, IsLive, IsWithin, join_of, qua
 use Rattle.xt_model.specs.Parts.{Parts}
 use Rattle.xt_model.specs.Assign.{Assignment}
 use Rattle.xt_meaning.specs.Lookup.{Box, table_value, slew_value}
-use Rattle.xt_meaning.specs.Overlap.{Answers, overlap_answers}
+use Rattle.xt_meaning.specs.Overlap.{Answers, IsRealPeriod, overlap_answers, all_overlap}
 use Rattle.xt_meaning.specs.Operator.{Range, wire_range, load_range, delay_range, slew_range, arc_box, contribution_by, contribution, contributes, with_arc, arcs_quad, net_quad, operator_by, operator, widest_operator}
 use Rattle.xt_meaning.specs.Reads.{HoldsOfEnds, HoldsOfArcReads, HoldsOfReads, IsContainedAt}
 use Rattle.xt_meaning.specs.Fixpoint.{IsContained}
 use Rattle.xt_meaning.specs.Laws.{IsRangeWithin}
 use Rattle.xt_meaning.proofs.Ranges.{IsBox, IsBoxWithin, least_over_larger, greatest_over_larger}
-use Rattle.xt_meaning.proofs.Order.{within_refl, within_trans, within_antisym, join_mono, join_left, both_true, true_both, ordered_from_live, live_mono, overlaps_mono}
+use Rattle.xt_meaning.proofs.Order.{within_refl, within_trans, within_antisym, join_mono, join_left, both_true, true_both, ordered_from_live, live_mono}
+use Rattle.xt_meaning.proofs.Meeting.{overlaps_mono}
 use Rattle.xt_meaning.proofs.Growth.{IsWired, AreWired, IsImpliedAt, IsRange, slew_growth_mono, load_range_ordered, load_range_mono, wire_range_ordered, wire_range_mono}
 
 -- ---- one arc
@@ -69,13 +70,13 @@ pub contribution_mono : (d : Parts) (b c : Answers) (W V : Assignment) (n : ℕ)
     → IsWithin (contribution d b W n net e a) (contribution d c V n net e a)
 contribution_mono d b c W V n net e a ws own g live =
     contribution_by_mono d a (W a.from.0 a.input) (V a.from.0 a.input)
-    (wire_range b a.from.0 a.input a.sink (slice_get d.nets a.from.0)) (wire_range c a.from.0 a.input a.sink (slice_get d.nets a.from.0))
-    (load_range b n e net) (load_range c n e net)
+    (wire_range d.miller b a.from.0 a.input a.sink (slice_get d.nets a.from.0)) (wire_range d.miller c a.from.0 a.input a.sink (slice_get d.nets a.from.0))
+    (load_range d.miller b n e net) (load_range d.miller c n e net)
     (g.input a.input) live
-    (wire_range_ordered b a.from.0 a.input a.sink (slice_get d.nets a.from.0) (ws.each a.from.0))
-    (load_range_ordered b n e net own)
-    (wire_range_mono b c a.from.0 a.input a.sink (slice_get d.nets a.from.0) g.wire (ws.each a.from.0))
-    (load_range_mono b c n e net g.own own)
+    (wire_range_ordered d.miller b a.from.0 a.input a.sink (slice_get d.nets a.from.0) ws.miller (ws.each a.from.0))
+    (load_range_ordered d.miller b n e net ws.miller own)
+    (wire_range_mono d.miller b c a.from.0 a.input a.sink (slice_get d.nets a.from.0) ws.miller g.wire (ws.each a.from.0))
+    (load_range_mono d.miller b c n e net ws.miller g.own own)
 
 pub contributes_mono : (W V : Assignment) (e : Edge) (a : TimingArc) → IsWithin (W a.from.0 a.input) (V a.from.0 a.input) → IsTrue (contributes W e a) → IsTrue (contributes V e a)
 contributes_mono W V e a h t =
@@ -128,32 +129,33 @@ unfolding operator_by
 operator_by_mono d b c W V n e ws g = net_mono d b c W V n e (slice_get d.nets n) ws (ws.each n) g.arcs
 
 -- ---- on a set of nets
-implied_on : (R : ℕ → Type 0) (W V : Assignment) (n : ℕ) (ks : List Coupling) → IsContainedAt R W V → R n → HoldsOfEnds R ks
-    → IsImpliedAt (overlap_answers W) (overlap_answers V) n ks
-implied_on R W V n ks h r ends = record {
-  each = λ e f. All-weaker (λ k. R k.to.0) (λ k. IsTrue (overlap_answers W n e k.to.0 f) → IsTrue (overlap_answers V n e k.to.0 f))
-      (λ k s t. overlaps_mono (W n e) (W k.to.0 f) (V n e) (V k.to.0 f) (h.each n e r) (h.each k.to.0 f s) t) ks ends;
+implied_on : (R : ℕ → Type 0) (p : Option ℤ) (W V : Assignment) (n : ℕ) (ks : List Coupling) → IsRealPeriod p → IsContainedAt R W V → R n → HoldsOfEnds R ks
+    → IsImpliedAt (overlap_answers p W) (overlap_answers p V) n ks
+implied_on R p W V n ks real h r ends = record {
+  each = λ e f. All-weaker (λ k. R k.to.0) (λ k. IsTrue (overlap_answers p W n e k.to.0 f) → IsTrue (overlap_answers p V n e k.to.0 f))
+      (λ k s t. overlaps_mono p (W n e) (W k.to.0 f) (V n e) (V k.to.0 f) real (h.each n e r) (h.each k.to.0 f s) t) ks ends;
 }
 
-arc_grows_on : (R : ℕ → Type 0) (d : Parts) (W V : Assignment) (n : ℕ) (net : Net) (a : TimingArc) → IsContainedAt R W V → HoldsOfArcReads R d n net a
-    → ArcGrows d (overlap_answers W) (overlap_answers V) W V n net a
-arc_grows_on R d W V n net a h r = record {
+arc_grows_on : (R : ℕ → Type 0) (d : Parts) (W V : Assignment) (n : ℕ) (net : Net) (a : TimingArc) → AreWired d → IsContainedAt R W V → HoldsOfArcReads R d n net a
+    → ArcGrows d (overlap_answers d.period W) (overlap_answers d.period V) W V n net a
+arc_grows_on R d W V n net a ws h r = record {
   input = λ e. h.each a.from.0 e r.from;
-  own = implied_on R W V n net.couplings h r.own r.aggressors;
-  wire = IfSome_then (slice_get d.nets a.from.0) r.from_aggressors (λ m ends. implied_on R W V a.from.0 m.couplings h r.from ends);
+  own = implied_on R d.period W V n net.couplings ws.period h r.own r.aggressors;
+  wire = IfSome_then (slice_get d.nets a.from.0) r.from_aggressors (λ m ends. implied_on R d.period W V a.from.0 m.couplings ws.period h r.from ends);
 }
 
-net_grows_on : (R : ℕ → Type 0) (d : Parts) (W V : Assignment) (n : ℕ) → IsContainedAt R W V → HoldsOfReads R d n
-    → NetGrows d (overlap_answers W) (overlap_answers V) W V n
-net_grows_on R d W V n h r = record {
-  arcs = IfSome_then (slice_get d.nets n) r.arcs (λ net each. All-weaker (HoldsOfArcReads R d n net) (ArcGrows d (overlap_answers W) (overlap_answers V) W V n net)
-      (λ a s. arc_grows_on R d W V n net a h s) net.arcs each);
+net_grows_on : (R : ℕ → Type 0) (d : Parts) (W V : Assignment) (n : ℕ) → AreWired d → IsContainedAt R W V → HoldsOfReads R d n
+    → NetGrows d (overlap_answers d.period W) (overlap_answers d.period V) W V n
+net_grows_on R d W V n ws h r = record {
+  arcs = IfSome_then (slice_get d.nets n) r.arcs (λ net each. All-weaker (HoldsOfArcReads R d n net) (ArcGrows d (overlap_answers d.period W) (overlap_answers d.period V) W V n net)
+      (λ a s. arc_grows_on R d W V n net a ws h s) net.arcs each);
 }
 
 -- windows that are contained where the operator looks for a net make a contained window of it
 pub operator_mono_at : (R : ℕ → Type 0) (d : Parts) (W V : Assignment) (n : ℕ) (e : Edge) → AreWired d → HoldsOfReads R d n → IsContainedAt R W V
     → IsWithin (operator d W n e) (operator d V n e)
-operator_mono_at R d W V n e ws r h = operator_by_mono d (overlap_answers W) (overlap_answers V) W V n e ws (net_grows_on R d W V n h r)
+operator_mono_at R d W V n e ws r h =
+    operator_by_mono d (overlap_answers d.period W) (overlap_answers d.period V) W V n e ws (net_grows_on R d W V n ws h r)
 
 -- windows that agree where the operator looks for a net make the same window of it
 pub operator_same_at : (R : ℕ → Type 0) (d : Parts) (W V : Assignment) (n : ℕ) (e : Edge) → AreWired d → HoldsOfReads R d n → IsContainedAt R W V → IsContainedAt R V W
@@ -165,7 +167,7 @@ pub contained_from_same : (R : ℕ → Type 0) (W V : Assignment) → ((m : ℕ)
 contained_from_same R W V same = record { each = λ m f r. let P : Quad → Type 0 = λ q. IsWithin (W m f) q in subst P (same m f r) (within_refl (W m f)) }
 
 -- ---- on all nets
-everywhere : (d : Parts) (n : ℕ) → HoldsOfReads (λ i. Unit {0}) d n
+pub everywhere : (d : Parts) (n : ℕ) → HoldsOfReads (λ i. Unit {0}) d n
 everywhere d n = record { arcs = any (slice_get d.nets n) } where
   ends : (ks : List Coupling) → HoldsOfEnds (λ i. Unit {0}) ks
   ends ks = λ k x h. tt
@@ -182,10 +184,10 @@ pub operator_mono : (d : Parts) (W V : Assignment) → AreWired d → IsContaine
 operator_mono d W V ws h = record { each = λ n e. operator_mono_at (λ i. Unit {0}) d W V n e ws (everywhere d n) (record { each = λ m f u. h.each m f }) }
 
 -- ---- where everything overlaps
-all_implied : (b : Answers) (n : ℕ) (ks : List Coupling) → IsImpliedAt b (λ n e m f. true) n ks
+all_implied : (b : Answers) (n : ℕ) (ks : List Coupling) → IsImpliedAt b all_overlap n ks
 all_implied b n ks = record { each = λ e f k x h t. refl }
 
-implied_behind : (d : Parts) (b : Answers) (m : ℕ) (o : Option Net) → IfSome o (λ net. IsImpliedAt b (λ n e m f. true) m net.couplings)
+implied_behind : (d : Parts) (b : Answers) (m : ℕ) (o : Option Net) → IfSome o (λ net. IsImpliedAt b all_overlap m net.couplings)
 implied_behind d b m None = tt
 implied_behind d b m (Some net) = all_implied b m net.couplings
 
@@ -196,8 +198,8 @@ InputsGrow d W V n = IfSome (slice_get d.nets n) (λ net. All (λ a. (e : Edge) 
 -- with any answers, the window lies within that where everything overlaps
 pub operator_by_widest : (d : Parts) (b : Answers) (W V : Assignment) (n : ℕ) (e : Edge) → AreWired d → InputsGrow d W V n
     → IsWithin (operator_by d b W n e) (widest_operator d V n e)
-operator_by_widest d b W V n e ws g = operator_by_mono d b (λ n e m f. true) W V n e ws (record {
-  arcs = IfSome_then (slice_get d.nets n) g (λ net each. All-weaker (λ a. (e : Edge) → IsWithin (W a.from.0 e) (V a.from.0 e)) (ArcGrows d b (λ n e m f. true) W V n net)
+operator_by_widest d b W V n e ws g = operator_by_mono d b all_overlap W V n e ws (record {
+  arcs = IfSome_then (slice_get d.nets n) g (λ net each. All-weaker (λ a. (e : Edge) → IsWithin (W a.from.0 e) (V a.from.0 e)) (ArcGrows d b all_overlap W V n net)
       (λ a h. record { input = h; own = all_implied b n net.couplings; wire = implied_behind d b a.from.0 (slice_get d.nets a.from.0) }) net.arcs each);
 })
 
@@ -208,7 +210,7 @@ inputs_within d W V n h = inputs (slice_get d.nets n) where
   inputs (Some net) = λ k x g e. h.each _ e
 
 pub widest_mono : (d : Parts) (W V : Assignment) → AreWired d → IsContained W V → IsContained (widest_operator d W) (widest_operator d V)
-widest_mono d W V ws h = record { each = λ n e. operator_by_widest d (λ n e m f. true) W V n e ws (inputs_within d W V n h) }
+widest_mono d W V ws h = record { each = λ n e. operator_by_widest d all_overlap W V n e ws (inputs_within d W V n h) }
 
 pub contained_refl : (W : Assignment) → IsContained W W
 contained_refl W = record { each = λ n e. within_refl (W n e) }
@@ -217,24 +219,26 @@ pub contained_trans : (W V U : Assignment) → IsContained W V → IsContained V
 contained_trans W V U h k = record { each = λ n e. within_trans (W n e) (V n e) (U n e) (h.each n e) (k.each n e) }
 
 pub widest_contains : (d : Parts) (W : Assignment) → AreWired d → IsContained (operator d W) (widest_operator d W)
-widest_contains d W ws = record { each = λ n e. operator_by_widest d (overlap_answers W) W W n e ws (inputs_within d W W n (contained_refl W)) }
+widest_contains d W ws = record { each = λ n e. operator_by_widest d (overlap_answers d.period W) W W n e ws (inputs_within d W W n (contained_refl W)) }
 
 -- ---- ranges
-pub overlap_mono : (W V : Assignment) (n : ℕ) (e : Edge) (m : ℕ) (f : Edge) → IsContained W V → IsTrue (overlap_answers W n e m f) → IsTrue (overlap_answers V n e m f)
-overlap_mono W V n e m f h t = overlaps_mono (W n e) (W m f) (V n e) (V m f) (h.each n e) (h.each m f) t
+pub overlap_mono : (p : Option ℤ) (W V : Assignment) (n : ℕ) (e : Edge) (m : ℕ) (f : Edge) → IsRealPeriod p → IsContained W V
+    → IsTrue (overlap_answers p W n e m f) → IsTrue (overlap_answers p V n e m f)
+overlap_mono p W V n e m f real h t = overlaps_mono p (W n e) (W m f) (V n e) (V m f) real (h.each n e) (h.each m f) t
 
-implied_everywhere : (W V : Assignment) (n : ℕ) (ks : List Coupling) → IsContained W V → IsImpliedAt (overlap_answers W) (overlap_answers V) n ks
-implied_everywhere W V n ks h = record { each = λ e f k x b t. overlap_mono W V n e _ f h t }
+implied_everywhere : (p : Option ℤ) (W V : Assignment) (n : ℕ) (ks : List Coupling) → IsRealPeriod p → IsContained W V → IsImpliedAt (overlap_answers p W) (overlap_answers p V) n ks
+implied_everywhere p W V n ks real h = record { each = λ e f k x b t. overlap_mono p W V n e _ f real h t }
 
 pub loads_grow : (d : Parts) (W V : Assignment) (n : ℕ) (e : Edge) (net : Net) → AreWired d → slice_get d.nets n ≡ Some net → IsContained W V
-    → IsRangeWithin (load_range (overlap_answers W) n e net) (load_range (overlap_answers V) n e net)
+    → IsRangeWithin (load_range d.miller (overlap_answers d.period W) n e net) (load_range d.miller (overlap_answers d.period V) n e net)
 loads_grow d W V n e net ws there h =
     let P : Option Net → Type 0 = λ o. IfSome o IsWired in
-    load_range_mono (overlap_answers W) (overlap_answers V) n e net (implied_everywhere W V n net.couplings h) (subst P there (ws.each n))
+    load_range_mono d.miller (overlap_answers d.period W) (overlap_answers d.period V) n e net ws.miller (implied_everywhere d.period W V n net.couplings ws.period h) (subst P there (ws.each n))
 
 pub wires_grow : (d : Parts) (W V : Assignment) (n : ℕ) (e : Edge) (sink : ℕ) → AreWired d → IsContained W V
-    → IsRangeWithin (wire_range (overlap_answers W) n e sink (slice_get d.nets n)) (wire_range (overlap_answers V) n e sink (slice_get d.nets n))
-wires_grow d W V n e sink ws h = wire_range_mono (overlap_answers W) (overlap_answers V) n e sink (slice_get d.nets n) (implied (slice_get d.nets n)) (ws.each n) where
-  implied : (o : Option Net) → IfSome o (λ m. IsImpliedAt (overlap_answers W) (overlap_answers V) n m.couplings)
-  implied None = tt
-  implied (Some m) = implied_everywhere W V n m.couplings h
+    → IsRangeWithin (wire_range d.miller (overlap_answers d.period W) n e sink (slice_get d.nets n)) (wire_range d.miller (overlap_answers d.period V) n e sink (slice_get d.nets n))
+wires_grow d W V n e sink ws h =
+    wire_range_mono d.miller (overlap_answers d.period W) (overlap_answers d.period V) n e sink (slice_get d.nets n) ws.miller (implied (slice_get d.nets n)) (ws.each n) where
+      implied : (o : Option Net) → IfSome o (λ m. IsImpliedAt (overlap_answers d.period W) (overlap_answers d.period V) n m.couplings)
+      implied None = tt
+      implied (Some m) = implied_everywhere d.period W V n m.couplings ws.period h

@@ -6,8 +6,8 @@ use Rattle.std.proofs.Math.Nat.{div-mul-le_self}
 use Rattle.std.proofs.lemmas.Nat.{le-div}
 use Rattle.std.proofs.lemmas.Int.{ints, clamps}
 use Rattle.xt_model.specs.declared.quad.Quad.{Quad}
-use Rattle.xt_model.specs.Quads.{is_live, IsLive, IsWithin, join_of}
-use Rattle.xt_meaning.specs.Overlap.{half_up, active_from, active_to, ranges_meet, overlaps}
+use Rattle.xt_model.specs.Quads.{IsLive, IsWithin, join_of}
+use Rattle.xt_meaning.specs.Overlap.{half_up}
 
 pub within_refl : (q : Quad) → IsWithin q q
 within_refl q = record { tlo = omega (arith, ints); thi = omega (arith, ints); slo = omega (arith, ints); shi = omega (arith, ints) }
@@ -83,28 +83,3 @@ div_euclid_mono (negsuc a) (negsuc b) d p h = let k : b / d ≤ a / d = div_mono
 
 pub half_up_mono : (x y : ℤ) → x ≤ℤ y → half_up x ≤ℤ half_up y
 half_up_mono x y h = div_euclid_mono (x +ℤ pos 1) (y +ℤ pos 1) 2 (omega arith) (omega (arith, ints))
-
--- ---- overlap
-active_from_mono : (q r : Quad) → IsWithin q r → active_from r ≤ℤ active_from q
-active_from_mono q r w = let h = half_up_mono q.shi r.shi w.shi in omega (arith, ints)
-
-active_to_mono : (q r : Quad) → IsWithin q r → active_to q ≤ℤ active_to r
-active_to_mono q r w = let h = half_up_mono q.shi r.shi w.shi in omega (arith, ints)
-
-ranges_meet_mono : (a0 a1 b0 b1 c0 c1 d0 d1 : ℤ) → c0 ≤ℤ a0 → a1 ≤ℤ c1 → d0 ≤ℤ b0 → b1 ≤ℤ d1 → IsTrue (ranges_meet a0 a1 b0 b1) → IsTrue (ranges_meet c0 c1 d0 d1)
-ranges_meet_mono a0 a1 b0 b1 c0 c1 d0 d1 p q r s h =
-    let t = both_true (int_le a0 b1) (int_le b0 a1) h in
-    let x = le_from_test a0 b1 t.0 in
-    let y = le_from_test b0 a1 t.1 in
-    true_both (int_le c0 d1) (int_le d0 c1) (test_from_le c0 d1 (omega (arith, ints))) (test_from_le d0 c1 (omega (arith, ints)))
-
--- windows that contain overlapping ones overlap
-pub overlaps_mono : (q r s t : Quad) → IsWithin q s → IsWithin r t → IsTrue (overlaps q r) → IsTrue (overlaps s t)
-overlaps_mono q r s t a b h =
-    let first = both_true (is_live q) (is_live r && ranges_meet (active_from q) (active_to q) (active_from r) (active_to r)) h in
-    let more = both_true (is_live r) (ranges_meet (active_from q) (active_to q) (active_from r) (active_to r)) first.1 in
-    let meet = ranges_meet_mono (active_from q) (active_to q) (active_from r) (active_to r) (active_from s) (active_to s) (active_from t) (active_to t)
-    (active_from_mono q s a) (active_to_mono q s a) (active_from_mono r t b) (active_to_mono r t b) more.1 in
-    true_both (is_live s) (is_live t && ranges_meet (active_from s) (active_to s) (active_from t) (active_to t))
-    (live_mono q s a first.0)
-    (true_both (is_live t) (ranges_meet (active_from s) (active_to s) (active_from t) (active_to t)) (live_mono r t b more.0) meet)

@@ -102,7 +102,7 @@ pub step_in_range : (d : Parts) (v : List Pair) (n : ℕ) (e : Edge) → IsSound
 step_in_range d v n e s w =
     let ws = wired d s in
     let c = contained_trans (step d v) (step d w.top) (assigned w.top) (operator_mono d (assigned v) (assigned w.top) ws w.contained) (envelope_closed d w.top ws w.envelope.widest) in
-    between_in_range (step d v n e) (assigned w.top n e) (bottom_within_operator d (overlap_answers (assigned v)) (assigned v) n e s) (c.each n e)
+    between_in_range (step d v n e) (assigned w.top n e) (bottom_within_operator d (overlap_answers d.period (assigned v)) (assigned v) n e s) (c.each n e)
     (windows_in_range d w.top w.envelope.windows n e)
 
 -- ---- a round
@@ -151,7 +151,7 @@ round_past way d start now P all r = record {
   each = λ n e. elim (cases_lt n (length d.nets)) [
     | inl p ↦ r.past n e (all n p)
     | inr p ↦
-        let a = past_bottom d (overlap_answers (assigned start)) (assigned start) n e p in
+        let a = past_bottom d (overlap_answers d.period (assigned start)) (assigned start) n e p in
         let b : assigned now n e ≡ bottom = ap (λ o. quad_of_pair o e) (slice_get_past now n (beyond (length now) (length d.nets) n r.fitting.windows.count p)) in
         no_further_same way (step d start n e) (assigned now n e) (a ∙ sym b)
   ];

@@ -16,7 +16,8 @@ use Rattle.xt_meaning.proofs.Monotone.{contained_trans}
 use Rattle.xt_meaning.proofs.Steps.{between_respects, between_fits, contained_narrow}
 use Rattle.xt_meaning.proofs.Extremes.{fixpoint_from_closed}
 use Rattle.xt_meaning.proofs.Limits.{respecting_within}
-use Rattle.xt_meaning.proofs.Measure.{room, room_less}
+use Rattle.xt_meaning.specs.Measure.{room}
+use Rattle.xt_meaning.proofs.Measure.{room_less}
 
 -- a step leads to windows within the envelope
 pub within_after : (way : Direction) (d : Parts) (top : List Pair) (before after : Assignment) → IsSound d → IsEnvelope d top → Respects way d after → NoFurther way before after

@@ -117,7 +117,7 @@ quiet_fits d top s env acc = record {
   respects = respects_apart Widen d (assigned (quiet_windows d)) (quiet_before_barriers d);
   fits = record {
     each = (quiet_within (length d.nets) (step d (quiet_windows d))
-        (λ n e. bottom_within_operator d (overlap_answers (assigned (quiet_windows d))) (assigned (quiet_windows d)) n e s)).each;
+        (λ n e. bottom_within_operator d (overlap_answers d.period (assigned (quiet_windows d))) (assigned (quiet_windows d)) n e s)).each;
   };
   within = record {
     top = top;

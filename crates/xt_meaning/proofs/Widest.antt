@@ -1,6 +1,6 @@
 -- The envelope contains all windows that lie within what the operator makes of them: by induction over levels.
 use Rattle.std.proofs.Common.{◌≡◌, ℕ, zero, suc, ◌<◌, refl, sym, subst, ◌∙◌, List, [], ◌∷◌, arith}
-use Rattle.std.specs.Prelude.{true, Option, Some, None, IfSome, slice_index}
+use Rattle.std.specs.Prelude.{Option, Some, None, IfSome, slice_index}
 use Rattle.std.specs.List.{All, slice_get}
 use Rattle.std.proofs.lemmas.List.Elements.{All-nil, All-cons, All-weaker}
 use Rattle.xt_model.specs.declared.direction.Direction.TheVariants.{Widen}
@@ -13,6 +13,7 @@ use Rattle.xt_model.specs.Quads.{IsWithin}
 use Rattle.xt_model.specs.Parts.{Parts}
 use Rattle.xt_model.specs.Levels.{level_from, AreLevels}
 use Rattle.xt_model.specs.Assign.{Assignment, assigned}
+use Rattle.xt_meaning.specs.Overlap.{all_overlap}
 use Rattle.xt_meaning.specs.Operator.{operator, widest_operator, step}
 use Rattle.xt_meaning.specs.Fixpoint.{IsContained}
 use Rattle.xt_meaning.specs.Envelope.{IsWidest, IsEnvelope}
@@ -53,7 +54,7 @@ contains_below d ls W w ws levels widest fits (suc most) n h e =
     (λ a below f. contains_below d ls W w ws levels widest fits most a.from.0 (omega arith) f) net.arcs (inputs_below d.nets ls levels n net there)) in
     let P : Quad → Type 0 = λ q. IsWithin (widest_operator d W n e) q in
     within_trans (W n e) (widest_operator d W n e) (assigned w n e) (fits.each n e)
-    (subst P (widest.fixed n e) (operator_by_widest d (λ i f m g. true) W (assigned w) n e ws inputs))
+    (subst P (widest.fixed n e) (operator_by_widest d all_overlap W (assigned w) n e ws inputs))
 
 -- it contains what lies within what is made of it where everything overlaps
 pub widest_is_greatest : (d : Parts) (ls : List ℕ) (W : Assignment) (w : List Pair) → AreWired d → AreLevels d.nets ls → IsWidest d w → IsContained W (widest_operator d W)

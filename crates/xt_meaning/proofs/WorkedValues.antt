@@ -1,11 +1,12 @@
--- Values worked out by hand, computed by the definitions: tables and their ranges, overlap, printed thousandths.
-use Rattle.std.specs.Prelude.{◌≡◌, refl, true, false, [], ◌∷◌, codes, ℤ, pos, negsuc}
-use Rattle.std.specs.Fmt.{digits}
+-- Values worked out by hand, computed by the definitions: tables and their ranges, overlap.
+use Rattle.std.specs.Prelude.{◌≡◌, refl, true, false, [], ◌∷◌, ℤ, pos, negsuc, Some, None}
 use Rattle.xt_model.specs.declared.quad.Quad.{Quad}
 use Rattle.xt_model.specs.Tables.{TableParts}
 use Rattle.xt_meaning.specs.Lookup.{table_value, slew_value, Box, least_over, greatest_over}
-use Rattle.xt_meaning.specs.Overlap.{half_up, overlaps}
-use Rattle.xt_number.specs.Thousandths.{thousandths}
+use Rattle.xt_model.specs.declared.net.Net.{Net}
+use Rattle.xt_model.specs.Quads.{bottom}
+use Rattle.xt_meaning.specs.Wires.{load_of, wire_delay}
+use Rattle.xt_meaning.specs.Overlap.{half_up, ranges_meet, overlaps}
 
 abbrev plane : TableParts
 plane = record { slews = pos 0 ∷ pos 100000 ∷ []; loads = pos 0 ∷ pos 10000 ∷ []; values = pos 10000 ∷ pos 30000 ∷ pos 20000 ∷ pos 60000 ∷ [] }
@@ -54,13 +55,41 @@ abbrev at_with_slew : ℤ → ℤ → Quad
 at_with_slew t s = record { tlo = t; thi = t; slo = pos 0; shi = s }
 
 -- two transitions with slews of 3 fs touch where they are 4 fs apart, and not where they are 5 fs apart
-touching : (overlaps (at_with_slew (pos 0) (pos 3)) (at_with_slew (pos 4) (pos 3)) ∷ overlaps (at_with_slew (pos 0) (pos 3)) (at_with_slew (pos 5) (pos 3)) ∷ []) ≡ (true ∷ false ∷ [])
+touching : (overlaps None (at_with_slew (pos 0) (pos 3)) (at_with_slew (pos 4) (pos 3))
+    ∷ overlaps None (at_with_slew (pos 0) (pos 3)) (at_with_slew (pos 5) (pos 3)) ∷ []) ≡ (true ∷ false ∷ [])
 touching = refl
 
 -- a dead window overlaps nothing, dead by its times or by its slews
-dead : (overlaps (record { tlo = pos 5; thi = pos 4; slo = pos 0; shi = pos 9 }) (at_with_slew (pos 4) (pos 3)) ∷ overlaps (at_with_slew (pos 0) (pos 3)) (record { tlo = pos 0; thi = pos 0; slo = pos 5; shi = pos 4 }) ∷ []) ≡ (false ∷ false ∷ [])
+dead : (overlaps None (record { tlo = pos 5; thi = pos 4; slo = pos 0; shi = pos 9 }) (at_with_slew (pos 4) (pos 3))
+    ∷ overlaps None (at_with_slew (pos 0) (pos 3)) (record { tlo = pos 0; thi = pos 0; slo = pos 5; shi = pos 4 }) ∷ []) ≡ (false ∷ false ∷ [])
 dead = refl
 
-printed : (thousandths (pos 1234) ∷ thousandths (negsuc 499) ∷ thousandths (negsuc 0) ∷ thousandths (pos 0) ∷ []) ≡ (codes "1.234" ∷ codes "-0.500" ∷ codes "-0.001" ∷ codes "0.000" ∷ [])
-unfolding thousandths digits
-printed = refl
+-- 300 fs apart: they meet after three periods of 100, either way round, and after none of 70 but for their slews
+periods_apart : (overlaps (Some (pos 100)) (at_with_slew (pos 0) (pos 0)) (at_with_slew (pos 300) (pos 0))
+    ∷ overlaps (Some (pos 100)) (at_with_slew (pos 300) (pos 0)) (at_with_slew (pos 0) (pos 0))
+    ∷ overlaps (Some (pos 70)) (at_with_slew (pos 0) (pos 0)) (at_with_slew (pos 300) (pos 0))
+    ∷ overlaps (Some (pos 70)) (at_with_slew (pos 0) (pos 20)) (at_with_slew (pos 300) (pos 20))
+    ∷ overlaps (Some (pos 70)) (at_with_slew (negsuc 299) (pos 18)) (at_with_slew (pos 0) (pos 20)) ∷ [])
+    ≡ (true ∷ true ∷ false ∷ true ∷ false ∷ [])
+periods_apart = refl
+
+-- a range as long as the period meets everything; one whose low end is above its high end meets what covers both
+spans : (ranges_meet (Some (pos 10)) (pos 0) (pos 10) (pos 1234) (pos 1234) ∷ ranges_meet (Some (pos 10)) (pos 3) (pos 1) (pos 0) (pos 5)
+    ∷ ranges_meet (Some (pos 10)) (pos 3) (pos 1) (pos 2) (pos 2) ∷ []) ≡ (true ∷ true ∷ false ∷ [])
+spans = refl
+
+-- quarters are summed before they are rounded down: three of 1 aF and three of another are 1 aF in all
+abbrev two_taps : Net
+two_taps = record {
+  name = [];
+  input = true;
+  load = pos 5;
+  given = record { rise = bottom; fall = bottom };
+  couplings = (record { to = record { 0 = 1 }; cap = pos 1 }) ∷ (record { to = record { 0 = 2 }; cap = pos 1 }) ∷ [];
+  sinks = (record { name = []; base = pos 999999; coefs = pos 1000000 ∷ pos 1 ∷ [] }) ∷ [];
+  arcs = [];
+}
+
+quarters : (load_of (3 ∷ 3 ∷ []) two_taps ∷ load_of (4 ∷ 12 ∷ []) two_taps ∷ wire_delay (12 ∷ 3 ∷ []) two_taps 0 ∷ wire_delay (12 ∷ 4 ∷ []) two_taps 0 ∷ [])
+    ≡ (pos 6 ∷ pos 9 ∷ pos 3 ∷ pos 4 ∷ [])
+quarters = refl

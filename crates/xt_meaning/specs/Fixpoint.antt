@@ -26,9 +26,11 @@ pub record IsFixpoint (d : Parts) (v : List Pair) : Type 0 where
 -- x is a fixpoint, and lies within all windows that contain what the operator makes of them
 pub record IsLeastFixpoint (d : Parts) (x : List Pair) : Type 0 where
   pub fixpoint : IsFixpoint d x
-  pub least : (v : List Pair) → IsWindows d v → IsContained (step d v) (assigned v) → IsContained (assigned x) (assigned v)
+  pub least : (v : List Pair) → IsWindows d v → IsContained (step d v) (assigned v)
+      → IsContained (assigned x) (assigned v)
 
 -- y is a fixpoint, and contains all windows that lie within what the operator makes of them
 pub record IsGreatestFixpoint (d : Parts) (y : List Pair) : Type 0 where
   pub fixpoint : IsFixpoint d y
-  pub greatest : (v : List Pair) → IsWindows d v → IsContained (assigned v) (step d v) → IsContained (assigned v) (assigned y)
+  pub greatest : (v : List Pair) → IsWindows d v → IsContained (assigned v) (step d v)
+      → IsContained (assigned v) (assigned y)

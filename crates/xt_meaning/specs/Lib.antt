@@ -6,8 +6,8 @@ pub mod Reads
 pub mod Fixpoint
 pub mod Envelope
 pub mod Barrier
-pub mod Lines
-pub mod Linked
-pub mod Guilt
-pub mod Report
+pub mod Words
+pub mod Measure
 pub mod Laws
+pub mod AnswerLaws
+pub mod WordLaws

@@ -1,5 +1,6 @@
 -- The value of a look-up table at a slew and a load, and its range over a box of them.
-use Rattle.std.specs.Prelude.{ℕ, ◌+◌, ◌*◌, ◌-◌, zero, suc, ◌==◌, if◌then◌else◌, ℤ, pos, ◌+ℤ◌, ◌-ℤ◌, ◌*ℤ◌, int_le, unsigned_abs, List, length, count_by, take, drop}
+use Rattle.std.specs.Prelude.{ℕ, ◌+◌, ◌*◌, ◌-◌, zero, suc, ◌==◌, if◌then◌else◌, ℤ, pos, ◌+ℤ◌, ◌-ℤ◌, ◌*ℤ◌, int_le}
+use Rattle.std.specs.Prelude.{unsigned_abs, List, length, count_by, take, drop}
 use Rattle.std.specs.Int.{int_min, int_max, int_div_euclid}
 use Rattle.std.specs.List.{slice_index_or}
 use Rattle.xt_model.specs.Tables.{TableParts}
@@ -38,7 +39,9 @@ whole_span = record { first = 0; second = 0; above = pos 0; below = pos 1; width
 -- the cell of an axis that holds x, once x is clamped: as many inner grid lines lie at or below x as cells
 -- lie before it
 abbrev pub span_of : List ℤ → ℤ → Span
-span_of xs x = if length xs == 1 then whole_span else span_at xs (clamped xs x) (count_by (λ g. int_le g (clamped xs x)) (inner_lines xs))
+span_of xs x =
+    if length xs == 1 then whole_span
+    else span_at xs (clamped xs x) (count_by (λ g. int_le g (clamped xs x)) (inner_lines xs))
 
 -- the value of a row and a column
 abbrev pub cell_value : TableParts → ℕ → ℕ → ℤ
@@ -48,7 +51,8 @@ cell_value t row column = slice_index_or t.values (row * length t.loads + column
 abbrev pub weighted : TableParts → Span → Span → ℤ
 weighted t s c =
     (((cell_value t s.first c.first *ℤ s.below) *ℤ c.below) +ℤ ((cell_value t s.first c.second *ℤ s.below) *ℤ c.above))
-    +ℤ (((cell_value t s.second c.first *ℤ s.above) *ℤ c.below) +ℤ ((cell_value t s.second c.second *ℤ s.above) *ℤ c.above))
+    +ℤ (((cell_value t s.second c.first *ℤ s.above) *ℤ c.below)
+    +ℤ ((cell_value t s.second c.second *ℤ s.above) *ℤ c.above))
 
 -- the floor of the exact bilinear fraction, over the area of the cell
 abbrev pub value_in : TableParts → Span → Span → ℤ
@@ -85,8 +89,12 @@ steps_between a b = unsigned_abs (b -ℤ a)
 
 -- the least of f over every whole point of the box
 unfoldable pub least_over : (ℤ → ℤ → ℤ) → Box → ℤ
-least_over f b = least_of (λ i. least_of (λ j. f (b.s0 +ℤ pos i) (b.c0 +ℤ pos j)) (steps_between b.c0 b.c1)) (steps_between b.s0 b.s1)
+least_over f b =
+    least_of (λ i. least_of (λ j. f (b.s0 +ℤ pos i) (b.c0 +ℤ pos j)) (steps_between b.c0 b.c1))
+    (steps_between b.s0 b.s1)
 
 -- the greatest of f over every whole point of the box
 unfoldable pub greatest_over : (ℤ → ℤ → ℤ) → Box → ℤ
-greatest_over f b = greatest_of (λ i. greatest_of (λ j. f (b.s0 +ℤ pos i) (b.c0 +ℤ pos j)) (steps_between b.c0 b.c1)) (steps_between b.s0 b.s1)
+greatest_over f b =
+    greatest_of (λ i. greatest_of (λ j. f (b.s0 +ℤ pos i) (b.c0 +ℤ pos j)) (steps_between b.c0 b.c1))
+    (steps_between b.s0 b.s1)

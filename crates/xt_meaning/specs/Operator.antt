@@ -1,5 +1,5 @@
 -- The window operator: what the windows of all nets make of each net's window (after Zhou 2003).
-use Rattle.std.specs.Prelude.{ℕ, Bool, true, ◌&&◌, if◌then◌else◌, ℤ, pos, ◌+ℤ◌, List, [], ◌∷◌, Option, Some, None}
+use Rattle.std.specs.Prelude.{ℕ, Bool, ◌&&◌, if◌then◌else◌, ℤ, pos, ◌+ℤ◌, List, [], ◌∷◌, Option, Some, None}
 use Rattle.std.specs.List.{slice_get, fold}
 use Rattle.xt_model.specs.declared.edge.Edge.{Edge}
 use Rattle.xt_model.specs.declared.quad.Quad.{Quad}
@@ -8,26 +8,33 @@ use Rattle.xt_model.specs.declared.table.Table.{Table}
 use Rattle.xt_model.specs.declared.net.TimingArc.{TimingArc}
 use Rattle.xt_model.specs.declared.net.Net.{Net}
 use Rattle.xt_model.specs.Quads.{bottom, is_live, join_of, quad_at, same_edge}
+use Rattle.xt_model.specs.Miller.{MillerNumbers}
 use Rattle.xt_model.specs.Parts.{Parts}
 use Rattle.xt_model.specs.Assign.{Assignment, assigned}
 use Rattle.xt_meaning.specs.Lookup.{Box, table_value, slew_value, least_over, greatest_over}
 use Rattle.xt_meaning.specs.Wires.{load_of, wire_delay, slew_growth}
-use Rattle.xt_meaning.specs.Overlap.{Answers, overlap_answers, least_factor, greatest_factor}
+use Rattle.xt_meaning.specs.Overlap.{Answers, overlap_answers, all_overlap, least_factors, greatest_factors}
 
 -- the least and the greatest of a quantity
 pub record Range : Type 0 where
   pub least : ℤ
   pub most : ℤ
 
--- the delay of the wire of net number `m` at an edge to one of its sinks: with every coupling at its least
+-- the delay of the wire of net number `n` at an edge to one of its sinks: with every coupling at its least
 -- factor, and with every coupling at its greatest
-abbrev pub wire_range : Answers → ℕ → Edge → ℕ → Option Net → Range
-wire_range b m e sink None = record { least = pos 0; most = pos 0 }
-wire_range b m e sink (Some n) = record { least = wire_delay (least_factor b m e) n sink; most = wire_delay (greatest_factor b m e) n sink }
+abbrev pub wire_range : MillerNumbers → Answers → ℕ → Edge → ℕ → Option Net → Range
+wire_range m b n e sink None = record { least = pos 0; most = pos 0 }
+wire_range m b n e sink (Some net) = record {
+  least = wire_delay (least_factors m b n e net.couplings) net sink;
+  most = wire_delay (greatest_factors m b n e net.couplings) net sink;
+}
 
 -- the load of a net at an edge, at the same two settings of its couplings
-abbrev pub load_range : Answers → ℕ → Edge → Net → Range
-load_range b n e net = record { least = load_of (least_factor b n e) net; most = load_of (greatest_factor b n e) net }
+abbrev pub load_range : MillerNumbers → Answers → ℕ → Edge → Net → Range
+load_range m b n e net = record {
+  least = load_of (least_factors m b n e net.couplings) net;
+  most = load_of (greatest_factors m b n e net.couplings) net;
+}
 
 -- a slew table gives no slew below 0
 abbrev pub delay_range : Option Table → Box → Range
@@ -58,11 +65,16 @@ arc_quad input wire delay slew = record {
 
 -- what an arc contributes, with the input window, the wire's range and the load's range at hand
 abbrev pub contribution_by : Parts → TimingArc → Quad → Range → Range → Quad
-contribution_by d a input wire load = arc_quad input wire (delay_range (slice_get d.tables a.delay) (arc_box input wire load)) (slew_range (slice_get d.tables a.slew) (arc_box input wire load))
+contribution_by d a input wire load =
+    arc_quad input wire (delay_range (slice_get d.tables a.delay) (arc_box input wire load))
+    (slew_range (slice_get d.tables a.slew) (arc_box input wire load))
 
 -- what arc `a` of net number `n`, which is `net`, contributes to its edge e, with the overlap answers b
 abbrev pub contribution : Parts → Answers → Assignment → ℕ → Net → Edge → TimingArc → Quad
-contribution d b W n net e a = contribution_by d a (W a.from.0 a.input) (wire_range b a.from.0 a.input a.sink (slice_get d.nets a.from.0)) (load_range b n e net)
+contribution d b W n net e a =
+    contribution_by d a (W a.from.0 a.input)
+    (wire_range d.miller b a.from.0 a.input a.sink (slice_get d.nets a.from.0))
+    (load_range d.miller b n e net)
 
 -- an arc contributes to its output edge, where its input can switch
 abbrev pub contributes : Assignment → Edge → TimingArc → Bool
@@ -86,11 +98,11 @@ operator_by d b W n e = net_quad d b W n e (slice_get d.nets n)
 
 -- the operator: the overlap answers are those of the windows themselves
 abbrev pub operator : Parts → Assignment → Assignment
-operator d W = operator_by d (overlap_answers W) W
+operator d W = operator_by d (overlap_answers d.period W) W
 
 -- the operator where everything overlaps
 abbrev pub widest_operator : Parts → Assignment → Assignment
-widest_operator d W = operator_by d (λ n e m f. true) W
+widest_operator d W = operator_by d all_overlap W
 
 -- the operator of a list of windows
 abbrev pub step : Parts → List Pair → Assignment

@@ -1,6 +1,12 @@
 //! Laws of the operator, each as the clause of a function that does nothing.
 
-ghost use Rattle.xt_meaning.specs.Laws.{ClosedIsExtreme, EarlierBoundRespects, EitherBoundRespects, EnvelopeContains, EnvelopeExists, EnvelopeFitsNarrowing, EnvelopeIsBarrier, EnvelopeIsUnique, ExtremeIsUnique, FixpointsLieBetween, LiveWindowsHaveRoom, OperatorIsMonotone, OperatorReadsLittle, OperatorRespects, OperatorStaysInRange, QuietFitsWidening, RangesGrow, RespectingLiesWithin, StepsKeepFitting, StepsKeepOn, WidestContains, WidestIsMonotone, WordsRespectTogether};
+ghost use Rattle.xt_meaning.specs.Laws.{ClosedIsExtreme, EarlierBoundRespects, EitherBoundRespects, EnvelopeContains};
+ghost use Rattle.xt_meaning.specs.Laws.{EnvelopeExists, EnvelopeFitsNarrowing, EnvelopeIsBarrier, EnvelopeIsUnique};
+ghost use Rattle.xt_meaning.specs.Laws.{ExtremeIsUnique, FixpointsLieBetween, LiveWindowsHaveRoom};
+ghost use Rattle.xt_meaning.specs.Laws.{OperatorIsMonotone, OperatorReadsLittle, OperatorRespects};
+ghost use Rattle.xt_meaning.specs.Laws.{OperatorStaysInRange, QuietFitsWidening, RangesGrow, RespectingLiesWithin};
+ghost use Rattle.xt_meaning.specs.Laws.{StepsKeepFitting, StepsKeepOn, WidestContains, WidestIsMonotone};
+ghost use Rattle.xt_meaning.specs.Laws.{WordsRespectTogether};
 
 /// Of wider windows the operator makes wider windows.
 pub fn operator_is_monotone()
