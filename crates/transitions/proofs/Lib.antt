@@ -1,0 +1,4 @@
+pub mod Cells
+pub mod Explained
+pub mod Hulls
+pub mod Worked
