@@ -13,7 +13,8 @@ use Rattle.std.proofs.lemmas.List.Sums.{passes_at_first, AllPass-from_list_all, 
 use Rattle.std.proofs.lemmas.Slice.Eq.{bytes_eq-Decides}
 use Rattle.std.proofs.lemmas.Str.Parse.{digit_from_value}
 use Rattle.xt_model.specs.Names.{IsName}
-use Rattle.linked_text.specs.Fields.{◌>>=◌, word_at, cut_at, number_of, negative_of, signed_of, number_at, signed_at, is_name, name_at}
+use Rattle.text_lines.specs.Steps.{◌>>=◌}
+use Rattle.linked_text.specs.Fields.{word_at, cut_at, number_of, negative_of, signed_of, number_at, signed_at, is_name, name_at}
 use Rattle.linked_text.specs.Fits.{IsSmaller}
 use Rattle.linked_text.proofs.Options.{first_step, passed, both_true, some_is}
 use Rattle.linked_text.proofs.Decimals.{number_takes, number_again}

@@ -10,14 +10,14 @@ use Rattle.std.proofs.lemmas.List.{take_at, drop_at, take-append-drop, length-ap
 use Rattle.std.proofs.lemmas.List.Elements.{recursion_from_All, All-from_recursion}
 use Rattle.xt_model.specs.declared.table.Table.{Table}
 use Rattle.xt_model.specs.Tables.{IsTableNumber, IsRising, IsIndex, IsTable}
-use Rattle.xt_meaning.specs.Lines.{line_text, text_of}
-use Rattle.xt_meaning.specs.Linked.{numbers_line, row_lines, table_lines}
+use Rattle.text_lines.specs.Lines.{line_text, text_of}
+use Rattle.linked_text.specs.Linked.{numbers_line, row_lines, table_lines}
 use Rattle.linked_text.specs.Fields.{rises_from, is_rising}
 use Rattle.linked_text.specs.Reading.{numbers_at, row_at, rows_at, index_at, size_at, table_at}
 use Rattle.linked_text.specs.Fits.{IsSmaller}
 use Rattle.linked_text.proofs.Options.{first_step, passed, both_true, some_is}
 use Rattle.linked_text.proofs.Cuts.{word_takes, word_again, number_at_takes, number_at_again}
-use Rattle.linked_text.proofs.Many.{IsRead, numbers_text, numbers_take, numbers_again, numbers_line_text}
+use Rattle.linked_text.proofs.Sequences.{IsRead, numbers_text, numbers_take, numbers_again, numbers_line_text}
 
 abbrev Small : ℤ → Type 0
 Small x = IsSmaller (2 ^ 40 + 1) x

@@ -8,14 +8,15 @@ use Rattle.xt_model.specs.declared.edge.Edge.TheVariants.{Rise, Fall}
 use Rattle.xt_model.specs.declared.net.Coupling.{Coupling}
 use Rattle.xt_model.specs.declared.net.SinkPin.{SinkPin}
 use Rattle.xt_model.specs.declared.net.TimingArc.{TimingArc}
-use Rattle.xt_meaning.specs.Lines.{line_text, edge_word}
-use Rattle.xt_meaning.specs.Linked.{coupling_line, sink_line, arc_line}
-use Rattle.linked_text.specs.Fields.{◌>>=◌, word_at, signed_at}
+use Rattle.text_lines.specs.Lines.{line_text, edge_word}
+use Rattle.linked_text.specs.Linked.{coupling_line, sink_line, arc_line}
+use Rattle.text_lines.specs.Steps.{◌>>=◌}
+use Rattle.linked_text.specs.Fields.{word_at, signed_at}
 use Rattle.linked_text.specs.Reading.{mark_after, numbers_at, edge_at, coupling_at, sink_at, arc_at}
 use Rattle.linked_text.specs.Fits.{IsSmaller, FitsCoupling, FitsSink, FitsArc}
 use Rattle.linked_text.proofs.Options.{first_step, one_of, some_is}
 use Rattle.linked_text.proofs.Cuts.{word_takes, number_at_takes, number_at_again, signed_at_takes, signed_at_again, name_at_takes, name_at_again}
-use Rattle.linked_text.proofs.Many.{IsRead, low_mark, numbers_text, numbers_take, numbers_again, numbers_line_text}
+use Rattle.linked_text.proofs.Sequences.{IsRead, low_mark, numbers_text, numbers_take, numbers_again, numbers_line_text}
 
 -- ---- couplings
 

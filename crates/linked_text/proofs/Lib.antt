@@ -1,13 +1,15 @@
-pub mod Options
-pub mod Decimals
-pub mod Loop
-pub mod Cuts
-pub mod Many
-pub mod Items
-pub mod Sources
-pub mod Grids
-pub mod Nets
-pub mod Whole
-pub mod SoundParts
-pub mod NoLoop
+mod Options
+mod Decimals
+mod Loop
+mod Cuts
+mod Sequences
+mod Items
+mod Sources
+mod Grids
+mod Nets
+mod Whole
+mod Pieces
+mod SoundParts
+mod NoLoop
 pub mod Refusals
+mod WorkedTexts

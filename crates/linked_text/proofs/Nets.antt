@@ -9,13 +9,13 @@ use Rattle.xt_model.specs.declared.net.Coupling.{Coupling}
 use Rattle.xt_model.specs.declared.net.SinkPin.{SinkPin}
 use Rattle.xt_model.specs.declared.net.TimingArc.{TimingArc}
 use Rattle.xt_model.specs.declared.net.Net.{Net}
-use Rattle.xt_meaning.specs.Lines.{Line, line_text, text_of}
-use Rattle.xt_meaning.specs.Linked.{coupling_line, sink_line, arc_line, given_lines, net_lines}
+use Rattle.text_lines.specs.Lines.{Line, line_text, text_of}
+use Rattle.linked_text.specs.Linked.{coupling_line, sink_line, arc_line, given_lines, net_lines}
 use Rattle.linked_text.specs.declared.head.NetHead.{NetHead}
 use Rattle.linked_text.specs.Reading.{many_at, given_at, coupling_at, sink_at, arc_at, net_at}
 use Rattle.linked_text.specs.Fits.{FitsCoupling, FitsSink, FitsArc, FitsNet}
 use Rattle.linked_text.proofs.Options.{first_step, some_is, also_below}
-use Rattle.linked_text.proofs.Many.{IsReadFor, many_text, many_take, many_again, same_text}
+use Rattle.linked_text.proofs.Sequences.{IsReadFor, many_text, many_take, many_again, same_text}
 use Rattle.linked_text.proofs.Items.{couplings_read, sinks_read, arcs_read}
 use Rattle.linked_text.proofs.Sources.{head_of, FitsHead, given_takes, given_again}
 

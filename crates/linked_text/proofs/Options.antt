@@ -1,6 +1,6 @@
 -- What follows where a reader gave something.
 use Rattle.std.proofs.Common.{◌≡◌, ℕ, ◌<◌, Bool, true, false, cond, ◌&&◌, ◌⊎◌, inl, inr, Option, Some, None, refl}
-use Rattle.linked_text.specs.Fields.{◌>>=◌, or_else}
+use Rattle.text_lines.specs.Steps.{◌>>=◌, or_else}
 
 -- the value of the first of two steps that both gave something
 pub first_step : {A B : Type 0} {o : Option A} {f : A → Option B} {y : B} → (o >>= f) ≡ Some y → (x : A) × (o ≡ Some x) × (f x ≡ Some y)

@@ -1,5 +1,5 @@
--- Sound parts without checks fit a linked text.
-use Rattle.std.proofs.Common.{◌≡◌, ℕ, ◌^◌, ◌<◌, ◌≤◌, List, [], length, get_or, All, ℤ, pos, inl, inr, Option, Some, None, refl, subst, arith}
+-- Sound parts that can be linked fit a linked text.
+use Rattle.std.proofs.Common.{◌≡◌, ℕ, ◌^◌, ◌<◌, ◌≤◌, List, length, get_or, All, ℤ, pos, inl, inr, Option, Some, None, refl, subst, arith}
 use Rattle.std.specs.Prelude.{IfSome, slice_get}
 use Rattle.std.specs.List.{sum_by}
 use Rattle.std.specs.Option.{IsSomeAnd}
@@ -14,6 +14,7 @@ use Rattle.xt_model.specs.declared.net.TimingArc.{TimingArc}
 use Rattle.xt_model.specs.declared.net.Net.{Net}
 use Rattle.xt_model.specs.Parts.{Parts}
 use Rattle.xt_model.specs.Sound.{IsBetween, IsTime, IsSlew, IsCap, IsProduct, IsGiven, IsSoundCoupling, IsSoundSink, IsSoundArc, IsSoundNet, IsSound}
+use Rattle.linked_text.specs.Linked.{IsLinkable}
 use Rattle.linked_text.specs.Fits.{IsSmaller, FitsGiven, FitsCoupling, FitsSink, FitsArc, FitsNet, Fits}
 
 -- the number of each sink fits 32 bits
@@ -94,12 +95,12 @@ few_sinks d h k e lt =
     let s : IsSoundNet d k n = subst (λ (o : Option Net). IfSome o (IsSoundNet d k)) there (h.nets k) in
     s.few_sinks
 
-pub sound_fit : (d : Parts) → IsSound d → d.checks ≡ [] → Fits d
-sound_fit d h none = record {
+pub sound_fit : (d : Parts) → IsSound d → IsLinkable d → Fits d
+sound_fit d h linkable = record {
   period = period_fits d.period h.period.range;
   table_count = omega (arith, h.limits.tables);
   net_count = omega (arith, h.limits.nets);
   tables = h.tables;
   nets = nets_fit d h (few_sinks d h);
-  no_checks = none;
+  linkable = linkable;
 }

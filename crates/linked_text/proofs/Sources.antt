@@ -13,15 +13,16 @@ use Rattle.xt_model.specs.declared.net.Net.{Net}
 use Rattle.xt_model.specs.Quads.{bottom, is_live}
 use Rattle.xt_model.specs.Names.{IsName}
 use Rattle.xt_model.specs.Sound.{LeavesGiven}
-use Rattle.xt_meaning.specs.Lines.{Line, line_text, text_of, edge_word}
-use Rattle.xt_meaning.specs.Linked.{kind_field, given_line, given_lines}
+use Rattle.text_lines.specs.Lines.{Line, line_text, text_of, edge_word}
+use Rattle.linked_text.specs.Linked.{kind_field, given_line, given_lines}
 use Rattle.linked_text.specs.declared.head.NetHead.{NetHead}
-use Rattle.linked_text.specs.Fields.{◌>>=◌, word_at}
+use Rattle.text_lines.specs.Steps.{◌>>=◌}
+use Rattle.linked_text.specs.Fields.{word_at}
 use Rattle.linked_text.specs.Reading.{kind_at, head_at, live_at, quad_at, given_at}
 use Rattle.linked_text.specs.Fits.{IsSmaller, FitsLive, FitsGiven}
 use Rattle.linked_text.proofs.Options.{first_step, one_of, passed, some_is}
 use Rattle.linked_text.proofs.Cuts.{word_takes, word_again, number_at_takes, number_at_again, signed_at_takes, signed_at_again, name_at_takes, name_at_again, starts_low}
-use Rattle.linked_text.proofs.Many.{IsRead}
+use Rattle.linked_text.proofs.Sequences.{IsRead}
 
 -- ---- heads
 

@@ -14,20 +14,20 @@ use Rattle.std.proofs.lemmas.Slice.Eq.{bytes_eq-Decides}
 use Rattle.xt_model.specs.declared.table.Table.{Table}
 use Rattle.xt_model.specs.declared.net.Net.{Net}
 use Rattle.xt_model.specs.declared.check.CheckPoint.{CheckPoint}
-use Rattle.xt_model.specs.Parts.{Parts}
+use Rattle.xt_model.specs.Miller.{MillerNumbers, classical}
+use Rattle.xt_model.specs.Parts.{Parts, classical_parts}
 use Rattle.xt_model.specs.Tables.{IsTable}
-use Rattle.xt_meaning.specs.Lines.{Line, line_text, text_of}
-use Rattle.xt_meaning.specs.Linked.{head_line, period_field, period_line, table_lines, net_line, net_lines, check_line, linked}
+use Rattle.text_lines.specs.Lines.{Line, line_text, text_of}
+use Rattle.linked_text.specs.Linked.{head_line, period_field, period_line, miller_lines, table_lines, net_line, net_lines, check_line, IsLinkable, linked}
 use Rattle.linked_text.specs.declared.fault.ReadFault.{ReadFault}
 use Rattle.linked_text.specs.declared.head.NetHead.{NetHead}
-use Rattle.linked_text.specs.declared.parts.ReadParts.{ReadParts}
-use Rattle.linked_text.specs.Fields.{◌>>=◌, Gives, signed_of}
+use Rattle.text_lines.specs.Steps.{◌>>=◌}
+use Rattle.linked_text.specs.Fields.{Gives, signed_of}
 use Rattle.linked_text.specs.Reading.{many_at, each_at, table_at, head_at, net_at, period_at, parts_at}
 use Rattle.linked_text.specs.Fits.{IsSmaller, FitsNet, Fits}
-use Rattle.linked_text.specs.Told.{parts_of}
 use Rattle.linked_text.proofs.Options.{first_step, passed, some_is, also_below}
 use Rattle.linked_text.proofs.Cuts.{lacks, cut_takes, cut_again, word_takes, number_at_takes, number_at_again, signed_takes, signed_again, visible_signed, starts_low}
-use Rattle.linked_text.proofs.Many.{many_text, many_take, many_again, same_text, each_take, each_again, text_of_each}
+use Rattle.linked_text.proofs.Sequences.{many_text, many_take, many_again, same_text, each_take, each_again, text_of_each}
 use Rattle.linked_text.proofs.Grids.{tables_read}
 use Rattle.linked_text.proofs.Nets.{nets_read}
 use Rattle.linked_text.proofs.Sources.{head_of, FitsHead, heads_read}
@@ -89,8 +89,8 @@ abbrev whole : Option ℤ → ℕ → ℕ → List ℕ → List ℕ → List ℕ
 whole period tables nets table_part head_part net_part rest =
     (codes "xtalk-design 1" ++ 10 ∷ codes "counts ") ++ (decimal tables ++ 32 ∷ (decimal nets ++ 32 ∷ ((codes "0" ++ 10 ∷ codes "period ") ++ (period_field period ++ 10 ∷ (table_part ++ (head_part ++ (net_part ++ ((codes "end" ++ 10 ∷ []) ++ rest))))))))
 
-linked_whole : (d : Parts) → d.checks ≡ [] → text_of (linked d) ≡ whole d.period (length d.tables) (length d.nets) (tables_text d.tables) (heads_text (map head_of d.nets)) (nets_text d.nets) []
-linked_whole d none =
+linked_whole : (d : Parts) → IsLinkable d → text_of (linked d) ≡ whole d.period (length d.tables) (length d.nets) (tables_text d.tables) (heads_text (map head_of d.nets)) (nets_text d.nets) []
+linked_whole d h =
     let ts : List Line = flat_map table_lines d.tables in
     let hs : List Line = map net_line d.nets in
     let ns : List Line = flat_map net_lines d.nets in
@@ -99,8 +99,9 @@ linked_whole d none =
     let nets : text_of ns ≡ nets_text d.nets = text_of_each net_lines d.nets in
     let body : text_of (ts ++ (hs ++ (ns ++ last))) ≡ tables_text d.tables ++ (heads_text (map head_of d.nets) ++ (nets_text d.nets ++ (codes "end" ++ 10 ∷ []))) =
     flat_map-append line_text ts (hs ++ (ns ++ last)) ∙ rw (flat_map-append line_text hs (ns ++ last), flat_map-append line_text ns last, tables, heads_same d.nets, nets) refl in
-    let counted : List ℕ → List ℕ → List ℕ = λ checks t. line_text head_line ++ (line_text (codes "counts" ∷ decimal (length d.tables) ∷ decimal (length d.nets) ∷ checks ∷ []) ++ (line_text (period_line d) ++ t)) in
-    let no_checks : text_of (linked d) ≡ counted (decimal 0) (text_of (ts ++ (hs ++ (ns ++ last)))) = ap (λ (cs : List CheckPoint). counted (decimal (length cs)) (text_of (ts ++ (hs ++ (ns ++ (map check_line cs ++ last)))))) none in
+    let counted : List ℕ → List ℕ → List ℕ = λ checks t. line_text (head_line classical) ++ (line_text (codes "counts" ∷ decimal (length d.tables) ∷ decimal (length d.nets) ∷ checks ∷ []) ++ (line_text (period_line d) ++ t)) in
+    let plain : text_of (linked d) ≡ counted (decimal (length d.checks)) (text_of (ts ++ (hs ++ (ns ++ (map check_line d.checks ++ last))))) = ap (λ (m : MillerNumbers). line_text (head_line m) ++ (line_text (codes "counts" ∷ decimal (length d.tables) ∷ decimal (length d.nets) ∷ decimal (length d.checks) ∷ []) ++ (line_text (period_line d) ++ text_of (miller_lines m ++ (ts ++ (hs ++ (ns ++ (map check_line d.checks ++ last)))))))) h.classical in
+    let no_checks : text_of (linked d) ≡ counted (decimal 0) (text_of (ts ++ (hs ++ (ns ++ last)))) = plain ∙ ap (λ (cs : List CheckPoint). counted (decimal (length cs)) (text_of (ts ++ (hs ++ (ns ++ (map check_line cs ++ last)))))) h.no_checks in
     let nought : decimal 0 ≡ codes "0" = decimal_digit 0 (omega arith) in
     no_checks ∙ ap (λ (z : List ℕ). counted z (text_of (ts ++ (hs ++ (ns ++ last))))) nought ∙ ap (counted (codes "0")) body ∙ simp append_assoc
 
@@ -120,7 +121,7 @@ whole_takes bytes d e =
     let i = first_step {A = List NetHead × List ℕ} {o = many_at (λ after. head_at) c.0.0 h.0.1} h.2 in
     let j = first_step {A = List Net × List ℕ} {o = each_at net_at i.0.0 i.0.1} i.2 in
     let k = first_step j.2 in
-    let made : Parts = record { period = g.0.0; tables = h.0.0; nets = j.0.0; checks = [] } in
+    let made : Parts = classical_parts g.0.0 h.0.0 j.0.0 [] in
     let q = passed (eqb (length k.0) 0) made d k.2 in
     let nothing : k.0 ≡ [] = nil_from_length k.0 (eqb-true _ _ q.0) in
     let w = word_takes (codes "xtalk-design 1" ++ 10 ∷ codes "counts ") bytes a.0 a.1 in
@@ -148,9 +149,13 @@ whole_takes bytes d e =
       net_count = also_below (2 ^ 32) (length j.0.0) c.0.0 (sym net_count) m.1;
       tables = All-from_recursion IsTable h.0.0 ts.2;
       nets = All-from_recursion FitsNet j.0.0 ns.2;
-      no_checks = refl;
+      linkable = record { no_checks = refl; classical = refl };
     } in
-    subst (λ (x : Parts). (bytes ≡ text_of (linked x)) × Fits x) q.1 (text ∙ sym (linked_whole made refl), fits)
+    subst (λ (x : Parts). (bytes ≡ text_of (linked x)) × Fits x) q.1 (text ∙ sym (linked_whole made (record { no_checks = refl; classical = refl })), fits)
+
+-- parts that can be linked have no checks, and the classical factors
+same_parts : (d : Parts) → IsLinkable d → classical_parts d.period d.tables d.nets [] ≡ d
+same_parts d h = rw (← h.no_checks, ← h.classical) refl
 
 pub whole_again : (d : Parts) → Fits d → parts_at (text_of (linked d)) ≡ Some d
 unfolding parts_at
@@ -162,7 +167,7 @@ whole_again d h =
     let all_nets = recursion_from_All FitsNet d.nets h.nets in
     let hs : many_at (λ after. head_at) (length d.nets) heads ≡ Some (map head_of d.nets, nets) =
     subst (λ (k : ℕ). many_at (λ after. head_at) k heads ≡ Some (map head_of d.nets, nets)) (length-map d.nets head_of) (many_again (λ after. head_at) (λ n h. line_text (sources.head_line h)) FitsHead heads_read (map head_of d.nets) nets (net_heads d.nets all_nets)) in
-    ap parts_at (linked_whole d h.no_checks) ∙ rw (
+    ap parts_at (linked_whole d h.linkable) ∙ rw (
       number_at_again 32 (length d.tables) (decimal (length d.nets) ++ 32 ∷ ((codes "0" ++ 10 ∷ codes "period ") ++ (period_field d.period ++ 10 ∷ tables))) (omega arith) h.table_count,
       number_at_again 32 (length d.nets) ((codes "0" ++ 10 ∷ codes "period ") ++ (period_field d.period ++ 10 ∷ tables)) (omega arith) h.net_count,
       period_again d.period tables h.period,
@@ -170,10 +175,10 @@ whole_again d h =
       hs,
       each_again net_at head_of (λ n. text_of (net_lines n)) FitsHead FitsNet nets_read d.nets last all_nets,
     )
-    (ap (λ (cs : List CheckPoint). Some (record { period = d.period; tables = d.tables; nets = d.nets; checks = cs })) (sym h.no_checks))
+    (ap Some (same_parts d h.linkable))
 
 -- ---- what a function that gives all of it says
 
-pub is_found : (bytes : List ℕ) (r : Result ReadParts ReadFault) → Gives parts_of r (parts_at bytes) → IfOk r (λ p. (bytes ≡ text_of (linked (parts_of p))) × Fits (parts_of p))
-is_found bytes (Ok p) given = whole_takes bytes (parts_of p) given
+pub is_found : (bytes : List ℕ) (r : Result Parts ReadFault) → Gives (λ p. p) r (parts_at bytes) → IfOk r (λ p. (bytes ≡ text_of (linked p)) × Fits p)
+is_found bytes (Ok p) given = whole_takes bytes p given
 is_found bytes (Err e) given = tt

@@ -1,24 +1,16 @@
 -- Reading from left to right: each reader gives a value and the bytes after it, or nothing.
-use Rattle.std.specs.Prelude.{◌≡◌, ℕ, ◌+◌, ◌^◌, Bool, true, ◌&&◌, List, [], ◌∷◌, length, take, drop, position, ℤ, pos, neg_ℤ, int_lt, Option, Some, None, Result, Ok, Err, nat_lt, nat_le, ◌==◌, if◌then◌else◌}
+use Rattle.std.specs.Prelude.{◌≡◌, ℕ, ◌+◌, ◌^◌, nat_lt, nat_le, ◌==◌, ℤ, pos, neg_ℤ, int_lt}
+use Rattle.std.specs.Prelude.{Bool, true, ◌&&◌, if◌then◌else◌, List, [], ◌∷◌, length, take, drop, position}
+use Rattle.std.specs.Prelude.{Option, Some, None, Result, Ok, Err}
 use Rattle.std.specs.Fmt.{decimal}
 use Rattle.std.specs.List.{list_all}
 use Rattle.std.specs.Str.{bytes_eq}
 use Rattle.std.specs.Str.Parse.{digits_value}
+use Rattle.text_lines.specs.Steps.{◌>>=◌}
 use Rattle.linked_text.specs.declared.fault.ReadFault.{ReadFault}
 use Rattle.linked_text.specs.declared.fault.ReadFault.TheVariants as faults
 
-infixl 10 ◌>>=◌
--- nothing comes of nothing
-abbrev pub ◌>>=◌ : {A B : Type 0} → Option A → (A → Option B) → Option B
-(Some x) >>= f = f x
-None >>= f = None
-
--- the first of two that is there
-abbrev pub or_else : {A : Type 0} → Option A → Option A → Option A
-or_else (Some x) o = Some x
-or_else None o = o
-
--- a refusal says that there is nothing to read; want of memory says nothing
+-- a refusal means that there is nothing to read; want of memory means nothing
 abbrev pub Fails : {Y : Type 0} → ReadFault → Option Y → Type 0
 Fails faults.NoMemory read = Unit {0}
 Fails faults.NotLinked read = read ≡ None
@@ -45,7 +37,9 @@ cut_at mark bytes = do
 
 -- the number below the limit that is written so
 abbrev pub number_of : ℕ → List ℕ → Option ℕ
-number_of limit bytes = if nat_lt (digits_value 10 bytes) limit && bytes_eq (decimal (digits_value 10 bytes)) bytes then Some (digits_value 10 bytes) else None
+number_of limit bytes =
+    let n = digits_value 10 bytes in
+    if nat_lt n limit && bytes_eq (decimal n) bytes then Some n else None
 
 -- zero has no sign
 abbrev pub negative_of : ℕ → Option ℤ
@@ -54,7 +48,8 @@ negative_of n = if n == 0 then None else Some (neg_ℤ (pos n))
 -- the number of a size below the limit that is written so
 abbrev pub signed_of : ℕ → List ℕ → Option ℤ
 signed_of limit [] = None
-signed_of limit (b ∷ more) = if b == 45 then number_of limit more >>= negative_of else number_of limit (b ∷ more) >>= λ n. Some (pos n)
+signed_of limit (b ∷ more) =
+    if b == 45 then number_of limit more >>= negative_of else number_of limit (b ∷ more) >>= λ n. Some (pos n)
 
 -- a count or a reference, up to the mark
 unfoldable pub number_at : ℕ → List ℕ → Option (ℕ × List ℕ)
@@ -72,7 +67,8 @@ signed_at limit mark bytes = do
 
 -- 1 to 2,049 printable bytes
 abbrev pub is_name : List ℕ → Bool
-is_name bytes = nat_lt 0 (length bytes) && (nat_le (length bytes) 2049 && list_all (λ b. nat_le 33 b && nat_le b 126) bytes)
+is_name bytes =
+    nat_lt 0 (length bytes) && (nat_le (length bytes) 2049 && list_all (λ b. nat_le 33 b && nat_le b 126) bytes)
 
 unfoldable pub name_at : ℕ → List ℕ → Option (List ℕ × List ℕ)
 name_at mark bytes = do

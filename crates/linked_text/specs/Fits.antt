@@ -1,5 +1,5 @@
--- What parts have a linked text that can be read: numbers that fit their types, and no checks.
-use Rattle.std.specs.Prelude.{◌≡◌, ℕ, ◌<◌, ◌^◌, ◌⊎◌, ℤ, pos, neg_ℤ, ◌<ℤ◌, [], length, IfSome}
+-- What parts have a linked text that can be read: they can be linked, and their numbers fit their types.
+use Rattle.std.specs.Prelude.{◌≡◌, ℕ, ◌<◌, ◌^◌, ◌⊎◌, ℤ, pos, neg_ℤ, ◌<ℤ◌, length, IfSome}
 use Rattle.std.specs.List.{All}
 use Rattle.xt_model.specs.declared.quad.Quad.{Quad}
 use Rattle.xt_model.specs.declared.net.Coupling.{Coupling}
@@ -11,6 +11,7 @@ use Rattle.xt_model.specs.Names.{IsName}
 use Rattle.xt_model.specs.Tables.{IsTable}
 use Rattle.xt_model.specs.Sound.{LeavesGiven}
 use Rattle.xt_model.specs.Parts.{Parts}
+use Rattle.linked_text.specs.Linked.{IsLinkable}
 
 -- a number whose size is below the limit
 pub record IsSmaller (limit : ℕ) (x : ℤ) : Type 0 where
@@ -66,4 +67,4 @@ pub record Fits (d : Parts) : Type 0 where
   pub net_count : length d.nets < 2 ^ 32
   pub tables : All IsTable d.tables
   pub nets : All FitsNet d.nets
-  pub no_checks : d.checks ≡ []
+  pub linkable : IsLinkable d

@@ -1,4 +1,5 @@
+pub mod Linked
+pub mod Writing
 pub mod Fields
 pub mod Reading
 pub mod Fits
-pub mod Told

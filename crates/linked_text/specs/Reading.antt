@@ -1,5 +1,6 @@
 -- Reading the lines of a linked text, from left to right.
-use Rattle.std.specs.Prelude.{ℕ, zero, suc, ◌+◌, ◌^◌, Bool, true, false, List, [], ◌∷◌, ◌++◌, length, codes, ℤ, Option, Some, None, nat_le, ◌==◌, ◌&&◌, if◌then◌else◌}
+use Rattle.std.specs.Prelude.{ℕ, zero, suc, ◌+◌, ◌^◌, nat_le, ◌==◌, ℤ, Bool, true, false, ◌&&◌, if◌then◌else◌}
+use Rattle.std.specs.Prelude.{List, [], ◌∷◌, ◌++◌, length, codes, Option, Some, None}
 use Rattle.std.specs.Str.{bytes_eq}
 use Rattle.xt_model.specs.declared.edge.Edge.{Edge}
 use Rattle.xt_model.specs.declared.edge.Edge.TheVariants.{Rise, Fall}
@@ -11,19 +12,23 @@ use Rattle.xt_model.specs.declared.net.SinkPin.{SinkPin}
 use Rattle.xt_model.specs.declared.net.TimingArc.{TimingArc}
 use Rattle.xt_model.specs.declared.net.Net.{Net}
 use Rattle.xt_model.specs.Quads.{bottom, is_live}
-use Rattle.xt_model.specs.Parts.{Parts}
+use Rattle.xt_model.specs.Parts.{Parts, classical_parts}
 use Rattle.linked_text.specs.declared.head.NetHead.{NetHead}
-use Rattle.linked_text.specs.Fields.{◌>>=◌, or_else, word_at, cut_at, number_at, signed_of, signed_at, name_at, is_rising}
+use Rattle.text_lines.specs.Steps.{◌>>=◌, or_else}
+use Rattle.linked_text.specs.Fields.{word_at, cut_at, number_at}
+use Rattle.linked_text.specs.Fields.{signed_of, signed_at, name_at, is_rising}
 
--- that many values one after another; each reader is told how many come after its value
+-- that many values one after another; each reader knows how many come after its value
 abbrev pub many_at : {A : Type 0} → (ℕ → List ℕ → Option (A × List ℕ)) → ℕ → List ℕ → Option (List A × List ℕ)
 many_at at zero bytes = Some ([], bytes)
-many_at at (suc n) bytes = at n bytes >>= λ first. many_at at n first.1 >>= λ more. Some (first.0 ∷ more.0, more.1)
+many_at at (suc n) bytes =
+    at n bytes >>= λ first. many_at at n first.1 >>= λ more. Some (first.0 ∷ more.0, more.1)
 
 -- one value for each key
 abbrev pub each_at : {K A : Type 0} → (K → List ℕ → Option (A × List ℕ)) → List K → List ℕ → Option (List A × List ℕ)
 each_at at [] bytes = Some ([], bytes)
-each_at at (k ∷ keys) bytes = at k bytes >>= λ first. each_at at keys first.1 >>= λ more. Some (first.0 ∷ more.0, more.1)
+each_at at (k ∷ keys) bytes =
+    at k bytes >>= λ first. each_at at keys first.1 >>= λ more. Some (first.0 ∷ more.0, more.1)
 
 -- what stands behind a number with that many after it in its line
 abbrev pub mark_after : ℕ → ℕ
@@ -42,7 +47,8 @@ row_at columns bytes = do
 -- that many rows, joined
 abbrev pub rows_at : ℕ → ℕ → List ℕ → Option (List ℤ × List ℕ)
 rows_at zero columns bytes = Some ([], bytes)
-rows_at (suc rows) columns bytes = row_at columns bytes >>= λ first. rows_at rows columns first.1 >>= λ more. Some (first.0 ++ more.0, more.1)
+rows_at (suc rows) columns bytes =
+    row_at columns bytes >>= λ first. rows_at rows columns first.1 >>= λ more. Some (first.0 ++ more.0, more.1)
 
 -- numbers behind a word, in rising order
 unfoldable pub index_at : List ℕ → ℕ → List ℕ → Option (List ℤ × List ℕ)
@@ -69,10 +75,14 @@ table_at bytes = do
 
 -- whether it is an input port
 unfoldable pub kind_at : List ℕ → Option (Bool × List ℕ)
-kind_at bytes = or_else (word_at (codes "i ") bytes >>= λ rest. Some (true, rest)) (word_at (codes "w ") bytes >>= λ rest. Some (false, rest))
+kind_at bytes =
+    or_else (word_at (codes "i ") bytes >>= λ rest. Some (true, rest))
+    (word_at (codes "w ") bytes >>= λ rest. Some (false, rest))
 
 unfoldable pub edge_at : List ℕ → Option (Edge × List ℕ)
-edge_at bytes = or_else (word_at (codes "rise ") bytes >>= λ rest. Some (Rise, rest)) (word_at (codes "fall ") bytes >>= λ rest. Some (Fall, rest))
+edge_at bytes =
+    or_else (word_at (codes "rise ") bytes >>= λ rest. Some (Rise, rest))
+    (word_at (codes "fall ") bytes >>= λ rest. Some (Fall, rest))
 
 -- the head of a net: its name, its kind, its load and how many lines follow
 unfoldable pub head_at : List ℕ → Option (NetHead × List ℕ)
@@ -84,7 +94,17 @@ head_at bytes = do
   couplings ← number_at 32 load.1
   sinks ← number_at 32 couplings.1
   arcs ← number_at 10 sinks.1
-  Some (record { name = name.0; input = input.0; load = load.0; couplings = couplings.0; sinks = sinks.0; arcs = arcs.0 }, arcs.1)
+  Some (
+    record {
+      name = name.0;
+      input = input.0;
+      load = load.0;
+      couplings = couplings.0;
+      sinks = sinks.0;
+      arcs = arcs.0;
+    },
+    arcs.1,
+  )
 
 -- the four bounds of a window that is live
 unfoldable pub live_at : List ℕ → Option (Quad × List ℕ)
@@ -93,7 +113,8 @@ live_at bytes = do
   thi ← signed_at (2 ^ 63) 32 tlo.1
   slo ← signed_at (2 ^ 63) 32 thi.1
   shi ← signed_at (2 ^ 63) 10 slo.1
-  if is_live (record { tlo = tlo.0; thi = thi.0; slo = slo.0; shi = shi.0 }) then Some (record { tlo = tlo.0; thi = thi.0; slo = slo.0; shi = shi.0 }, shi.1) else None
+  let q : Quad = record { tlo = tlo.0; thi = thi.0; slo = slo.0; shi = shi.0 } in
+      if is_live q then Some (q, shi.1) else None
 
 -- what is given for the edge of this word
 unfoldable pub quad_at : List ℕ → List ℕ → Option (Quad × List ℕ)
@@ -134,7 +155,17 @@ arc_at bytes = do
   output ← edge_at input.1
   delay ← number_at 32 output.1
   slew ← number_at 10 delay.1
-  Some (record { from = record { 0 = from.0 }; sink = sink.0; input = input.0; output = output.0; delay = delay.0; slew = slew.0 }, slew.1)
+  Some (
+    record {
+      from = record { 0 = from.0 };
+      sink = sink.0;
+      input = input.0;
+      output = output.0;
+      delay = delay.0;
+      slew = slew.0;
+    },
+    slew.1,
+  )
 
 -- the net of this head
 unfoldable pub net_at : NetHead → List ℕ → Option (Net × List ℕ)
@@ -143,14 +174,26 @@ net_at head bytes = do
   couplings ← many_at (λ after. coupling_at) head.couplings given.1
   sinks ← many_at (λ after. sink_at head.couplings) head.sinks couplings.1
   arcs ← many_at (λ after. arc_at) head.arcs sinks.1
-  Some (record { name = head.name; input = head.input; load = head.load; given = given.0; couplings = couplings.0; sinks = sinks.0; arcs = arcs.0 }, arcs.1)
+  Some (
+    record {
+      name = head.name;
+      input = head.input;
+      load = head.load;
+      given = given.0;
+      couplings = couplings.0;
+      sinks = sinks.0;
+      arcs = arcs.0;
+    },
+    arcs.1,
+  )
 
 unfoldable pub period_at : List ℕ → Option (Option ℤ × List ℕ)
 period_at bytes = do
   field ← cut_at 10 bytes
-  if bytes_eq field.0 (codes "none") then Some (None, field.1) else (signed_of (2 ^ 63) field.0 >>= λ t. Some (Some t, field.1))
+  if bytes_eq field.0 (codes "none") then Some (None, field.1)
+      else (signed_of (2 ^ 63) field.0 >>= λ t. Some (Some t, field.1))
 
--- the parts that all of the bytes tell
+-- the parts of which all of the bytes are the text
 unfoldable pub parts_at : List ℕ → Option Parts
 parts_at bytes = do
   start ← word_at (codes "xtalk-design 1" ++ 10 ∷ codes "counts ") bytes
@@ -162,4 +205,4 @@ parts_at bytes = do
   heads ← many_at (λ after. head_at) net_count.0 tables.1
   nets ← each_at net_at heads.0 heads.1
   after ← word_at (codes "end" ++ 10 ∷ []) nets.1
-  if length after == 0 then Some (record { period = period.0; tables = tables.0; nets = nets.0; checks = [] }) else None
+  if length after == 0 then Some (classical_parts period.0 tables.0 nets.0 []) else None

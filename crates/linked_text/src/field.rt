@@ -1,9 +1,11 @@
 //! The fields of a line: words, numbers and names, each up to the mark behind it.
 
-ghost use Rattle.std.specs.Prelude.{◌≡◌, ◌<◌, ◌≤◌, nat_le, ◌&&◌, ◌^◌, length, ◌==◌, pos, neg_ℤ, ◌<ℤ◌, IfOk, IfSome, IsTrue, ◌↔◌, position};
+ghost use Rattle.std.specs.Prelude.{◌≡◌, ◌<◌, ◌≤◌, nat_le, ◌&&◌, ◌^◌, length, ◌==◌};
+ghost use Rattle.std.specs.Prelude.{IfOk, IfSome, IsTrue, ◌↔◌, position};
 ghost use Rattle.std.specs.Fmt.{decimal};
 ghost use Rattle.std.specs.List.{list_all};
-ghost use Rattle.linked_text.specs.Fields.{Gives, Finds, word_at, cut_at, number_of, signed_of, number_at, signed_at, is_name, name_at, is_rising};
+ghost use Rattle.linked_text.specs.Fields.{Gives, Finds, word_at, cut_at, number_of, signed_of};
+ghost use Rattle.linked_text.specs.Fields.{number_at, signed_at, is_name, name_at, is_rising};
 ghost use Rattle.linked_text.specs.Fits.{IsSmaller};
 
 use crate::fault::ReadFault;

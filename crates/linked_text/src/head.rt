@@ -1,7 +1,7 @@
 use xt_model::Name;
 
-/// The line of a net: its name, whether it is an input port, its load in aF, and how many lines tell
-/// its couplings, sinks and arcs.
+/// The head of a net: its name, whether it is an input port, its load in aF, and how many couplings, sinks
+/// and arcs it has.
 #[derive(Debug, Drop)]
 pub struct NetHead {
     pub name: Name,

@@ -2,11 +2,13 @@
 
 ghost use Rattle.std.specs.Prelude.{◌≡◌};
 ghost use Rattle.linked_text.specs.Fields.{Gives};
-ghost use Rattle.linked_text.specs.Reading.{kind_at, edge_at, head_at, live_at, quad_at, given_at, coupling_at, sink_at, arc_at, net_at, many_at, each_at};
+ghost use Rattle.linked_text.specs.Reading.{kind_at, edge_at, head_at, live_at, quad_at, given_at};
+ghost use Rattle.linked_text.specs.Reading.{coupling_at, sink_at, arc_at, net_at, many_at, each_at};
 
 use crate::fault::ReadFault;
 use crate::field::{after, name, number, quantity, signed, word};
 use crate::head::NetHead;
+use crate::many::{Reader, read_many};
 use crate::numbers::{mark_after, products};
 use std::alloc::Global;
 use std::collections::VecDeque;
@@ -35,44 +37,45 @@ fn edge(bytes: &[u8]) -> Result<(Edge, &[u8]), ReadFault>
     Ok((Edge::Fall, rest))
 }
 
-#[tactic(auto, unfolding(crate::specs::Reading::head_at))]
-fn head(alloc: Global, bytes: &[u8]) -> Result<(NetHead, &[u8]), ReadFault>
-    ensures { Gives (λ x. (x.0, x.1.now)) result (head_at bytes.now) }
-{
-    let rest = word(b"net ", bytes)?;
-    let (name, rest) = name(alloc, b' ', rest)?;
-    let (input, rest) = kind(rest)?;
-    let (load, rest) = quantity(1 << 63, b' ', rest)?;
-    let (couplings, rest) = number(b' ', rest)?;
-    let (sinks, rest) = number(b' ', rest)?;
-    let (arcs, rest) = number(b'\n', rest)?;
-    let head = NetHead {
-        name,
-        input,
-        load,
-        couplings,
-        sinks,
-        arcs,
-    };
-    Ok((head, rest))
+/// Reads the heads of nets.
+struct HeadReader;
+
+impl Reader for HeadReader {
+    type Value = NetHead;
+
+    ghost at = { λ _ left bytes. head_at bytes };
+
+    #[tactic(auto, unfolding(crate::specs::Reading::head_at))]
+    fn read<'a>(
+        &self,
+        alloc: Global,
+        _left: u32,
+        bytes: &'a [u8],
+    ) -> Result<(NetHead, &'a [u8]), ReadFault> {
+        let rest = word(b"net ", bytes)?;
+        let (name, rest) = name(alloc, b' ', rest)?;
+        let (input, rest) = kind(rest)?;
+        let (load, rest) = quantity(1 << 63, b' ', rest)?;
+        let (couplings, rest) = number(b' ', rest)?;
+        let (sinks, rest) = number(b' ', rest)?;
+        let (arcs, rest) = number(b'\n', rest)?;
+        let head = NetHead {
+            name,
+            input,
+            load,
+            couplings,
+            sinks,
+            arcs,
+        };
+        Ok((head, rest))
+    }
 }
 
 /// The heads of `count` nets.
-pub fn heads(
-    alloc: Global,
-    count: u32,
-    bytes: &[u8],
-) -> Result<(VecDeque<NetHead>, &[u8]), ReadFault>
-    ensures { Gives (λ x. (x.0.items, x.1.now)) result (many_at (λ after. head_at) count bytes.now) }
+pub fn heads(alloc: Global, count: u32, bytes: &[u8]) -> Result<(Vec<NetHead>, &[u8]), ReadFault>
+    ensures { Gives (λ x. (x.0.items, x.1.now)) result (many_at (λ left. head_at) count bytes.now) }
 {
-    let mut heads = VecDeque::new(alloc);
-    let mut rest = bytes;
-    for _ in 0..count {
-        let (head, after) = head(alloc, rest)?;
-        heads.push_back(head)?;
-        rest = after;
-    }
-    Ok((heads, rest))
+    read_many(alloc, &HeadReader, count, bytes)
 }
 
 /// The four bounds of a window that is live.
@@ -120,93 +123,88 @@ fn given(arcs: u32, bytes: &[u8]) -> Result<(Pair, &[u8]), ReadFault>
     Ok((Pair { rise, fall }, rest))
 }
 
-#[tactic(auto, unfolding(crate::specs::Reading::coupling_at))]
-fn coupling(bytes: &[u8]) -> Result<(Coupling, &[u8]), ReadFault>
-    ensures { Gives (λ x. (x.0, x.1.now)) result (coupling_at bytes.now) }
-{
-    let rest = word(b"couple ", bytes)?;
-    let (to, rest) = number(b' ', rest)?;
-    let (cap, rest) = quantity(1 << 63, b'\n', rest)?;
-    Ok((Coupling { to: NetId(to), cap }, rest))
-}
+/// Reads the couplings of a net.
+struct CouplingReader;
 
-fn couplings(alloc: Global, count: u32, bytes: &[u8]) -> Result<(Vec<Coupling>, &[u8]), ReadFault>
-    ensures { Gives (λ x. (x.0.items, x.1.now)) result (many_at (λ after. coupling_at) count bytes.now) }
-{
-    let mut couplings = Vec::new(alloc);
-    let mut rest = bytes;
-    for _ in 0..count {
-        let (coupling, after) = coupling(rest)?;
-        couplings.push(coupling)?;
-        rest = after;
+impl Reader for CouplingReader {
+    type Value = Coupling;
+
+    ghost at = { λ _ left bytes. coupling_at bytes };
+
+    #[tactic(auto, unfolding(crate::specs::Reading::coupling_at))]
+    fn read<'a>(
+        &self,
+        _alloc: Global,
+        _left: u32,
+        bytes: &'a [u8],
+    ) -> Result<(Coupling, &'a [u8]), ReadFault> {
+        let rest = word(b"couple ", bytes)?;
+        let (to, rest) = number(b' ', rest)?;
+        let (cap, rest) = quantity(1 << 63, b'\n', rest)?;
+        Ok((Coupling { to: NetId(to), cap }, rest))
     }
-    Ok((couplings, rest))
 }
 
-/// A sink with `count` coefficients.
-#[tactic(auto, unfolding(crate::specs::Reading::sink_at))]
-fn sink(alloc: Global, count: u32, bytes: &[u8]) -> Result<(SinkPin, &[u8]), ReadFault>
-    ensures { Gives (λ x. (x.0, x.1.now)) result (sink_at count bytes.now) }
-{
-    let rest = word(b"sink ", bytes)?;
-    let (name, rest) = name(alloc, b' ', rest)?;
-    let (base, rest) = signed(1 << 127, mark_after(count), rest)?;
-    let (coefs, rest) = products(alloc, count, rest)?;
-    let coefs = Row::from_vec(coefs);
-    Ok((SinkPin { name, base, coefs }, rest))
-}
-
-fn sinks(
-    alloc: Global,
+/// Reads the sinks of a net with this number of couplings.
+#[derive(Drop)]
+struct SinkReader {
     couplings: u32,
-    count: u32,
-    bytes: &[u8],
-) -> Result<(Vec<SinkPin>, &[u8]), ReadFault>
-    ensures { Gives (λ x. (x.0.items, x.1.now)) result (many_at (λ after. sink_at couplings) count bytes.now) }
-{
-    let mut sinks = Vec::new(alloc);
-    let mut rest = bytes;
-    for _ in 0..count {
-        let (sink, after) = sink(alloc, couplings, rest)?;
-        sinks.push(sink)?;
-        rest = after;
-    }
-    Ok((sinks, rest))
 }
 
-#[tactic(auto, unfolding(crate::specs::Reading::arc_at))]
-fn arc(bytes: &[u8]) -> Result<(TimingArc, &[u8]), ReadFault>
-    ensures { Gives (λ x. (x.0, x.1.now)) result (arc_at bytes.now) }
-{
-    let rest = word(b"arc ", bytes)?;
-    let (from, rest) = number(b' ', rest)?;
-    let (sink, rest) = number(b' ', rest)?;
-    let (input, rest) = edge(rest)?;
-    let (output, rest) = edge(rest)?;
-    let (delay, rest) = number(b' ', rest)?;
-    let (slew, rest) = number(b'\n', rest)?;
-    let arc = TimingArc {
-        from: NetId(from),
-        sink,
-        input,
-        output,
-        delay,
-        slew,
-    };
-    Ok((arc, rest))
+impl Reader for SinkReader {
+    type Value = SinkPin;
+
+    ghost at = { λ r left bytes. sink_at r.couplings bytes };
+
+    #[tactic(auto, unfolding(crate::specs::Reading::sink_at))]
+    fn read<'a>(
+        &self,
+        alloc: Global,
+        _left: u32,
+        bytes: &'a [u8],
+    ) -> Result<(SinkPin, &'a [u8]), ReadFault> {
+        let count = self.couplings;
+        let rest = word(b"sink ", bytes)?;
+        let (name, rest) = name(alloc, b' ', rest)?;
+        let (base, rest) = signed(1 << 127, mark_after(count), rest)?;
+        let (coefs, rest) = products(alloc, count, rest)?;
+        let coefs = Row::from_vec(coefs);
+        Ok((SinkPin { name, base, coefs }, rest))
+    }
 }
 
-fn arcs(alloc: Global, count: u32, bytes: &[u8]) -> Result<(Vec<TimingArc>, &[u8]), ReadFault>
-    ensures { Gives (λ x. (x.0.items, x.1.now)) result (many_at (λ after. arc_at) count bytes.now) }
-{
-    let mut arcs = Vec::new(alloc);
-    let mut rest = bytes;
-    for _ in 0..count {
-        let (arc, after) = arc(rest)?;
-        arcs.push(arc)?;
-        rest = after;
+/// Reads the arcs of a net.
+struct ArcReader;
+
+impl Reader for ArcReader {
+    type Value = TimingArc;
+
+    ghost at = { λ _ left bytes. arc_at bytes };
+
+    #[tactic(auto, unfolding(crate::specs::Reading::arc_at))]
+    fn read<'a>(
+        &self,
+        _alloc: Global,
+        _left: u32,
+        bytes: &'a [u8],
+    ) -> Result<(TimingArc, &'a [u8]), ReadFault> {
+        let rest = word(b"arc ", bytes)?;
+        let (from, rest) = number(b' ', rest)?;
+        let (sink, rest) = number(b' ', rest)?;
+        let (input, rest) = edge(rest)?;
+        let (output, rest) = edge(rest)?;
+        let (delay, rest) = number(b' ', rest)?;
+        let (slew, rest) = number(b'\n', rest)?;
+        let arc = TimingArc {
+            from: NetId(from),
+            sink,
+            input,
+            output,
+            delay,
+            slew,
+        };
+        Ok((arc, rest))
     }
-    Ok((arcs, rest))
 }
 
 #[tactic(auto, unfolding(crate::specs::Reading::net_at))]
@@ -214,9 +212,12 @@ fn net(alloc: Global, head: NetHead, bytes: &[u8]) -> Result<(Net, &[u8]), ReadF
     ensures { Gives (λ x. (x.0, x.1.now)) result (net_at head bytes.now) }
 {
     let (given, rest) = given(head.arcs, bytes)?;
-    let (couplings, rest) = couplings(alloc, head.couplings, rest)?;
-    let (sinks, rest) = sinks(alloc, head.couplings, head.sinks, rest)?;
-    let (arcs, rest) = arcs(alloc, head.arcs, rest)?;
+    let (couplings, rest) = read_many(alloc, &CouplingReader, head.couplings, rest)?;
+    let sink_reader = SinkReader {
+        couplings: head.couplings,
+    };
+    let (sinks, rest) = read_many(alloc, &sink_reader, head.sinks, rest)?;
+    let (arcs, rest) = read_many(alloc, &ArcReader, head.arcs, rest)?;
     let net = Net {
         name: head.name,
         input: head.input,
@@ -232,13 +233,13 @@ fn net(alloc: Global, head: NetHead, bytes: &[u8]) -> Result<(Net, &[u8]), ReadF
 /// The nets of these heads.
 pub fn nets(
     alloc: Global,
-    heads: VecDeque<NetHead>,
+    heads: Vec<NetHead>,
     bytes: &[u8],
 ) -> Result<(Vec<Net>, &[u8]), ReadFault>
     ensures { Gives (λ x. (x.0.items, x.1.now)) result (each_at net_at heads.items bytes.now) }
 {
     let mut nets = Vec::new(alloc);
-    let mut heads = heads;
+    let mut heads = VecDeque::from(heads);
     let mut rest = bytes;
     while let Some(head) = heads.pop_front() {
         let (net, after) = net(alloc, head, rest)?;

@@ -1,31 +1,20 @@
 //! All of a linked text.
 
-ghost use Rattle.std.specs.Prelude.{◌≡◌, [], Some, IfOk};
+ghost use Rattle.std.specs.Prelude.{◌≡◌, Some, IfOk};
 ghost use Rattle.xt_model.specs.Parts.{Parts};
 ghost use Rattle.xt_model.specs.Sound.{IsSound};
-ghost use Rattle.xt_meaning.specs.Lines.{text_of};
-ghost use Rattle.xt_meaning.specs.Linked.{linked};
+ghost use Rattle.text_lines.specs.Lines.{text_of};
+ghost use Rattle.linked_text.specs.Linked.{IsLinkable, linked};
 ghost use Rattle.linked_text.specs.Fields.{Gives};
 ghost use Rattle.linked_text.specs.Fits.{Fits};
 ghost use Rattle.linked_text.specs.Reading.{period_at, parts_at};
-ghost use Rattle.linked_text.specs.Told.{parts_of};
 
 use crate::fault::ReadFault;
 use crate::field::{cut, number, signed_from, word};
 use crate::net::{heads, nets};
 use crate::table::tables;
 use std::alloc::Global;
-use xt_model::{CheckPoint, Net, Table};
-
-/// The parts of a design as a linked text tells them: the period in fs where there is one, the tables,
-/// the nets and the check points. They need not be sound.
-#[derive(Debug, Drop)]
-pub struct ReadParts {
-    pub period: Option<i64>,
-    pub tables: Vec<Table>,
-    pub nets: Vec<Net>,
-    pub checks: Vec<CheckPoint>,
-}
+use xt_model::{DesignParts, Miller, Row};
 
 #[tactic(auto, unfolding(crate::specs::Reading::period_at))]
 fn period(bytes: &[u8]) -> Result<(Option<i64>, &[u8]), ReadFault>
@@ -40,8 +29,8 @@ fn period(bytes: &[u8]) -> Result<(Option<i64>, &[u8]), ReadFault>
 }
 
 #[tactic(auto, unfolding(crate::specs::Reading::parts_at))]
-fn parts(alloc: Global, bytes: &[u8]) -> Result<ReadParts, ReadFault>
-    ensures { Gives parts_of result (parts_at bytes.now) }
+fn parts(alloc: Global, bytes: &[u8]) -> Result<DesignParts, ReadFault>
+    ensures { Gives (λ p. p) result (parts_at bytes.now) }
 {
     let rest = word(b"xtalk-design 1\ncounts ", bytes)?;
     let (table_count, rest) = number(b' ', rest)?;
@@ -55,31 +44,34 @@ fn parts(alloc: Global, bytes: &[u8]) -> Result<ReadParts, ReadFault>
     if !rest.is_empty() {
         return Err(ReadFault::NotLinked);
     }
-    let checks = Vec::new(alloc);
-    Ok(ReadParts {
+    Ok(DesignParts {
         period,
-        tables,
-        nets,
-        checks,
+        tables: Row::from_vec(tables),
+        nets: Row::from_vec(nets),
+        checks: Row::from_vec(Vec::new(alloc)),
+        miller: Miller::classical(),
     })
 }
 
-/// The parts that the bytes tell, all of the bytes. A text with checks is refused.
-pub fn read_parts(alloc: Global, bytes: &[u8]) -> Result<ReadParts, ReadFault>
+/// The parts of a design in linked text, which may be unsound: the bytes are all of the text. A text with
+/// checks is refused. The couplings count by the classical factors.
+pub fn read_parts(alloc: Global, bytes: &[u8]) -> Result<DesignParts, ReadFault>
     // What is read is spelled so.
-    ensures found { IfOk result (λ p. (bytes.now ≡ text_of (linked (parts_of p))) × Fits (parts_of p)) }
+    ensures found { IfOk result (λ p. (bytes.now ≡ text_of (linked p)) × Fits p) }
     // What is spelled so is read, unless memory runs out.
-    ensures only { (d : Parts) → Fits d → bytes.now ≡ text_of (linked d) → Gives parts_of result (Some d) }
+    ensures only { (d : Parts) → Fits d → bytes.now ≡ text_of (linked d) → Gives (λ p. p) result (Some d) }
 {
     parts(alloc, bytes)
 }
 
-/// Sound parts without checks can be read.
+/// Sound parts that a linked text can have can be read.
 pub fn sound_parts_fit()
-    ensures { (d : Parts) → IsSound d → d.checks ≡ [] → Fits d }
+    ensures { (d : Parts) → IsSound d → IsLinkable d → Fits d }
 {}
 
-/// Different sound designs without checks have different texts.
+/// Different sound designs that linked texts can have have different texts.
 pub fn sound_texts_differ()
-    ensures { (d e : Parts) → IsSound d → d.checks ≡ [] → IsSound e → e.checks ≡ [] → text_of (linked d) ≡ text_of (linked e) → d ≡ e }
+    ensures { (d e : Parts)
+        → IsSound d → IsLinkable d → IsSound e → IsLinkable e
+        → text_of (linked d) ≡ text_of (linked e) → d ≡ e }
 {}

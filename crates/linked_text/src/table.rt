@@ -6,6 +6,7 @@ ghost use Rattle.linked_text.specs.Reading.{row_at, rows_at, index_at, size_at, 
 
 use crate::fault::ReadFault;
 use crate::field::{is_rising, number, word};
+use crate::many::{Reader, read_many};
 use crate::numbers::table_numbers;
 use std::alloc::Global;
 use xt_model::{Row, Table};
@@ -65,34 +66,39 @@ fn size(mark: u8, bytes: &[u8]) -> Result<(u32, &[u8]), ReadFault>
     Ok((n, rest))
 }
 
-#[tactic(auto, unfolding(crate::specs::Reading::table_at))]
-fn table(alloc: Global, bytes: &[u8]) -> Result<(Table, &[u8]), ReadFault>
-    ensures { Gives (λ x. (x.0, x.1.now)) result (table_at bytes.now) }
-{
-    let rest = word(b"table ", bytes)?;
-    let (row_count, rest) = size(b' ', rest)?;
-    let (column_count, rest) = size(b'\n', rest)?;
-    let (slews, rest) = index(alloc, b"slews ", row_count, rest)?;
-    let (loads, rest) = index(alloc, b"loads ", column_count, rest)?;
-    let (values, rest) = rows(alloc, row_count, column_count, rest)?;
-    let table = Table::new(
-        Row::from_vec(slews),
-        Row::from_vec(loads),
-        Row::from_vec(values),
-    );
-    Ok((table, rest))
+/// Reads the tables.
+struct TableReader;
+
+impl Reader for TableReader {
+    type Value = Table;
+
+    ghost at = { λ _ left bytes. table_at bytes };
+
+    #[tactic(auto, unfolding(crate::specs::Reading::table_at))]
+    fn read<'a>(
+        &self,
+        alloc: Global,
+        _left: u32,
+        bytes: &'a [u8],
+    ) -> Result<(Table, &'a [u8]), ReadFault> {
+        let rest = word(b"table ", bytes)?;
+        let (row_count, rest) = size(b' ', rest)?;
+        let (column_count, rest) = size(b'\n', rest)?;
+        let (slews, rest) = index(alloc, b"slews ", row_count, rest)?;
+        let (loads, rest) = index(alloc, b"loads ", column_count, rest)?;
+        let (values, rest) = rows(alloc, row_count, column_count, rest)?;
+        let table = Table::new(
+            Row::from_vec(slews),
+            Row::from_vec(loads),
+            Row::from_vec(values),
+        );
+        Ok((table, rest))
+    }
 }
 
 /// `count` tables.
 pub fn tables(alloc: Global, count: u32, bytes: &[u8]) -> Result<(Vec<Table>, &[u8]), ReadFault>
-    ensures { Gives (λ x. (x.0.items, x.1.now)) result (many_at (λ after. table_at) count bytes.now) }
+    ensures { Gives (λ x. (x.0.items, x.1.now)) result (many_at (λ left. table_at) count bytes.now) }
 {
-    let mut tables = Vec::new(alloc);
-    let mut rest = bytes;
-    for _ in 0..count {
-        let (table, after) = table(alloc, rest)?;
-        tables.push(table)?;
-        rest = after;
-    }
-    Ok((tables, rest))
+    read_many(alloc, &TableReader, count, bytes)
 }

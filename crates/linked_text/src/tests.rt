@@ -1,26 +1,99 @@
 use super::*;
 use std::alloc::{AllocError, Global};
 use std::test::*;
-use xt_model::{Code, Edge, Quad};
+use xt_model::{Code, Edge, Miller, Quad};
 
-const EMPTY: &[u8] = b"xtalk-design 1\ncounts 0 0 0\nperiod none\nend\n";
+const EMPTY: &[u8] = b"xtalk-design 1\n\
+counts 0 0 0\n\
+period none\n\
+end\n";
 
-const ONE: &[u8] =
-    b"xtalk-design 1\ncounts 0 1 0\nperiod none\nnet a i 0 0 0 0\nrise 1000 1000 0 0\nfall quiet\nend\n";
+const ONE: &[u8] = b"xtalk-design 1\n\
+counts 0 1 0\n\
+period none\n\
+net a i 0 0 0 0\n\
+rise 1000 1000 0 0\n\
+fall quiet\n\
+end\n";
 
-const CROSS: &[u8] =
-    b"xtalk-design 1\ncounts 2 4 0\nperiod none\ntable 1 1\nslews 0\nloads 0\nrow 500\ntable 1 1\nslews 0\nloads 0\nrow 600\nnet s i 0 1 1 0\nnet t i 0 1 1 0\nnet c w 0 0 0 1\nnet d w 0 0 0 1\nrise 1000 1000 600 600\nfall quiet\ncouple 3 1000\nsink c/A 0 200000000\nrise 1000 1000 600 600\nfall quiet\ncouple 2 1000\nsink d/A 0 200000000\narc 0 0 rise rise 0 1\narc 1 0 rise rise 0 1\nend\n";
+const CROSS: &[u8] = b"xtalk-design 1\n\
+counts 2 4 0\n\
+period none\n\
+table 1 1\n\
+slews 0\n\
+loads 0\n\
+row 500\n\
+table 1 1\n\
+slews 0\n\
+loads 0\n\
+row 600\n\
+net s i 0 1 1 0\n\
+net t i 0 1 1 0\n\
+net c w 0 0 0 1\n\
+net d w 0 0 0 1\n\
+rise 1000 1000 600 600\n\
+fall quiet\n\
+couple 3 1000\n\
+sink c/A 0 200000000\n\
+rise 1000 1000 600 600\n\
+fall quiet\n\
+couple 2 1000\n\
+sink d/A 0 200000000\n\
+arc 0 0 rise rise 0 1\n\
+arc 1 0 rise rise 0 1\n\
+end\n";
 
-const LOAD_PAIR: &[u8] =
-    b"xtalk-design 1\ncounts 2 4 0\nperiod none\ntable 1 2\nslews 0\nloads 0 10000\nrow 800 2800\ntable 1 1\nslews 0\nloads 0\nrow 0\nnet p i 0 0 1 0\nnet q i 0 0 1 0\nnet a w 0 1 0 1\nnet b w 0 1 0 1\nrise 0 0 0 0\nfall quiet\nsink a/A 0\nrise quiet\nfall 100 100 0 0\nsink b/A 0\ncouple 3 1000\narc 0 0 rise rise 0 1\ncouple 2 1000\narc 1 0 fall fall 0 1\nend\n";
+const LOAD_PAIR: &[u8] = b"xtalk-design 1\n\
+counts 2 4 0\n\
+period none\n\
+table 1 2\n\
+slews 0\n\
+loads 0 10000\n\
+row 800 2800\n\
+table 1 1\n\
+slews 0\n\
+loads 0\n\
+row 0\n\
+net p i 0 0 1 0\n\
+net q i 0 0 1 0\n\
+net a w 0 1 0 1\n\
+net b w 0 1 0 1\n\
+rise 0 0 0 0\n\
+fall quiet\n\
+sink a/A 0\n\
+rise quiet\n\
+fall 100 100 0 0\n\
+sink b/A 0\n\
+couple 3 1000\n\
+arc 0 0 rise rise 0 1\n\
+couple 2 1000\n\
+arc 1 0 fall fall 0 1\n\
+end\n";
 
 /// A design that has a check.
-const CHECKED: &[u8] =
-    b"xtalk-design 1\ncounts 0 1 1\nperiod 1\nnet a i 0 0 1 0\nrise 1000 1000 0 0\nfall quiet\nsink a 0\nport setup a 0 0 0 -\nend\n";
+const CHECKED: &[u8] = b"xtalk-design 1\n\
+counts 0 1 1\n\
+period 1\n\
+net a i 0 0 1 0\n\
+rise 1000 1000 0 0\n\
+fall quiet\n\
+sink a 0\n\
+port setup a 0 0 0 -\n\
+end\n";
 
 /// A design whose quantities are as large as they may be.
-const LARGEST: &[u8] =
-    b"xtalk-design 1\ncounts 1 1 0\nperiod 1099511627776\ntable 1 1\nslews 0\nloads 0\nrow 1099511627776\nnet a i 70368744177664 0 1 0\nrise -70368744177664 70368744177664 0 1099511627776\nfall quiet\nsink a 5070602400912917605986812821504\nend\n";
+const LARGEST: &[u8] = b"xtalk-design 1\n\
+counts 1 1 0\n\
+period 1099511627776\n\
+table 1 1\n\
+slews 0\n\
+loads 0\n\
+row 1099511627776\n\
+net a i 70368744177664 0 1 0\n\
+rise -70368744177664 70368744177664 0 1099511627776\n\
+fall quiet\n\
+sink a 5070602400912917605986812821504\n\
+end\n";
 
 /// Texts that differ from a linked text in one place each.
 const WRONG: [&[u8]; 10] = [
@@ -39,10 +112,10 @@ const WRONG: [&[u8]; 10] = [
 #[test]
 fn reads_values(rt: HostRuntime) -> Result<(), Fail> {
     let parts = read_parts(rt.alloc(), CROSS)?;
-    assert_eq!(rt; parts.tables.len(), 2);
+    assert_eq!(rt; parts.tables.as_slice().len(), 2);
     assert_eq!(rt; parts.period, None);
-    assert_eq!(rt; parts.checks.len(), 0);
-    let source = parts.nets.get(0).ok_or("four nets")?;
+    assert_eq!(rt; parts.checks.as_slice().len(), 0);
+    let source = parts.nets.as_slice().get(0).ok_or("four nets")?;
     assert_eq!(rt; source.name.bytes(), b"s".as_slice());
     assert_eq!(rt; source.given.rise.slo, 600);
     assert_eq!(rt; source.given.fall, Quad::BOTTOM);
@@ -51,17 +124,17 @@ fn reads_values(rt: HostRuntime) -> Result<(), Fail> {
     assert_eq!(rt; coupling.cap, 1000);
     let sink = source.sinks.as_slice().first().ok_or("a sink")?;
     assert_eq!(rt; sink.coefs.as_slice(), [200_000_000].as_slice());
-    let last = parts.nets.get(3).ok_or("four nets")?;
+    let last = parts.nets.as_slice().get(3).ok_or("four nets")?;
     let arc = last.arcs.as_slice().first().ok_or("an arc")?;
     assert_eq!(rt; arc.from.0, 1);
     assert_eq!(rt; arc.delay, 0);
     assert_eq!(rt; arc.slew, 1);
 
     let parts = read_parts(rt.alloc(), LOAD_PAIR)?;
-    let table = parts.tables.get(0).ok_or("two tables")?;
+    let table = parts.tables.as_slice().get(0).ok_or("two tables")?;
     assert_eq!(rt; table.loads(), [0, 10_000].as_slice());
     assert_eq!(rt; table.values(), [800, 2800].as_slice());
-    let last = parts.nets.get(3).ok_or("four nets")?;
+    let last = parts.nets.as_slice().get(3).ok_or("four nets")?;
     let arc = last.arcs.as_slice().first().ok_or("an arc")?;
     assert_eq!(rt; arc.input, Edge::Fall);
     Ok(())
@@ -119,4 +192,31 @@ fn refuses_checks(rt: HostRuntime) {
             })
         )
     );
+}
+
+#[test]
+fn writes_what_was_read(rt: HostRuntime) -> Result<(), Fail> {
+    let many = many_sources(rt.alloc())?;
+    for text in &[EMPTY, ONE, CROSS, LOAD_PAIR, LARGEST, many.as_slice()] {
+        let design = read_linked(rt.alloc(), text)?;
+        let written = write_linked(rt.alloc(), &design)?;
+        assert_eq!(rt; written.as_slice(), *text);
+    }
+    Ok(())
+}
+
+/// The same text in version 2, with Miller numbers of its own.
+const OTHER_MILLER: &[u8] = b"xtalk-design 2\n\
+counts 0 0 0\n\
+period none\n\
+miller 0 4 12\n\
+end\n";
+
+#[test]
+fn writes_miller_numbers(rt: HostRuntime) -> Result<(), Fail> {
+    let miller = Miller::new(0, 4, 12).ok_or("three that rise")?;
+    let design = read_linked(rt.alloc(), EMPTY)?.with_miller(miller);
+    let written = write_linked(rt.alloc(), &design)?;
+    assert_eq!(rt; written.as_slice(), OTHER_MILLER);
+    Ok(())
 }

@@ -1,3 +1,4 @@
-pub mod Lines
-pub mod Pieces
-pub mod Bound
+mod Lines
+mod Pieces
+mod Bound
+mod WorkedReports

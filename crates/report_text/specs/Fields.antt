@@ -9,4 +9,5 @@ field bytes mark = bytes ++ mark ∷ []
 
 -- the four bounds of a window as fields, with the byte behind the last
 abbrev pub quad_text : Quad → ℕ → List ℕ
-quad_text q mark = thousandths q.tlo ++ 32 ∷ (thousandths q.thi ++ 32 ∷ (thousandths q.slo ++ 32 ∷ field (thousandths q.shi) mark))
+quad_text q mark =
+    thousandths q.tlo ++ 32 ∷ (thousandths q.thi ++ 32 ∷ (thousandths q.slo ++ 32 ∷ field (thousandths q.shi) mark))

@@ -1,3 +1,5 @@
+pub mod Guilt
+pub mod Report
 pub mod Fields
 pub mod Kinds
 pub mod Pieces

@@ -1,31 +1,17 @@
--- The pieces of a report, and what the code keeps of a guilty coupling.
-use Rattle.std.specs.Prelude.{ℕ, Bool, ◌&&◌, if◌then◌else◌, List, [], ◌∷◌, ◌++◌, map, codes, Option, Some, None}
+-- The pieces of a report.
+use Rattle.std.specs.Prelude.{ℕ, if◌then◌else◌, List, [], ◌∷◌, ◌++◌, map, codes, Option, Some, None}
+use Rattle.std.specs.List.{filter}
 use Rattle.xt_model.specs.declared.edge.Edge.{Edge}
 use Rattle.xt_model.specs.declared.edge.Edge.TheVariants.{Rise, Fall}
 use Rattle.xt_model.specs.declared.quad.Pair.{Pair}
+use Rattle.xt_model.specs.declared.net.NetId.{NetId}
 use Rattle.xt_model.specs.declared.net.Net.{Net}
 use Rattle.xt_model.specs.Parts.{Parts}
-use Rattle.xt_meaning.specs.Guilt.{Mark, No, Possible, Sure, Guilt, is_no, guilty_couplings}
 use Rattle.xt_model.specs.Assign.{assigned}
-use Rattle.xt_meaning.specs.Lines.{line_text, text_of}
-use Rattle.xt_meaning.specs.Report.{window_line, is_unconstrained, guilty_line}
-use Rattle.report_text.specs.declared.mark.Mark.{Mark as Seen}
-use Rattle.report_text.specs.declared.mark.Mark.TheVariants as seen
-use Rattle.report_text.specs.declared.guilty.Guilt.{Guilt as SeenGuilt}
-
--- the mark that a value of the code stands for
-abbrev pub mark_seen : Seen → Mark
-mark_seen seen.No = No
-mark_seen seen.Possible = Possible
-mark_seen seen.Sure = Sure
-
--- the mark by whether the least windows overlap, and the greatest
-abbrev pub mark_by : Bool → Bool → Mark
-mark_by least greatest = if least then Sure else if greatest then Possible else No
-
--- the guilt that a value of the code stands for
-abbrev pub guilt_seen : SeenGuilt → Guilt
-guilt_seen g = record { victim = g.victim; edge = g.edge; coupling = g.coupling; fast = mark_seen g.fast; slow = mark_seen g.slow }
+use Rattle.text_lines.specs.Lines.{line_text, text_of}
+use Rattle.report_text.specs.declared.guilt.Guilt.{Guilt}
+use Rattle.report_text.specs.Guilt.{is_guilty, edge_entries}
+use Rattle.report_text.specs.Report.{window_line, is_unconstrained, guilty_line}
 
 -- the two lines of the windows of the net of this number
 abbrev pub windows_text : List Pair → List Pair → ℕ → Net → List ℕ
@@ -37,11 +23,15 @@ windows_text low high n net =
 abbrev pub unconstrained_text : Net → List ℕ
 unconstrained_text net = if is_unconstrained net then line_text (codes "unconstrained" ∷ net.name ∷ []) else []
 
--- the line of a guilty coupling; one that can do nothing has none
-abbrev pub guilt_text : Parts → Guilt → List ℕ
-guilt_text d g = if is_no g.fast && is_no g.slow then [] else line_text (guilty_line d g)
+-- the line of an entry whose aggressor can do something; another has none
+abbrev pub entry_text : Parts → Guilt → List ℕ
+entry_text d g = if is_guilty g then line_text (guilty_line d g) else []
+
+-- the lines of the guilty ones of these entries
+abbrev pub guilty_text : Parts → List Guilt → List ℕ
+guilty_text d entries = text_of (map (guilty_line d) (filter is_guilty entries))
 
 -- the lines of the guilty couplings of an edge of a net
-abbrev pub edge_text : Parts → List Pair → List Pair → ℕ → Edge → Option Net → List ℕ
-edge_text d low high n e None = []
-edge_text d low high n e (Some net) = text_of (map (guilty_line d) (guilty_couplings low high n e net.couplings))
+abbrev pub edge_text : Parts → List Pair → List Pair → NetId → Edge → Option Net → List ℕ
+edge_text d low high victim e None = []
+edge_text d low high victim e (Some net) = guilty_text d (edge_entries d low high victim e 0 net.couplings)

@@ -1,14 +1,12 @@
 //! The fields of a line: each is followed by a space, or by the newline that ends the line.
 
 ghost use Rattle.std.specs.Prelude.{◌≡◌, ◌++◌, OnOk};
-ghost use Rattle.xt_model.specs.declared.edge.Edge.{Edge};
-ghost use Rattle.xt_meaning.specs.Lines.{edge_word};
 ghost use Rattle.xt_number.specs.Thousandths.{thousandths};
 ghost use Rattle.report_text.specs.Fields.{field, quad_text};
 
 use itoa::{Buffer, Integer};
 use std::alloc::AllocError;
-use xt_model::{Edge, Quad};
+use xt_model::Quad;
 use xt_number::{cap_text, time_text};
 
 /// Appends a word and the byte behind it.
@@ -52,14 +50,4 @@ pub fn push_quad(out: &mut Vec<u8>, quad: &Quad, mark: u8) -> Result<(), AllocEr
     push_time(out, quad.slo, b' ')?;
     push_time(out, quad.shi, mark)?;
     Ok(())
-}
-
-/// The word for an edge.
-pub fn edge_word(edge: Edge) -> &'static [u8]
-    ensures { result.now ≡ edge_word edge }
-{
-    match edge {
-        Edge::Rise => b"rise",
-        Edge::Fall => b"fall",
-    }
 }

@@ -1,131 +1,79 @@
 //! The lines on couplings that can change a victim's delay.
 
-ghost use Rattle.std.specs.Prelude.{◌≡◌, ◌++◌, ◌<◌, ◌&&◌, length, map, OnOk};
+ghost use Rattle.std.specs.Prelude.{◌≡◌, ◌++◌, ◌<◌, length, map, Some, IsSome, OnOk};
 ghost use Rattle.std.specs.List.{slice_get};
-ghost use Rattle.xt_meaning.specs.Lines.{line_text, text_of};
-ghost use Rattle.xt_meaning.specs.Guilt.{mark_of, guilt_of, is_no, guilty};
-ghost use Rattle.xt_meaning.specs.Report.{guilty_line};
-ghost use Rattle.report_text.specs.Pieces.{mark_seen, guilt_seen, guilt_text, edge_text};
+ghost use Rattle.text_lines.specs.Lines.{line_text, text_of};
+ghost use Rattle.report_text.specs.Guilt.{guilty};
+ghost use Rattle.report_text.specs.Report.{coupling_of, guilty_line};
+ghost use Rattle.report_text.specs.Pieces.{entry_text, edge_text};
 
-use crate::fields::{edge_word, push_cap, push_word};
-use crate::mark::Mark;
-use crate::windows::window;
-use miller_bits::overlap;
+use crate::fields::{push_cap, push_word};
+use crate::guilt::Guilt;
 use std::alloc::AllocError;
-use xt_model::{Coupling, Design, Edge, Windows};
+use text_lines::edge_word;
+use xt_model::{Coupling, Design, Edge, NetId, Windows};
 
-/// What a coupling can do to an edge of its net, the victim: speed it up, or slow it down.
-#[derive(Clone, Copy)]
-struct Guilt {
-    victim: usize,
-    edge: Edge,
-    coupling: Coupling,
-    fast: Mark,
-    slow: Mark,
-}
-
-/// The mark of an edge of a victim and an edge of an aggressor.
-fn mark(
-    low: &Windows,
-    high: &Windows,
-    victim: usize,
-    edge: Edge,
-    aggressor: usize,
-    aggressor_edge: Edge,
-) -> Mark
-    requires counts { length low.now ≡ length high.now }
-    requires victim { victim < length low.now }
-    requires aggressor { aggressor < length low.now }
-    ensures { mark_seen result ≡ mark_of low.now high.now victim edge aggressor aggressor_edge }
+/// The coupling that an entry is of.
+fn coupling<'a>(design: &'a Design, entry: &Guilt) -> &'a Coupling
+    requires { IsSome (coupling_of design.now entry.now) }
+    ensures value { coupling_of design.now entry.now ≡ Some result.now }
+    ensures aggressor { result.now.to.0 < length design.now.nets }
 {
-    let least = overlap(
-        &window(low, victim, edge),
-        &window(low, aggressor, aggressor_edge),
-    );
-    let greatest = overlap(
-        &window(high, victim, edge),
-        &window(high, aggressor, aggressor_edge),
-    );
-    Mark::by(least, greatest)
+    let victim = design.net(entry.victim.0 as usize);
+    &victim.couplings.as_slice()[entry.coupling as usize]
 }
 
-impl Guilt {
-    /// What the coupling can do to the edge of the net of this number.
-    fn new(low: &Windows, high: &Windows, victim: usize, edge: Edge, coupling: Coupling) -> Guilt
-        requires counts { length low.now ≡ length high.now }
-        requires victim { victim < length low.now }
-        requires aggressor { coupling.to.0 < length low.now }
-        ensures { guilt_seen result ≡ guilt_of low.now high.now victim edge coupling }
-    {
-        let aggressor = coupling.to.0 as usize;
-        Guilt {
-            victim,
-            edge,
-            coupling,
-            fast: mark(low, high, victim, edge, aggressor, edge),
-            slow: mark(low, high, victim, edge, aggressor, edge.other()),
-        }
-    }
-
-    /// Whether the coupling can do nothing.
-    fn is_none(&self) -> bool
-        ensures { result ≡ (is_no (guilt_seen self.now).fast && is_no (guilt_seen self.now).slow) }
-    {
-        self.fast.is_no() && self.slow.is_no()
-    }
-}
-
-/// Appends the line of a coupling.
-fn push_line(out: &mut Vec<u8>, design: &Design, guilt: &Guilt) -> Result<(), AllocError>
-    requires victim { guilt.now.victim < length design.now.nets }
-    requires aggressor { guilt.now.coupling.to.0 < length design.now.nets }
-    ensures { OnOk result (out.new.items ≡ out.old.items ++ line_text (guilty_line design.now (guilt_seen guilt.now))) }
+/// Appends the line of an entry.
+fn push_line(out: &mut Vec<u8>, design: &Design, entry: &Guilt) -> Result<(), AllocError>
+    requires { IsSome (coupling_of design.now entry.now) }
+    ensures { OnOk result (out.new.items ≡ out.old.items ++ line_text (guilty_line design.now entry.now)) }
 {
+    let victim = design.net(entry.victim.0 as usize);
+    let coupling = coupling(design, entry);
+    let aggressor = design.net(coupling.to.0 as usize);
     push_word(out, b"guilty", b' ')?;
-    push_word(out, design.net(guilt.victim).name.bytes(), b' ')?;
-    push_word(out, edge_word(guilt.edge), b' ')?;
-    push_word(
-        out,
-        design.net(guilt.coupling.to.0 as usize).name.bytes(),
-        b' ',
-    )?;
-    push_cap(out, guilt.coupling.cap, b' ')?;
+    push_word(out, victim.name.bytes(), b' ')?;
+    push_word(out, edge_word(entry.edge), b' ')?;
+    push_word(out, aggressor.name.bytes(), b' ')?;
+    push_cap(out, coupling.cap, b' ')?;
     push_word(out, b"fast", b' ')?;
-    push_word(out, guilt.fast.word(), b' ')?;
+    push_word(out, entry.fast.word(), b' ')?;
     push_word(out, b"slow", b' ')?;
-    push_word(out, guilt.slow.word(), b'\n')?;
+    push_word(out, entry.slow.word(), b'\n')?;
     Ok(())
 }
 
-/// Appends the line of a coupling that can change the edge's delay, and nothing for another.
-fn push_guilt(out: &mut Vec<u8>, design: &Design, guilt: &Guilt) -> Result<(), AllocError>
-    requires victim { guilt.now.victim < length design.now.nets }
-    requires aggressor { guilt.now.coupling.to.0 < length design.now.nets }
-    ensures { OnOk result (out.new.items ≡ out.old.items ++ guilt_text design.now (guilt_seen guilt.now)) }
+/// Appends the line of an entry whose aggressor can do something, and nothing for another.
+fn push_entry(out: &mut Vec<u8>, design: &Design, entry: &Guilt) -> Result<(), AllocError>
+    requires { IsSome (coupling_of design.now entry.now) }
+    ensures { OnOk result (out.new.items ≡ out.old.items ++ entry_text design.now entry.now) }
 {
-    if guilt.is_none() {
+    if !entry.is_guilty() {
         return Ok(());
     }
-    push_line(out, design, guilt)
+    push_line(out, design, entry)
 }
 
-/// Appends the lines of an edge of the net of this number.
+/// Appends the lines of an edge of a net.
 fn push_edge(
     out: &mut Vec<u8>,
     design: &Design,
     low: &Windows,
     high: &Windows,
-    victim: usize,
+    victim: NetId,
     edge: Edge,
 ) -> Result<(), AllocError>
     requires low { length low.now ≡ length design.now.nets }
     requires high { length high.now ≡ length design.now.nets }
-    requires victim { victim < length design.now.nets }
-    ensures { OnOk result (out.new.items ≡ out.old.items ++ edge_text design.now low.now high.now victim edge (slice_get design.now.nets victim)) }
+    requires victim { victim.0 < length design.now.nets }
+    ensures { let net = slice_get design.now.nets victim.0 in
+        OnOk result (out.new.items ≡ out.old.items ++ edge_text design.now low.now high.now victim edge net) }
 {
-    for coupling in design.net(victim).couplings.as_slice() {
-        let guilt = Guilt::new(low, high, victim, edge, *coupling);
-        push_guilt(out, design, &guilt)?;
+    let net = &design.nets()[victim.0 as usize];
+    let couplings = net.couplings.as_slice();
+    for (number, coupling) in couplings.iter().enumerate() {
+        let entry = Guilt::new(design, low, high, victim, edge, number as u32, coupling);
+        push_entry(out, design, &entry)?;
     }
     Ok(())
 }
@@ -139,9 +87,11 @@ pub fn push_guilty(
 ) -> Result<(), AllocError>
     requires low { length low.now ≡ length design.now.nets }
     requires high { length high.now ≡ length design.now.nets }
-    ensures { OnOk result (out.new.items ≡ out.old.items ++ text_of (map (guilty_line design.now) (guilty design.now low.now high.now))) }
+    ensures { let entries = guilty design.now low.now high.now in
+        OnOk result (out.new.items ≡ out.old.items ++ text_of (map (guilty_line design.now) entries)) }
 {
-    for victim in 0..design.nets().len() {
+    for number in 0..design.nets().len() {
+        let victim = NetId(number as u32);
         push_edge(out, design, low, high, victim, Edge::Rise)?;
         push_edge(out, design, low, high, victim, Edge::Fall)?;
     }

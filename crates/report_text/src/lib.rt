@@ -2,6 +2,7 @@
 #![tactic(auto)]
 
 mod fields;
+mod guilt;
 mod guilty;
 mod kind;
 mod mark;

@@ -1,7 +1,6 @@
 ghost use Rattle.std.specs.Prelude.{◌≡◌};
-ghost use Rattle.xt_meaning.specs.Guilt.{is_no};
-ghost use Rattle.xt_meaning.specs.Report.{mark_word};
-ghost use Rattle.report_text.specs.Pieces.{mark_seen, mark_by};
+ghost use Rattle.report_text.specs.Guilt.{is_no, mark_by};
+ghost use Rattle.report_text.specs.Report.{mark_word};
 
 /// Whether an aggressor can switch while a victim does: surely, by the least windows; possibly, by the
 /// greatest alone; or not at all.
@@ -15,7 +14,7 @@ pub enum Mark {
 impl Mark {
     /// The mark by whether the least windows overlap, and the greatest.
     pub fn by(least: bool, greatest: bool) -> Mark
-        ensures { mark_seen result ≡ mark_by least greatest }
+        ensures { result ≡ mark_by least greatest }
     {
         if least {
             Mark::Sure
@@ -27,13 +26,13 @@ impl Mark {
     }
 
     pub fn is_no(self) -> bool
-        ensures { result ≡ is_no (mark_seen self) }
+        ensures { result ≡ is_no self }
     {
         matches!(self, Mark::No)
     }
 
     pub fn word(self) -> &'static [u8]
-        ensures { result.now ≡ mark_word (mark_seen self) }
+        ensures { result.now ≡ mark_word self }
     {
         match self {
             Mark::No => b"no",

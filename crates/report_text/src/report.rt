@@ -1,8 +1,8 @@
 ghost use Rattle.std.specs.Prelude.{◌≡◌, ◌++◌, ℕ, [], length, map, OnOk, IfOk};
 ghost use Rattle.xt_model.specs.Levels.{IsDepth, IsPairCount};
-ghost use Rattle.xt_meaning.specs.Lines.{text_of};
-ghost use Rattle.xt_meaning.specs.Guilt.{guilty};
-ghost use Rattle.xt_meaning.specs.Report.{guilty_line, report, unless_checks, window_lines};
+ghost use Rattle.text_lines.specs.Lines.{text_of};
+ghost use Rattle.report_text.specs.Guilt.{guilty};
+ghost use Rattle.report_text.specs.Report.{guilty_line, report, unless_checks, window_lines};
 ghost use Rattle.report_text.specs.Kinds.{of_checks};
 
 use crate::fields::push_word;
@@ -24,7 +24,8 @@ fn push_windows_of(
 ) -> Result<(), AllocError>
     requires low { length low.now ≡ length design.now.nets }
     requires high { length high.now ≡ length design.now.nets }
-    ensures { OnOk result (out.new.items ≡ out.old.items ++ text_of (unless_checks (of_checks kind) (window_lines low.now high.now 0 design.now.nets))) }
+    ensures { let lines = unless_checks (of_checks kind) (window_lines low.now high.now 0 design.now.nets) in
+        OnOk result (out.new.items ≡ out.old.items ++ text_of lines) }
 {
     if kind.is_of_checks() {
         return Ok(());
@@ -42,7 +43,9 @@ fn push_guilty_of(
 ) -> Result<(), AllocError>
     requires low { length low.now ≡ length design.now.nets }
     requires high { length high.now ≡ length design.now.nets }
-    ensures { OnOk result (out.new.items ≡ out.old.items ++ text_of (unless_checks (of_checks kind) (map (guilty_line design.now) (guilty design.now low.now high.now)))) }
+    ensures { let entries = guilty design.now low.now high.now in
+        let lines = unless_checks (of_checks kind) (map (guilty_line design.now) entries) in
+        OnOk result (out.new.items ≡ out.old.items ++ text_of lines) }
 {
     if kind.is_of_checks() {
         return Ok(());
@@ -64,7 +67,8 @@ fn push_report(
     requires levels { IsDepth design.now.nets levels }
     requires low { length low.now ≡ length design.now.nets }
     requires high { length high.now ≡ length design.now.nets }
-    ensures { OnOk result (out.new.items ≡ out.old.items ++ text_of (report (of_checks kind) design.now pairs levels low.now high.now)) }
+    ensures { let lines = report (of_checks kind) design.now pairs levels low.now high.now in
+        OnOk result (out.new.items ≡ out.old.items ++ text_of lines) }
 {
     push_title(out)?;
     push_size(out, design, pairs, levels)?;
@@ -77,7 +81,8 @@ fn push_report(
 }
 
 /// The report of a design without checks and of its least and greatest windows, one pair a net, as
-/// text in lines, with the lines that its kind is to have. Takes time in proportion to the nets, the couplings and the bytes.
+/// text in lines, with the lines that its kind is to have. Takes time in proportion to the nets, the
+/// couplings and the bytes.
 pub fn write_report(
     alloc: Global,
     design: &Design,
@@ -88,7 +93,9 @@ pub fn write_report(
     requires low { length low.now ≡ length design.now.nets }
     requires high { length high.now ≡ length design.now.nets }
     requires no_checks { design.now.checks ≡ [] }
-    ensures { IfOk result (λ v. (pairs : ℕ) × (depth : ℕ) × IsPairCount design.now.nets pairs × IsDepth design.now.nets depth × (v.items ≡ text_of (report (of_checks kind) design.now pairs depth low.now high.now))) }
+    ensures { IfOk result (λ text. (pairs : ℕ) × (depth : ℕ)
+        × IsPairCount design.now.nets pairs × IsDepth design.now.nets depth
+        × (text.items ≡ text_of (report (of_checks kind) design.now pairs depth low.now high.now))) }
 {
     let mut out = Vec::new(alloc);
     let (pairs, levels) = (design.pairs(), design.levels());

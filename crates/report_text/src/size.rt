@@ -3,8 +3,8 @@
 ghost use Rattle.std.specs.Prelude.{◌≡◌, ◌++◌, length, OnOk};
 ghost use Rattle.std.specs.List.{sum_by};
 ghost use Rattle.xt_model.specs.Levels.{IsDepth, IsPairCount};
-ghost use Rattle.xt_meaning.specs.Lines.{line_text};
-ghost use Rattle.xt_meaning.specs.Report.{title_line, size_line, clock_line};
+ghost use Rattle.text_lines.specs.Lines.{line_text};
+ghost use Rattle.report_text.specs.Report.{title_line, size_line, clock_line};
 
 use crate::fields::{push_number, push_time, push_word};
 use std::alloc::AllocError;

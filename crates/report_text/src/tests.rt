@@ -8,7 +8,10 @@ use xt_model::{BuildFault, Design, Name, Net, Pair, Quad, Row, Windows};
 
 /// Rises at 1 ps, and never falls.
 fn steady() -> Pair
-    ensures { result ≡ record { rise = record { tlo = pos 1000; thi = pos 1000; slo = pos 0; shi = pos 0 }; fall = bottom } }
+    ensures { result ≡ record {
+      rise = record { tlo = pos 1000; thi = pos 1000; slo = pos 0; shi = pos 0 };
+      fall = bottom;
+    } }
 {
     Pair {
         rise: Quad {
@@ -23,7 +26,15 @@ fn steady() -> Pair
 
 /// The net of an input port that rises at 1 ps.
 fn steady_net(alloc: Global) -> Result<Net, AllocError>
-    ensures { IfOk result (λ n. n ≡ record { name = 97 ∷ []; input = true; load = pos 0; given = record { rise = record { tlo = pos 1000; thi = pos 1000; slo = pos 0; shi = pos 0 }; fall = bottom }; couplings = []; sinks = []; arcs = [] }) }
+    ensures { IfOk result (λ n. n ≡ record {
+      name = 97 ∷ [];
+      input = true;
+      load = pos 0;
+      given = record { rise = record { tlo = pos 1000; thi = pos 1000; slo = pos 0; shi = pos 0 }; fall = bottom };
+      couplings = [];
+      sinks = [];
+      arcs = [];
+    }) }
 {
     let name = vec![in alloc; b'a']?;
     Ok(Net {
@@ -57,7 +68,12 @@ fn steady_windows(alloc: Global) -> Result<Windows, AllocError>
 
 /// The report of that net.
 fn steady_report() -> &'static [u8] {
-    b"xtalk 1\nnets 1 couplings 0 pairs 0 levels 1 bound 1\nperiod none\nnet a rise least 1.000 1.000 0.000 0.000 greatest 1.000 1.000 0.000 0.000\nnet a fall quiet\nend\n"
+    b"xtalk 1\n\
+nets 1 couplings 0 pairs 0 levels 1 bound 1\n\
+period none\n\
+net a rise least 1.000 1.000 0.000 0.000 greatest 1.000 1.000 0.000 0.000\n\
+net a fall quiet\n\
+end\n"
 }
 
 #[test]

@@ -1,8 +1,8 @@
 //! The lines on input ports for which nothing is given.
 
 ghost use Rattle.std.specs.Prelude.{◌≡◌, ◌++◌, OnOk};
-ghost use Rattle.xt_meaning.specs.Lines.{text_of};
-ghost use Rattle.xt_meaning.specs.Report.{is_unconstrained, unconstrained_lines};
+ghost use Rattle.text_lines.specs.Lines.{text_of};
+ghost use Rattle.report_text.specs.Report.{is_unconstrained, unconstrained_lines};
 ghost use Rattle.report_text.specs.Pieces.{unconstrained_text};
 
 use crate::fields::push_word;

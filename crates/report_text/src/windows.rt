@@ -3,12 +3,13 @@
 ghost use Rattle.std.specs.Prelude.{◌≡◌, ◌++◌, ◌<◌, length, OnOk};
 ghost use Rattle.xt_model.specs.Quads.{IsInRange};
 ghost use Rattle.xt_model.specs.Assign.{assigned};
-ghost use Rattle.xt_meaning.specs.Lines.{line_text, text_of};
-ghost use Rattle.xt_meaning.specs.Report.{window_line, window_lines};
+ghost use Rattle.text_lines.specs.Lines.{line_text, text_of};
+ghost use Rattle.report_text.specs.Report.{window_line, window_lines};
 ghost use Rattle.report_text.specs.Pieces.{windows_text};
 
-use crate::fields::{edge_word, push_quad, push_word};
+use crate::fields::{push_quad, push_word};
 use std::alloc::AllocError;
+use text_lines::edge_word;
 use xt_model::{Edge, Net, Quad, Windows};
 
 /// The window of an edge of a net.
@@ -56,7 +57,9 @@ fn push_edge(
 ) -> Result<(), AllocError>
     requires low { number < length low.now }
     requires high { number < length high.now }
-    ensures { OnOk result (out.new.items ≡ out.old.items ++ line_text (window_line net.now.name edge (assigned low.now number edge) (assigned high.now number edge))) }
+    ensures { let least = assigned low.now number edge in
+        let greatest = assigned high.now number edge in
+        OnOk result (out.new.items ≡ out.old.items ++ line_text (window_line net.now.name edge least greatest)) }
 {
     let low = window(low, number, edge);
     let high = window(high, number, edge);

@@ -1,10 +1,9 @@
-use Rattle.std.proofs.Common.{◌≡◌, ◌++◌, drop, map}
-use Rattle.xt_meaning.specs.Lines.{text_of}
-use Rattle.xt_meaning.specs.Guilt.{guilty_couplings}
-use Rattle.xt_meaning.specs.Report.{guilty_line}
+use Rattle.std.proofs.Common.{◌≡◌, ◌++◌, drop}
+use Rattle.report_text.specs.Guilt.{edge_entries}
+use Rattle.report_text.specs.Pieces.{guilty_text}
 use Rattle.report_text.proofs.guilty.push_edge.Given as goal
 
-abbrev pub invariant-loop-coupling : goal.invariant-loop-coupling
-invariant-loop-coupling l =
-    l.out.items ++ text_of (map (guilty_line l.design) (guilty_couplings l.low l.high l.victim l.edge (drop l.coupling-index l.coupling-items)))
-    ≡ l.initial.out.items ++ text_of (map (guilty_line l.design) (guilty_couplings l.low l.high l.victim l.edge l.coupling-items))
+abbrev pub invariant-loop-number : goal.invariant-loop-number
+invariant-loop-number l =
+    l.out.items ++ guilty_text l.design (edge_entries l.design l.low l.high l.victim l.edge l.number (drop l.number l.couplings))
+    ≡ l.initial.out.items ++ guilty_text l.design (edge_entries l.design l.low l.high l.victim l.edge 0 l.couplings)

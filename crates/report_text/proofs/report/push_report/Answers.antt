@@ -1,7 +1,7 @@
 use Rattle.std.proofs.Common.{◌++◌, map, ap, ◌∙◌}
-use Rattle.xt_meaning.specs.Lines.{text_of}
-use Rattle.xt_meaning.specs.Guilt.{guilty}
-use Rattle.xt_meaning.specs.Report.{title_line, size_line, clock_line, window_lines, unconstrained_lines, guilty_line, unless_checks}
+use Rattle.text_lines.specs.Lines.{text_of}
+use Rattle.report_text.specs.Guilt.{guilty}
+use Rattle.report_text.specs.Report.{title_line, size_line, clock_line, window_lines, unconstrained_lines, guilty_line, unless_checks}
 use Rattle.report_text.specs.Kinds.{of_checks}
 use Rattle.report_text.proofs.Pieces.{report_pieces}
 use Rattle.report_text.proofs.report.push_report.Goals as goal

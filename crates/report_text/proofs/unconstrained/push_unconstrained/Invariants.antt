@@ -1,6 +1,6 @@
 use Rattle.std.proofs.Common.{◌≡◌, ◌++◌, drop}
-use Rattle.xt_meaning.specs.Lines.{text_of}
-use Rattle.xt_meaning.specs.Report.{unconstrained_lines}
+use Rattle.text_lines.specs.Lines.{text_of}
+use Rattle.report_text.specs.Report.{unconstrained_lines}
 use Rattle.report_text.proofs.unconstrained.push_unconstrained.Given as goal
 
 abbrev pub invariant-loop-net : goal.invariant-loop-net

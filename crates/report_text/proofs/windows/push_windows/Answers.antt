@@ -1,7 +1,7 @@
 use Rattle.std.proofs.Common.{refl}
 use Rattle.std.proofs.lemmas.Option.{slice_get_read}
-use Rattle.xt_meaning.specs.Lines.{text_of}
-use Rattle.xt_meaning.specs.Report.{window_lines}
+use Rattle.text_lines.specs.Lines.{text_of}
+use Rattle.report_text.specs.Report.{window_lines}
 use Rattle.report_text.specs.Pieces.{windows_text}
 use Rattle.report_text.proofs.Lines.{turn, turns_end}
 use Rattle.report_text.proofs.Pieces.{windows_next}

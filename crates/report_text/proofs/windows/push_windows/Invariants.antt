@@ -1,6 +1,6 @@
 use Rattle.std.proofs.Common.{◌≡◌, ◌++◌, drop}
-use Rattle.xt_meaning.specs.Lines.{text_of}
-use Rattle.xt_meaning.specs.Report.{window_lines}
+use Rattle.text_lines.specs.Lines.{text_of}
+use Rattle.report_text.specs.Report.{window_lines}
 use Rattle.report_text.proofs.windows.push_windows.Given as goal
 
 abbrev pub invariant-loop-number : goal.invariant-loop-number

@@ -1,0 +1,11 @@
+use Rattle.std.proofs.Common.{refl, ap, length}
+use Rattle.std.specs.Fmt.{decimal}
+use Rattle.linked_text.proofs.Pieces.{field_then, field_last}
+use Rattle.linked_text.proofs.write.push_counts.Goals as goal
+
+pub returns : goal.returns
+returns c =
+    field_then _ _ _ _ _ _ _ refl c.in_ok-push_word.ensures
+    (field_then _ _ _ _ _ _ _ (ap (λ xs. decimal (length xs)) c.tables.ensures.value) c.in_ok-push_number.ensures
+    (field_then _ _ _ _ _ _ _ (ap (λ xs. decimal (length xs)) c.nets.ensures.value) c.in_ok-push_number-2.ensures
+    (field_last _ _ _ _ _ (ap (λ xs. decimal (length xs)) c.checks.ensures.value) c.in_ok-push_number-3.ensures)))

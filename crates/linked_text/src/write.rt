@@ -1,0 +1,96 @@
+//! From a design to its linked text.
+
+ghost use Rattle.std.specs.Prelude.{◌≡◌, ◌++◌, OnOk, IfOk};
+ghost use Rattle.text_lines.specs.Lines.{line_text, text_of};
+ghost use Rattle.linked_text.specs.Linked.{head_line, counts_line, period_line, is_classical, linked, miller_lines};
+
+use crate::text::{push_number, push_word, write_each};
+use crate::write_check::CheckWriter;
+use crate::write_net::{BodyWriter, HeadWriter};
+use crate::write_table::TableWriter;
+use std::alloc::{AllocError, Global};
+use xt_model::{Design, Miller, NoMemory};
+
+/// Whether these are the factors that a text without a line of Miller numbers means.
+fn is_classical(miller: &Miller) -> bool
+    ensures { result ≡ is_classical miller.now }
+{
+    miller.low() == 0 && miller.mid() == 4 && miller.high() == 8
+}
+
+/// Appends the name and the version of the format.
+#[tactic(auto, unfolding(crate::specs::Writing::field))]
+fn push_head(out: &mut Vec<u8>, miller: &Miller) -> Result<(), AllocError>
+    ensures { OnOk result (out.new.items ≡ out.old.items ++ line_text (head_line miller.now)) }
+{
+    push_word(out, b"xtalk-design", b' ')?;
+    if is_classical(miller) {
+        return push_word(out, b"1", b'\n');
+    }
+    push_word(out, b"2", b'\n')
+}
+
+/// Appends how many tables, nets and checks there are.
+fn push_counts(out: &mut Vec<u8>, design: &Design) -> Result<(), AllocError>
+    ensures { OnOk result (out.new.items ≡ out.old.items ++ line_text (counts_line design.now)) }
+{
+    push_word(out, b"counts", b' ')?;
+    push_number(out, design.tables().len(), b' ')?;
+    push_number(out, design.nets().len(), b' ')?;
+    push_number(out, design.checks().len(), b'\n')?;
+    Ok(())
+}
+
+/// Appends the line of the clock period.
+#[tactic(auto, unfolding(crate::specs::Writing::field))]
+fn push_period(out: &mut Vec<u8>, design: &Design) -> Result<(), AllocError>
+    ensures { OnOk result (out.new.items ≡ out.old.items ++ line_text (period_line design.now)) }
+{
+    push_word(out, b"period", b' ')?;
+    match design.period() {
+        None => push_word(out, b"none", b'\n'),
+        Some(time) => push_number(out, time, b'\n'),
+    }
+}
+
+/// Appends the line of the Miller numbers, which the classical ones do not have.
+fn push_miller(out: &mut Vec<u8>, miller: &Miller) -> Result<(), AllocError>
+    ensures { OnOk result (out.new.items ≡ out.old.items ++ text_of (miller_lines miller.now)) }
+{
+    if is_classical(miller) {
+        return Ok(());
+    }
+    push_word(out, b"miller", b' ')?;
+    push_number(out, miller.low(), b' ')?;
+    push_number(out, miller.mid(), b' ')?;
+    push_number(out, miller.high(), b'\n')?;
+    Ok(())
+}
+
+/// Appends all lines.
+fn push_linked(out: &mut Vec<u8>, design: &Design) -> Result<(), AllocError>
+    ensures { OnOk result (out.new.items ≡ out.old.items ++ text_of (linked design.now)) }
+{
+    let miller = design.miller();
+    push_head(out, &miller)?;
+    push_counts(out, design)?;
+    push_period(out, design)?;
+    push_miller(out, &miller)?;
+    write_each(out, &TableWriter, design.tables())?;
+    write_each(out, &HeadWriter, design.nets())?;
+    write_each(out, &BodyWriter, design.nets())?;
+    write_each(out, &CheckWriter, design.checks())?;
+    push_word(out, b"end", b'\n')?;
+    Ok(())
+}
+
+/// The linked text of a design. Takes time in proportion to its bytes.
+pub fn write_linked(alloc: Global, design: &Design) -> Result<Vec<u8>, NoMemory>
+    ensures { IfOk result (λ text. text.items ≡ text_of (linked design.now)) }
+{
+    let mut out = Vec::new(alloc);
+    match push_linked(&mut out, design) {
+        Ok(()) => Ok(out),
+        Err(_) => Err(NoMemory),
+    }
+}

@@ -1,0 +1,48 @@
+-- The reports of two small designs, written out by hand.
+use Rattle.std.specs.Prelude.{◌≡◌, refl, ℕ, false, List, [], ◌∷◌, ◌++◌, codes, pos}
+use Rattle.std.specs.Fmt.{digits}
+use Rattle.std.specs.List.{flat_map}
+use Rattle.xt_model.proofs.WorkedDesigns.{cross, cross_windows, load_pair, pair_low, pair_high}
+use Rattle.xt_number.specs.Thousandths.{thousandths}
+use Rattle.text_lines.specs.Lines.{text_of}
+use Rattle.report_text.specs.Report.{report}
+
+-- lines of plain text
+abbrev lines : List (List ℕ) → List ℕ
+lines ls = flat_map (λ l. l ++ 10 ∷ []) ls
+
+cross_report : text_of (report false cross 2 2 (cross_windows (pos 1700)) (cross_windows (pos 1500))) ≡ lines (
+    (codes "xtalk 1") ∷
+    (codes "nets 4 couplings 2 pairs 2 levels 2 bound 18") ∷
+    (codes "period none") ∷
+    (codes "net s rise least 1.000 1.000 0.600 0.600 greatest 1.000 1.000 0.600 0.600") ∷
+    (codes "net s fall quiet") ∷
+    (codes "net t rise least 1.000 1.000 0.600 0.600 greatest 1.000 1.000 0.600 0.600") ∷
+    (codes "net t fall quiet") ∷
+    (codes "net c rise least 1.700 1.700 0.600 0.600 greatest 1.500 1.700 0.600 0.600") ∷
+    (codes "net c fall quiet") ∷
+    (codes "net d rise least 1.700 1.700 0.600 0.600 greatest 1.500 1.700 0.600 0.600") ∷
+    (codes "net d fall quiet") ∷
+    (codes "guilty s rise d 1.000 fast possible slow no") ∷
+    (codes "guilty t rise c 1.000 fast possible slow no") ∷
+    (codes "end") ∷ [])
+unfolding thousandths digits
+cross_report = refl
+
+pair_report : text_of (report false (load_pair (pos 100)) 1 2 pair_low pair_high) ≡ lines (
+    (codes "xtalk 1") ∷
+    (codes "nets 4 couplings 2 pairs 1 levels 2 bound 10") ∷
+    (codes "period none") ∷
+    (codes "net p rise least 0.000 0.000 0.000 0.000 greatest 0.000 0.000 0.000 0.000") ∷
+    (codes "net p fall quiet") ∷
+    (codes "net q rise quiet") ∷
+    (codes "net q fall least 0.100 0.100 0.000 0.000 greatest 0.100 0.100 0.000 0.000") ∷
+    (codes "net a rise least 1.000 1.000 0.000 0.000 greatest 1.000 1.200 0.000 0.000") ∷
+    (codes "net a fall quiet") ∷
+    (codes "net b rise quiet") ∷
+    (codes "net b fall least 1.100 1.100 0.000 0.000 greatest 1.100 1.300 0.000 0.000") ∷
+    (codes "guilty a rise b 1.000 fast no slow possible") ∷
+    (codes "guilty b fall a 1.000 fast no slow possible") ∷
+    (codes "end") ∷ [])
+unfolding thousandths digits
+pair_report = refl

@@ -1,0 +1,121 @@
+-- The report of a design and its least and greatest windows. Designs with checks have further lines, which
+-- are still to come.
+use Rattle.std.specs.Prelude.{◌≡◌, ℕ, ◌+◌, Bool, ◌&&◌, if◌then◌else◌, not, ℤ, Option, Some, None}
+use Rattle.std.specs.Prelude.{List, [], ◌∷◌, ◌++◌, length, map, codes}
+use Rattle.std.specs.Fmt.{decimal}
+use Rattle.std.specs.List.{slice_get, sum_by}
+use Rattle.std.specs.Option.{option_and_then}
+use Rattle.xt_model.specs.declared.edge.Edge.{Edge}
+use Rattle.xt_model.specs.declared.edge.Edge.TheVariants.{Rise, Fall}
+use Rattle.xt_model.specs.declared.quad.Quad.{Quad}
+use Rattle.xt_model.specs.declared.quad.Pair.{Pair}
+use Rattle.xt_model.specs.declared.net.Coupling.{Coupling}
+use Rattle.xt_model.specs.declared.net.Net.{Net}
+use Rattle.xt_model.specs.Quads.{is_live}
+use Rattle.xt_model.specs.Parts.{Parts}
+use Rattle.xt_model.specs.Levels.{IsDepth, IsPairCount, bound_of}
+use Rattle.xt_model.specs.Assign.{assigned}
+use Rattle.xt_meaning.specs.Fixpoint.{IsLeastFixpoint, IsGreatestFixpoint}
+use Rattle.text_lines.specs.Lines.{Line, text_of, edge_word}
+use Rattle.xt_number.specs.Thousandths.{thousandths}
+use Rattle.report_text.specs.declared.mark.Mark.{Mark}
+use Rattle.report_text.specs.declared.mark.Mark.TheVariants.{No, Possible, Sure}
+use Rattle.report_text.specs.declared.guilt.Guilt.{Guilt}
+use Rattle.report_text.specs.Guilt.{guilty}
+
+abbrev pub title_line : Line
+title_line = codes "xtalk" ∷ codes "1" ∷ []
+
+-- how many nets, coupling entries, coupled pairs and levels there are, and the bound on the rounds of a run
+abbrev pub size_line : Parts → ℕ → ℕ → Line
+size_line d pairs depth =
+    codes "nets" ∷ decimal (length d.nets) ∷ codes "couplings" ∷ decimal (sum_by (λ n. length n.couplings) d.nets)
+    ∷ codes "pairs" ∷ decimal pairs ∷ codes "levels" ∷ decimal depth
+    ∷ codes "bound" ∷ decimal (bound_of pairs depth) ∷ []
+
+-- times are printed in picoseconds
+abbrev pub period_word : Option ℤ → List ℕ
+period_word None = codes "none"
+period_word (Some t) = thousandths t
+
+abbrev pub clock_line : Parts → Line
+clock_line d = codes "period" ∷ period_word d.period ∷ []
+
+abbrev pub quad_fields : Quad → Line
+quad_fields q = thousandths q.tlo ∷ thousandths q.thi ∷ thousandths q.slo ∷ thousandths q.shi ∷ []
+
+-- the least and the greatest window of an edge of a net, or that it never switches
+abbrev pub window_line : List ℕ → Edge → Quad → Quad → Line
+window_line name e low high =
+    if is_live high then
+    codes "net" ∷ name ∷ edge_word e ∷ codes "least" ∷ (quad_fields low ++ codes "greatest" ∷ quad_fields high)
+    else codes "net" ∷ name ∷ edge_word e ∷ codes "quiet" ∷ []
+
+-- by net, from that number on, and by edge
+abbrev pub window_lines : List Pair → List Pair → ℕ → List Net → List Line
+window_lines low high n [] = []
+window_lines low high n (net ∷ more) =
+    window_line net.name Rise (assigned low n Rise) (assigned high n Rise)
+    ∷ window_line net.name Fall (assigned low n Fall) (assigned high n Fall)
+    ∷ window_lines low high (n + 1) more
+
+-- an input port for which nothing is given
+abbrev pub is_unconstrained : Net → Bool
+is_unconstrained n = n.input && (not (is_live n.given.rise) && not (is_live n.given.fall))
+
+abbrev pub unconstrained_lines : List Net → List Line
+unconstrained_lines [] = []
+unconstrained_lines (n ∷ more) =
+    if is_unconstrained n then (codes "unconstrained" ∷ n.name ∷ []) ∷ unconstrained_lines more
+    else unconstrained_lines more
+
+abbrev pub mark_word : Mark → List ℕ
+mark_word No = codes "no"
+mark_word Possible = codes "possible"
+mark_word Sure = codes "sure"
+
+abbrev pub name_or_nothing : Option Net → List ℕ
+name_or_nothing None = []
+name_or_nothing (Some n) = n.name
+
+abbrev pub name_at : Parts → ℕ → List ℕ
+name_at d n = name_or_nothing (slice_get d.nets n)
+
+-- the coupling of an entry, by its number in the victim's list
+abbrev pub coupling_of : Parts → Guilt → Option Coupling
+coupling_of d g = option_and_then (λ victim. slice_get victim.couplings g.coupling) (slice_get d.nets g.victim.0)
+
+-- capacitances are printed in femtofarads
+abbrev pub coupling_line : Parts → Guilt → Option Coupling → Line
+coupling_line d g None = []
+coupling_line d g (Some k) =
+    codes "guilty" ∷ name_at d g.victim.0 ∷ edge_word g.edge ∷ name_at d k.to.0 ∷ thousandths k.cap
+    ∷ codes "fast" ∷ mark_word g.fast ∷ codes "slow" ∷ mark_word g.slow ∷ []
+
+-- the line of an entry: its victim, its edge, its aggressor, the capacitance and the two marks
+abbrev pub guilty_line : Parts → Guilt → Line
+guilty_line d g = coupling_line d g (coupling_of d g)
+
+-- lines that a report of the checks alone leaves out
+abbrev pub unless_checks : Bool → List Line → List Line
+unless_checks checks lines = if checks then [] else lines
+
+-- the lines of a report on a design without checks; one of the checks alone has no windows and no couplings
+abbrev pub report : Bool → Parts → ℕ → ℕ → List Pair → List Pair → List Line
+report checks d pairs depth low high =
+    title_line ∷ size_line d pairs depth ∷ clock_line d
+    ∷ (unless_checks checks (window_lines low high 0 d.nets)
+    ++ (unconstrained_lines d.nets
+    ++ (unless_checks checks (map (guilty_line d) (guilty d low high)) ++ ((codes "end" ∷ []) ∷ []))))
+
+-- the text is the report of the design's least and greatest fixpoint, whole or of the checks alone
+pub record IsReport (checks : Bool) (d : Parts) (text : List ℕ) : Type 0 where
+  pub pairs : ℕ
+  pub depth : ℕ
+  pub low : List Pair
+  pub high : List Pair
+  pub is_pairs : IsPairCount d.nets pairs
+  pub is_depth : IsDepth d.nets depth
+  pub is_least : IsLeastFixpoint d low
+  pub is_greatest : IsGreatestFixpoint d high
+  pub written : text ≡ text_of (report checks d pairs depth low high)
