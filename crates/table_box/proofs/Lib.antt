@@ -1,8 +1,8 @@
-pub mod Products
-pub mod Floors
-pub mod Cells
-pub mod Axis
-pub mod Bilinear
-pub mod Widths
-pub mod Places
-pub mod Sweeps
+mod Products
+mod Floors
+mod Cells
+mod Axis
+mod Bilinear
+mod Widths
+mod Places
+mod Sweeps

@@ -46,7 +46,8 @@ pub fn range(table: &Table, s0: i64, s1: i64, c0: i64, c1: i64) -> (i64, i64)
     requires slews { s0 ≤ℤ s1 }
     requires loads { c0 ≤ℤ c1 }
     ensures least { result.0 ≡ least_over (table_value table.now) (record { s0 = s0; s1 = s1; c0 = c0; c1 = c1 }) }
-    ensures greatest { result.1 ≡ greatest_over (table_value table.now) (record { s0 = s0; s1 = s1; c0 = c0; c1 = c1 }) }
+    ensures greatest { result.1
+        ≡ greatest_over (table_value table.now) (record { s0 = s0; s1 = s1; c0 = c0; c1 = c1 }) }
     ensures least_number { IsTableNumber result.0 }
     ensures greatest_number { IsTableNumber result.1 }
 {

@@ -48,7 +48,9 @@ fn weighted_row(table: &Table, row: usize, slew_distance: i64, load: &Place) -> 
     requires low { pos 0 ≤ℤ slew_distance }
     requires high { slew_distance ≤ℤ pos (2 ^ 41) }
     requires load { IsSpan (length table.now.loads) (span_in load.now) }
-    ensures value { result ≡ ((cell_value table.now row load.now.first *ℤ slew_distance) *ℤ load.now.below) +ℤ ((cell_value table.now row load.now.second *ℤ slew_distance) *ℤ load.now.above) }
+    ensures value { result
+        ≡ ((cell_value table.now row load.now.first *ℤ slew_distance) *ℤ load.now.below)
+        +ℤ ((cell_value table.now row load.now.second *ℤ slew_distance) *ℤ load.now.above) }
     ensures low { neg_ℤ (pos (2 ^ 123)) ≤ℤ result }
     ensures high { result ≤ℤ pos (2 ^ 123) }
 {

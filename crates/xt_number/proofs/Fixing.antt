@@ -101,26 +101,26 @@ module _ (text : List ℕ) (scale : ℤ) where
   pub digits_at : (o : Option Numeral) → numeral_of text ≡ o → (fixed_from o scale ≡ Err fault.Digits) ↔ IsNumberWith text IsTooLong
   digits_at None e = (λ s. absurd cc, λ w. absurd (no_number text e w.0 w.1))
   digits_at (Some n) e =
-      let tells = is_digits (nat_lt 30 (digit_count n)) (nat_lt (2 ^ 40) (size n scale)) (scaled n scale) in
+      let decides = is_digits (nat_lt 30 (digit_count n)) (nat_lt (2 ^ 40) (size n scale)) (scaled n scale) in
       let i = numeral_takes text n e in (
-        λ s. (n, i, ltb-true 30 (digit_count n) (tells.0 s)),
-        λ w. tells.1 (lt-ltb 30 (digit_count n) (at_number text n IsTooLong i w)),
+        λ s. (n, i, ltb-true 30 (digit_count n) (decides.0 s)),
+        λ w. decides.1 (lt-ltb 30 (digit_count n) (at_number text n IsTooLong i w)),
       )
 
   pub range_at : (o : Option Numeral) → numeral_of text ≡ o → (fixed_from o scale ≡ Err fault.Range) ↔ IsNumberWith text (IsBeyond scale)
   range_at None e = (λ s. absurd cc, λ w. absurd (no_number text e w.0 w.1))
   range_at (Some n) e =
-      let tells = is_range (nat_lt 30 (digit_count n)) (nat_lt (2 ^ 40) (size n scale)) (scaled n scale) in
+      let decides = is_range (nat_lt 30 (digit_count n)) (nat_lt (2 ^ 40) (size n scale)) (scaled n scale) in
       let i = numeral_takes text n e in (
-        λ s. (n, i, (ltb-false 30 (digit_count n) (tells.0 s).0, ltb-true (2 ^ 40) (size n scale) (tells.0 s).1)),
-        λ w. let p = at_number text n (IsBeyond scale) i w in tells.1 (le-ltb 30 (digit_count n) p.0, lt-ltb (2 ^ 40) (size n scale) p.1),
+        λ s. (n, i, (ltb-false 30 (digit_count n) (decides.0 s).0, ltb-true (2 ^ 40) (size n scale) (decides.0 s).1)),
+        λ w. let p = at_number text n (IsBeyond scale) i w in decides.1 (le-ltb 30 (digit_count n) p.0, lt-ltb (2 ^ 40) (size n scale) p.1),
       )
 
   pub value_at : (o : Option Numeral) → numeral_of text ≡ o → (x : ℤ) → (fixed_from o scale ≡ Ok x) ↔ IsNumberWith text (IsFixed scale x)
   value_at None e x = (λ s. absurd cc, λ w. absurd (no_number text e w.0 w.1))
   value_at (Some n) e x =
-      let tells = is_value (nat_lt 30 (digit_count n)) (nat_lt (2 ^ 40) (size n scale)) (scaled n scale) x in
+      let decides = is_value (nat_lt 30 (digit_count n)) (nat_lt (2 ^ 40) (size n scale)) (scaled n scale) x in
       let i = numeral_takes text n e in (
-        λ s. (n, i, (ltb-false 30 (digit_count n) (tells.0 s).0, ltb-false (2 ^ 40) (size n scale) (tells.0 s).1, (tells.0 s).2)),
-        λ w. let p = at_number text n (IsFixed scale x) i w in tells.1 (le-ltb 30 (digit_count n) p.0, le-ltb (2 ^ 40) (size n scale) p.1, p.2),
+        λ s. (n, i, (ltb-false 30 (digit_count n) (decides.0 s).0, ltb-false (2 ^ 40) (size n scale) (decides.0 s).1, (decides.0 s).2)),
+        λ w. let p = at_number text n (IsFixed scale x) i w in decides.1 (le-ltb 30 (digit_count n) p.0, le-ltb (2 ^ 40) (size n scale) p.1, p.2),
       )

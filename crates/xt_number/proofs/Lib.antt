@@ -1,5 +1,6 @@
-pub mod Grammar
-pub mod Values
-pub mod Fixing
-pub mod Powers
-pub mod Units
+mod Grammar
+mod Values
+mod Fixing
+mod Powers
+mod Units
+mod WorkedValues

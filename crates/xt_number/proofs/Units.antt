@@ -63,8 +63,8 @@ power_one k l n s t =
 
 -- ---- the test
 
-test_tells : (k : ℤ) (n : Numeral) → is_ten_to n k ≡ true → IsTenTo k n
-test_tells k n e =
+test_decides : (k : ℤ) (n : Numeral) → is_ten_to n k ≡ true → IsTenTo k n
+test_decides k n e =
     let parts = and_parts (not n.negative) (mantissa n * ten_to (exponent n -ℤ k) == ten_to (k -ℤ exponent n)) e in
     record { positive = not-true n.negative parts.0; worth = eqb-true _ _ parts.1 }
 
@@ -129,21 +129,21 @@ range_among (negsuc (suc (suc (suc n)))) h = absurd (omega (arith, ints, h.0))
 -- ---- the answers of the code
 
 pub negative_has_none : (n : Numeral) → n.negative ≡ true → None ≡ power_from (Some n)
-negative_has_none n e = sym (find_none (is_ten_to n) unit_powers (λ x among t. both_ways n.negative (test_tells x n t).positive e))
+negative_has_none n e = sym (find_none (is_ten_to n) unit_powers (λ x among t. both_ways n.negative (test_decides x n t).positive e))
 
 pub other_has_none : (n : Numeral) → ((j : ℕ) → mantissa n ≢ 10 ^ j) → None ≡ power_from (Some n)
-other_has_none n never = sym (find_none (is_ten_to n) unit_powers (λ x among t. let found = tens_from x n (test_tells x n t) in never found.0 found.1))
+other_has_none n never = sym (find_none (is_ten_to n) unit_powers (λ x among t. let found = tens_from x n (test_decides x n t) in never found.0 found.1))
 
 module _ (n : Numeral) (p : ℕ) (w : ℤ) (worth : mantissa n ≡ 10 ^ p) (cut : w ≡ clamped (exponent n +ℤ pos p)) where
   pub near_power : n.negative ≡ false → IsUnitPower w → Some w ≡ power_from (Some n)
   near_power positive range =
       let exact : w ≡ exponent n +ℤ pos p = omega (arith, ints, clamps, range.0, range.1) in
       let ten : IsTenTo w n = record { positive = positive; worth = tens_again (mantissa n) p (exponent n) w worth exact } in
-      sym (find_first (is_ten_to n) unit_powers w (range_among w range) (test_passes w n ten) (λ x t. power_one x w n (test_tells x n t) ten))
+      sym (find_first (is_ten_to n) unit_powers w (range_among w range) (test_passes w n ten) (λ x t. power_one x w n (test_decides x n t) ten))
 
   pub far_power : (IsUnitPower w → ⊥) → None ≡ power_from (Some n)
   far_power out = sym (find_none (is_ten_to n) unit_powers (λ x among t.
-      let found = tens_from x n (test_tells x n t) in
+      let found = tens_from x n (test_decides x n t) in
       let same : found.0 ≡ p = ten_one found.0 p (sym found.1 ∙ worth) in
       let x-is : x ≡ exponent n +ℤ pos p = found.2 ∙ ap (λ (j : ℕ). exponent n +ℤ pos j) same in
       let range = among_range x among in
@@ -159,8 +159,8 @@ power_at text (Some n) e k =
       λ s.
           let found = find_found (is_ten_to n) unit_powers k s in
           let range = among_range k found.1 in
-          (range.0, range.1, (n, i, test_tells k n found.0)),
+          (range.0, range.1, (n, i, test_decides k n found.0)),
       λ w.
           let ten = at_number text n (IsTenTo k) i w.2 in
-          find_first (is_ten_to n) unit_powers k (range_among k (w.0, w.1)) (test_passes k n ten) (λ x t. power_one x k n (test_tells x n t) ten),
+          find_first (is_ten_to n) unit_powers k (range_among k (w.0, w.1)) (test_passes k n ten) (λ x t. power_one x k n (test_decides x n t) ten),
     )

@@ -2,7 +2,8 @@
 use Rattle.std.specs.Prelude.{◌≡◌, ℕ, ◌+◌, ◌<◌, Bool, true, false, ◌⊎◌, List, [], ◌∷◌, ◌++◌, length}
 use Rattle.std.specs.Str.Parse.{AllDigits}
 
--- the parts of a written number: `-12.5e-3` is negative, of the whole digits `12`, the fraction `5` and the negative exponent `3`
+-- the parts of a written number: `-12.5e-3` is negative, of the whole digits `12`, the fraction `5` and the negative
+-- exponent `3`
 pub record Numeral : Type 0 where
   pub negative : Bool
   pub whole : List ℕ
@@ -24,9 +25,11 @@ fraction_bytes (d ∷ ds) = 46 ∷ d ∷ ds
 abbrev pub IsExponent : Bool → List ℕ → List ℕ → Type 0
 IsExponent negative [] bytes = (negative ≡ false) × (bytes ≡ [])
 IsExponent negative (d ∷ ds) bytes =
-    (mark : ℕ) × (sign : List ℕ) × ((mark ≡ 101) ⊎ (mark ≡ 69)) × IsSign negative sign × (bytes ≡ mark ∷ (sign ++ (d ∷ ds)))
+    (mark : ℕ) × (sign : List ℕ) × ((mark ≡ 101) ⊎ (mark ≡ 69)) × IsSign negative sign
+    × (bytes ≡ mark ∷ (sign ++ (d ∷ ds)))
 
--- the text is a number of these parts: a sign, whole digits, a fraction and an exponent, with a digit before the exponent
+-- the text is a number of these parts: a sign, whole digits, a fraction and an exponent, with a digit before the
+-- exponent
 pub record IsNumber (text : List ℕ) (n : Numeral) : Type 0 where
   pub sign : List ℕ
   pub power : List ℕ

@@ -1,5 +1,6 @@
 -- The parts of a text, from left to right.
-use Rattle.std.specs.Prelude.{◌≡◌, ℕ, Bool, true, false, not, ◌&&◌, ◌||◌, List, [], ◌∷◌, length, drop, Option, Some, None, nat_lt, ◌==◌, if◌then◌else◌}
+use Rattle.std.specs.Prelude.{◌≡◌, ℕ, nat_lt, ◌==◌, Bool, true, false, not, ◌&&◌, ◌||◌, if◌then◌else◌}
+use Rattle.std.specs.Prelude.{List, [], ◌∷◌, length, drop, Option, Some, None}
 use Rattle.std.specs.List.{prefix_len, take_while, list_all}
 use Rattle.std.specs.Char.{is_ascii_digit}
 use Rattle.xt_number.specs.Numeral.{Numeral}
@@ -54,4 +55,10 @@ unfoldable pub numeral_of : List ℕ → Option Numeral
 numeral_of text = do
   fraction ← fraction_at (digits_at (signed_at text).1).1
   exponent ← exponent_at fraction.1
-  with_digit (record { negative = (signed_at text).0; whole = (digits_at (signed_at text).1).0; fraction = fraction.0; exponent_negative = exponent.0; exponent = exponent.1 })
+  with_digit (record {
+    negative = (signed_at text).0;
+    whole = (digits_at (signed_at text).1).0;
+    fraction = fraction.0;
+    exponent_negative = exponent.0;
+    exponent = exponent.1;
+  })

@@ -1,6 +1,6 @@
 use thiserror::Error;
 
-/// Why a text has no fixed-point value. The first that holds is told.
+/// Why a text has no fixed-point value. The first that holds is the answer.
 #[derive(Clone, Copy, Debug, PartialEq, Eq, Error)]
 pub enum NumberFault {
     /// The text is no number.

@@ -1,6 +1,7 @@
 //! Fixed-point values of written numbers.
 
-ghost use Rattle.std.specs.Prelude.{◌≡◌, ◌+◌, ◌*◌, ◌/◌, ◌^◌, ◌<◌, ◌≤◌, ◌↔◌, ℤ, pos, neg_ℤ, ◌≤ℤ◌, IsErrOf, IfOk, MatchOption};
+ghost use Rattle.std.specs.Prelude.{◌≡◌, ◌+◌, ◌*◌, ◌/◌, ◌^◌, ◌<◌, ◌≤◌, ◌↔◌, ℤ, pos, neg_ℤ, ◌≤ℤ◌};
+ghost use Rattle.std.specs.Prelude.{IsErrOf, IfOk, MatchOption};
 ghost use Rattle.std.specs.Str.Parse.{AllDigits};
 ghost use Rattle.xt_number.specs.Numeral.{IsNoNumber, IsNumberWith};
 ghost use Rattle.xt_number.specs.Value.{rounded, fixed_from, fixed, IsTooLong, IsBeyond, IsFixed};
@@ -75,7 +76,7 @@ impl Numeral<'_> {
         requires whole { AllDigits 10 self.now.whole.now }
         requires fraction { AllDigits 10 self.now.fraction.now }
         requires exponent { AllDigits 10 self.now.exponent.now }
-        ensures told { result ≡ fixed_from (Some (view self.now)) scale }
+        ensures exact { result ≡ fixed_from (Some (view self.now)) scale }
         ensures bounds { IfOk result (λ x. (neg_ℤ (pos (2 ^ 40)) ≤ℤ x) × (x ≤ℤ pos (2 ^ 40))) }
     {
         let Some(mantissa) = self.mantissa() else {
@@ -90,12 +91,12 @@ impl Numeral<'_> {
 }
 
 /// The number that the text writes, times ten to the scale and rounded half away from zero. The
-/// scale is from -12 to 12. Of several faults the first in the order of `NumberFault` is told.
+/// scale is from -12 to 12. Of several faults the first in the order of `NumberFault` is the answer.
 #[tactic(auto, unfolding(crate::specs::Value::fixed))]
 pub fn read_fixed(text: &[u8], scale: i32) -> Result<i64, NumberFault>
     requires low { neg_ℤ (pos 12) ≤ℤ scale }
     requires high { scale ≤ℤ pos 12 }
-    ensures told { result ≡ fixed text.now scale }
+    ensures exact { result ≡ fixed text.now scale }
     ensures form { IsErrOf result NumberFault.Form ↔ IsNoNumber text.now }
     ensures digits { IsErrOf result NumberFault.Digits ↔ IsNumberWith text.now IsTooLong }
     ensures range { IsErrOf result NumberFault.Range ↔ IsNumberWith text.now (IsBeyond scale) }

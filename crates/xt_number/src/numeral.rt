@@ -7,7 +7,8 @@ ghost use Rattle.std.specs.Str.Parse.{AllDigits, digits_value, digits_value_afte
 ghost use Rattle.xt_number.specs.Numeral.{IsNumber};
 ghost use Rattle.xt_number.specs.Value.{mantissa, exponent, signed, clamped};
 ghost use Rattle.xt_number.specs.View.{view};
-ghost use Rattle.xt_number.specs.Reading.{signed_at, digits_at, fraction_at, exponent_at, numeral_of, Gives, is_numeral, has_digit};
+ghost use Rattle.xt_number.specs.Reading.{signed_at, digits_at, fraction_at, exponent_at};
+ghost use Rattle.xt_number.specs.Reading.{numeral_of, Gives, is_numeral, has_digit};
 
 /// A bound of mantissas: thirty digits are below it.
 const MANTISSAS: u128 = 1_000_000_000_000_000_000_000_000_000_000;
@@ -37,7 +38,8 @@ impl Numeral<'_> {
     pub fn mantissa(&self) -> Option<u128>
         requires whole { AllDigits 10 self.now.whole.now }
         requires fraction { AllDigits 10 self.now.fraction.now }
-        ensures { MatchOption result (10 ^ 30 ≤ mantissa (view self.now)) (λ m. (m ≡ mantissa (view self.now)) × (m < 10 ^ 30)) }
+        ensures { MatchOption result (10 ^ 30 ≤ mantissa (view self.now))
+            (λ m. (m ≡ mantissa (view self.now)) × (m < 10 ^ 30)) }
     {
         let whole = value_below(0, self.whole, MANTISSAS)?;
         value_below(whole, self.fraction, MANTISSAS)
@@ -60,7 +62,8 @@ fn value_below(start: u128, digits: &[u8], limit: u128) -> Option<u128>
     requires start { start < limit }
     requires limit { limit ≤ 10 ^ 30 }
     requires digits { AllDigits 10 digits.now }
-    ensures { MatchOption result (limit ≤ digits_value_after 10 start digits.now) (λ v. (v ≡ digits_value_after 10 start digits.now) × (v < limit)) }
+    ensures { MatchOption result (limit ≤ digits_value_after 10 start digits.now)
+        (λ v. (v ≡ digits_value_after 10 start digits.now) × (v < limit)) }
 {
     let mut value = start;
     for digit in digits {
@@ -176,7 +179,7 @@ fn split_exponent(text: &[u8]) -> Option<(bool, &[u8])>
 /// The parts of the text, or None where it is no number.
 #[tactic(auto, unfolding(crate::specs::Reading::numeral_of))]
 pub fn split(text: &[u8]) -> Option<Numeral<'_>>
-    ensures told { Gives view result (numeral_of text.now) }
+    ensures exact { Gives view result (numeral_of text.now) }
     ensures found { IfSome result (λ n. IsNumber text.now (view n)) }
 {
     let (negative, rest) = split_sign(text);

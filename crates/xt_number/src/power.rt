@@ -1,6 +1,7 @@
 //! Powers of ten among written numbers.
 
-ghost use Rattle.std.specs.Prelude.{◌≡◌, ◌≢◌, ℕ, ℤ, ◌^◌, ◌<◌, ◌≤◌, ◌↔◌, ◌==◌, length, pos, neg_ℤ, ◌≤ℤ◌, IfSome, MatchOption};
+ghost use Rattle.std.specs.Prelude.{◌≡◌, ◌≢◌, ℕ, ℤ, ◌^◌, ◌<◌, ◌≤◌, ◌↔◌, ◌==◌, length, pos, neg_ℤ, ◌≤ℤ◌};
+ghost use Rattle.std.specs.Prelude.{IfSome, MatchOption};
 ghost use Rattle.std.specs.List.{prefix_len, list_all};
 ghost use Rattle.std.specs.Str.Parse.{AllDigits, digits_value};
 ghost use Rattle.xt_number.specs.Numeral.{IsNumberWith};
@@ -55,7 +56,8 @@ fn zeros_behind_one(digits: &[u8]) -> Option<usize>
 /// The power of ten that the digits write, or None where they write none.
 fn place_of_one(digits: &[u8]) -> Option<usize>
     requires { AllDigits 10 digits.now }
-    ensures { MatchOption result ((j : ℕ) → digits_value 10 digits.now ≢ 10 ^ j) (λ j. (digits_value 10 digits.now ≡ 10 ^ j) × (j < length digits.now)) }
+    ensures { MatchOption result ((j : ℕ) → digits_value 10 digits.now ≢ 10 ^ j)
+        (λ j. (digits_value 10 digits.now ≡ 10 ^ j) × (j < length digits.now)) }
 {
     zeros_behind_one(skip_zeros(digits))
 }
@@ -65,7 +67,8 @@ impl Numeral<'_> {
     fn place(&self) -> Option<usize>
         requires whole { AllDigits 10 self.now.whole.now }
         requires fraction { AllDigits 10 self.now.fraction.now }
-        ensures { MatchOption result ((j : ℕ) → mantissa (view self.now) ≢ 10 ^ j) (λ j. mantissa (view self.now) ≡ 10 ^ j) }
+        ensures { MatchOption result ((j : ℕ) → mantissa (view self.now) ≢ 10 ^ j)
+            (λ j. mantissa (view self.now) ≡ 10 ^ j) }
     {
         if are_zeros(self.whole) {
             place_of_one(self.fraction)
@@ -81,7 +84,7 @@ impl Numeral<'_> {
         requires whole { AllDigits 10 self.now.whole.now }
         requires fraction { AllDigits 10 self.now.fraction.now }
         requires exponent { AllDigits 10 self.now.exponent.now }
-        ensures told { result ≡ power_from (Some (view self.now)) }
+        ensures exact { result ≡ power_from (Some (view self.now)) }
         ensures bounds { IfSome result (λ k. (neg_ℤ (pos 3) ≤ℤ k) × (k ≤ℤ pos 3)) }
     {
         if self.negative {
@@ -101,9 +104,10 @@ impl Numeral<'_> {
 /// none. It may have any number of digits.
 #[tactic(auto, unfolding(crate::specs::Value::power_of))]
 pub fn power_of_ten(text: &[u8]) -> Option<i32>
-    ensures told { result ≡ power_of text.now }
+    ensures exact { result ≡ power_of text.now }
     ensures bounds { IfSome result (λ k. (neg_ℤ (pos 3) ≤ℤ k) × (k ≤ℤ pos 3)) }
-    ensures power { (k : ℤ) → (result ≡ Some k) ↔ ((neg_ℤ (pos 3) ≤ℤ k) × (k ≤ℤ pos 3) × IsNumberWith text.now (IsTenTo k)) }
+    ensures power { (k : ℤ) → (result ≡ Some k)
+        ↔ ((neg_ℤ (pos 3) ≤ℤ k) × (k ≤ℤ pos 3) × IsNumberWith text.now (IsTenTo k)) }
 {
     match split(text) {
         None => None,

@@ -8,11 +8,11 @@ overflow_sub-digit c = omega (arith, digit_off (get_or c.args.digits.now c.loop-
 
 pub returns-then-value-limit : goal.returns-then-value-limit
 returns-then-value-limit c =
-    let told = value_turn c.loop-digit.value (c.loop-digit.value * 10 + c.from.result) (digits_value_after 10 c.args.start c.args.digits.now) c.args.digits.now c.loop-digit.digit-index c.requires.digits c.loop-digit-test.true (omega arith) c.loop-digit.invariant.told in
-    omega (arith, told, after_ge (c.loop-digit.value * 10 + c.from.result) (drop (c.loop-digit.digit-index + 1) c.args.digits.now))
+    let so_far = value_turn c.loop-digit.value (c.loop-digit.value * 10 + c.from.result) (digits_value_after 10 c.args.start c.args.digits.now) c.args.digits.now c.loop-digit.digit-index c.requires.digits c.loop-digit-test.true (omega arith) c.loop-digit.invariant.so_far in
+    omega (arith, so_far, after_ge (c.loop-digit.value * 10 + c.from.result) (drop (c.loop-digit.digit-index + 1) c.args.digits.now))
 
 pub loop-digit-preserved : goal.loop-digit-preserved
 loop-digit-preserved c = record {
-  told = value_turn c.loop-digit.value (c.loop-digit.value * 10 + c.from.result) (digits_value_after 10 c.args.start c.args.digits.now) c.args.digits.now c.loop-digit.digit-index c.requires.digits c.loop-digit-test.true (omega arith) c.loop-digit.invariant.told;
+  so_far = value_turn c.loop-digit.value (c.loop-digit.value * 10 + c.from.result) (digits_value_after 10 c.args.start c.args.digits.now) c.args.digits.now c.loop-digit.digit-index c.requires.digits c.loop-digit-test.true (omega arith) c.loop-digit.invariant.so_far;
   below = omega arith;
 }

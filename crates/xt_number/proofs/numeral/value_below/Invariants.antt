@@ -4,6 +4,6 @@ use Rattle.xt_number.proofs.numeral.value_below.Given as goal
 
 abbrev pub invariant-loop-digit : goal.invariant-loop-digit
 invariant-loop-digit l = record {
-  told : digits_value_after 10 l.value (drop l.digit-index l.digits) ≡ digits_value_after 10 l.start l.digits;
+  so_far : digits_value_after 10 l.value (drop l.digit-index l.digits) ≡ digits_value_after 10 l.start l.digits;
   below : l.value < l.limit;
 }
