@@ -12,11 +12,12 @@ use Rattle.std.proofs.lemmas.List.Folds.{find-append}
 use Rattle.xt_model.specs.declared.quad.Quad.{Quad}
 use Rattle.xt_model.specs.declared.quad.Pair.{Pair}
 use Rattle.xt_model.specs.declared.net.Net.{Net}
+use Rattle.xt_model.specs.Miller.{MillerNumbers}
 use Rattle.xt_model.specs.Quads.{IsBound}
 use Rattle.xt_meaning.specs.Wires.{slew_growth}
 use Rattle.xt_meaning.specs.Envelope.{Test, TimeAt, SlewAt, keeps, greatest_wire, sink_tests, all_sink_tests, quad_tests, first_over}
 use Rattle.envelope.specs.declared.fault.Excess.{Excess}
-use Rattle.envelope.specs.Firsts.{told, driver_tests, pair_tests}
+use Rattle.envelope.specs.Firsts.{passed_test, driver_tests, pair_tests}
 
 abbrev Kept : Test → Type 0
 Kept t = keeps t ≡ true
@@ -63,32 +64,32 @@ none_of_nets f [] h = refl
 none_of_nets f (n ∷ ns) h = none_of_nets f ns h ∙ over_on (f n) (flat_map f ns) (none_over (f n) (h n))
 
 -- ---- the sinks of a net
-pub sinks_on : (n : ℕ) (net : Net) (q : Quad) (i : ℕ) → None ≡ first_over (all_sink_tests n net q i) → None ≡ first_over (sink_tests n net q i) → None ≡ first_over (all_sink_tests n net q (i + 1))
-sinks_on n net q i h k =
+pub sinks_on : (m : MillerNumbers) (n : ℕ) (net : Net) (q : Quad) (i : ℕ) → None ≡ first_over (all_sink_tests m n net q i) → None ≡ first_over (sink_tests m n net q i) → None ≡ first_over (all_sink_tests m n net q (i + 1))
+sinks_on m n net q i h k =
     let e : suc i ≡ i + 1 = omega arith in
-    let P : ℕ → Type 0 = λ j. None ≡ first_over (all_sink_tests n net q j) in
-    subst P e (k ∙ over_on (all_sink_tests n net q i) (sink_tests n net q i) h)
+    let P : ℕ → Type 0 = λ j. None ≡ first_over (all_sink_tests m n net q j) in
+    subst P e (k ∙ over_on (all_sink_tests m n net q i) (sink_tests m n net q i) h)
 
-pub sinks_at : (n : ℕ) (net : Net) (q : Quad) (i count : ℕ) (t : Test) → i < count → None ≡ first_over (all_sink_tests n net q i) → Some t ≡ first_over (sink_tests n net q i)
-    → Some t ≡ first_over (all_sink_tests n net q count)
-sinks_at n net q i zero t h before here = absurd (omega arith)
-sinks_at n net q i (suc count) t h before here = elim (cases_lt i count) [
-  | inl p ↦ over_at (all_sink_tests n net q count) (sink_tests n net q count) t (sinks_at n net q i count t p before here)
+pub sinks_at : (m : MillerNumbers) (n : ℕ) (net : Net) (q : Quad) (i count : ℕ) (t : Test) → i < count → None ≡ first_over (all_sink_tests m n net q i) → Some t ≡ first_over (sink_tests m n net q i)
+    → Some t ≡ first_over (all_sink_tests m n net q count)
+sinks_at m n net q i zero t h before here = absurd (omega arith)
+sinks_at m n net q i (suc count) t h before here = elim (cases_lt i count) [
+  | inl p ↦ over_at (all_sink_tests m n net q count) (sink_tests m n net q count) t (sinks_at m n net q i count t p before here)
   | inr p ↦
       let e : i ≡ count = omega arith in
-      let P : ℕ → Type 0 = λ j. Some t ≡ first_over (all_sink_tests n net q j ++ sink_tests n net q j) in
-      subst P e (here ∙ over_on (all_sink_tests n net q i) (sink_tests n net q i) before)
+      let P : ℕ → Type 0 = λ j. Some t ≡ first_over (all_sink_tests m n net q j ++ sink_tests m n net q j) in
+      subst P e (here ∙ over_on (all_sink_tests m n net q i) (sink_tests m n net q i) before)
 ]
 
--- ---- what is told of a driver, a sink and a net
-pub driver_told : (n : ℕ) (q : Quad) (a b c : ℤ) (r : Result (Unit {0}) Excess) → a ≡ q.tlo → b ≡ q.thi → c ≡ q.shi
-    → None ≡ first_over (TimeAt n a ∷ []) → None ≡ first_over (TimeAt n b ∷ []) → told r ≡ first_over (SlewAt n c ∷ []) → told r ≡ first_over (driver_tests n q)
-driver_told n q a b c r is_a is_b is_c first second last =
+-- ---- the tests of a driver, a sink and a net
+pub driver_tested : (n : ℕ) (q : Quad) (a b c : ℤ) (r : Result (Unit {0}) Excess) → a ≡ q.tlo → b ≡ q.thi → c ≡ q.shi
+    → None ≡ first_over (TimeAt n a ∷ []) → None ≡ first_over (TimeAt n b ∷ []) → passed_test r ≡ first_over (SlewAt n c ∷ []) → passed_test r ≡ first_over (driver_tests n q)
+driver_tested n q a b c r is_a is_b is_c first second last =
     let two = last ∙ over_on (TimeAt n b ∷ []) (SlewAt n c ∷ []) second in
-    let three : told r ≡ first_over (TimeAt n a ∷ TimeAt n b ∷ SlewAt n c ∷ []) = two ∙ over_on (TimeAt n a ∷ []) (TimeAt n b ∷ SlewAt n c ∷ []) first in
-    let P : ℤ → Type 0 = λ x. told r ≡ first_over (TimeAt n x ∷ TimeAt n b ∷ SlewAt n c ∷ []) in
-    let Q : ℤ → Type 0 = λ x. told r ≡ first_over (TimeAt n q.tlo ∷ TimeAt n x ∷ SlewAt n c ∷ []) in
-    let R : ℤ → Type 0 = λ x. told r ≡ first_over (TimeAt n q.tlo ∷ TimeAt n q.thi ∷ SlewAt n x ∷ []) in
+    let three : passed_test r ≡ first_over (TimeAt n a ∷ TimeAt n b ∷ SlewAt n c ∷ []) = two ∙ over_on (TimeAt n a ∷ []) (TimeAt n b ∷ SlewAt n c ∷ []) first in
+    let P : ℤ → Type 0 = λ x. passed_test r ≡ first_over (TimeAt n x ∷ TimeAt n b ∷ SlewAt n c ∷ []) in
+    let Q : ℤ → Type 0 = λ x. passed_test r ≡ first_over (TimeAt n q.tlo ∷ TimeAt n x ∷ SlewAt n c ∷ []) in
+    let R : ℤ → Type 0 = λ x. passed_test r ≡ first_over (TimeAt n q.tlo ∷ TimeAt n q.thi ∷ SlewAt n x ∷ []) in
     subst R is_c (subst Q is_b (subst P is_a three))
 
 pub driver_stopped : (n : ℕ) (q : Quad) (a b : ℤ) (t : Test) → a ≡ q.tlo → b ≡ q.thi → None ≡ first_over (TimeAt n a ∷ []) → Some t ≡ first_over (TimeAt n b ∷ []) → Some t ≡ first_over (driver_tests n q)
@@ -99,30 +100,30 @@ driver_stopped n q a b t is_a is_b first second =
     let Q : ℤ → Type 0 = λ x. Some t ≡ first_over (TimeAt n q.tlo ∷ TimeAt n x ∷ last) in
     subst Q is_b (subst P is_a three)
 
-pub sink_told : (n : ℕ) (net : Net) (q : Quad) (sink : ℕ) (a b : ℤ) (r : Result (Unit {0}) Excess) → a ≡ q.thi +ℤ greatest_wire net sink → b ≡ q.shi +ℤ slew_growth (greatest_wire net sink)
-    → None ≡ first_over (TimeAt n a ∷ []) → told r ≡ first_over (SlewAt n b ∷ []) → told r ≡ first_over (sink_tests n net q sink)
-sink_told n net q sink a b r is_a is_b first last =
-    let two : told r ≡ first_over (TimeAt n a ∷ SlewAt n b ∷ []) = last ∙ over_on (TimeAt n a ∷ []) (SlewAt n b ∷ []) first in
-    let P : ℤ → Type 0 = λ x. told r ≡ first_over (TimeAt n x ∷ SlewAt n b ∷ []) in
-    let Q : ℤ → Type 0 = λ x. told r ≡ first_over (TimeAt n (q.thi +ℤ greatest_wire net sink) ∷ SlewAt n x ∷ []) in
+pub sink_tested : (m : MillerNumbers) (n : ℕ) (net : Net) (q : Quad) (sink : ℕ) (a b : ℤ) (r : Result (Unit {0}) Excess) → a ≡ q.thi +ℤ greatest_wire m net sink → b ≡ q.shi +ℤ slew_growth (greatest_wire m net sink)
+    → None ≡ first_over (TimeAt n a ∷ []) → passed_test r ≡ first_over (SlewAt n b ∷ []) → passed_test r ≡ first_over (sink_tests m n net q sink)
+sink_tested m n net q sink a b r is_a is_b first last =
+    let two : passed_test r ≡ first_over (TimeAt n a ∷ SlewAt n b ∷ []) = last ∙ over_on (TimeAt n a ∷ []) (SlewAt n b ∷ []) first in
+    let P : ℤ → Type 0 = λ x. passed_test r ≡ first_over (TimeAt n x ∷ SlewAt n b ∷ []) in
+    let Q : ℤ → Type 0 = λ x. passed_test r ≡ first_over (TimeAt n (q.thi +ℤ greatest_wire m net sink) ∷ SlewAt n x ∷ []) in
     subst Q is_b (subst P is_a two)
 
-pub sink_stopped : (n : ℕ) (net : Net) (q : Quad) (sink : ℕ) (a : ℤ) (t : Test) → a ≡ q.thi +ℤ greatest_wire net sink → Some t ≡ first_over (TimeAt n a ∷ []) → Some t ≡ first_over (sink_tests n net q sink)
-sink_stopped n net q sink a t is_a first =
-    let last = SlewAt n (q.shi +ℤ slew_growth (greatest_wire net sink)) ∷ [] in
+pub sink_stopped : (m : MillerNumbers) (n : ℕ) (net : Net) (q : Quad) (sink : ℕ) (a : ℤ) (t : Test) → a ≡ q.thi +ℤ greatest_wire m net sink → Some t ≡ first_over (TimeAt n a ∷ []) → Some t ≡ first_over (sink_tests m n net q sink)
+sink_stopped m n net q sink a t is_a first =
+    let last = SlewAt n (q.shi +ℤ slew_growth (greatest_wire m net sink)) ∷ [] in
     let P : ℤ → Type 0 = λ x. Some t ≡ first_over (TimeAt n x ∷ last) in
     subst P is_a (over_at (TimeAt n a ∷ []) last t first)
 
-pub pair_told : (n : ℕ) (net : Net) (o : Option Net) (p : Pair) (r : Result (Unit {0}) Excess) → o ≡ Some net
-    → None ≡ first_over (quad_tests n net p.rise) → told r ≡ first_over (quad_tests n net p.fall) → told r ≡ first_over (pair_tests n o p)
-pair_told n net o p r there rise fall =
-    let P : Option Net → Type 0 = λ x. told r ≡ first_over (pair_tests n x p) in
-    subst P (sym there) (fall ∙ over_on (quad_tests n net p.rise) (quad_tests n net p.fall) rise)
+pub pair_tested : (m : MillerNumbers) (n : ℕ) (net : Net) (o : Option Net) (p : Pair) (r : Result (Unit {0}) Excess) → o ≡ Some net
+    → None ≡ first_over (quad_tests m n net p.rise) → passed_test r ≡ first_over (quad_tests m n net p.fall) → passed_test r ≡ first_over (pair_tests m n o p)
+pair_tested m n net o p r there rise fall =
+    let P : Option Net → Type 0 = λ x. passed_test r ≡ first_over (pair_tests m n x p) in
+    subst P (sym there) (fall ∙ over_on (quad_tests m n net p.rise) (quad_tests m n net p.fall) rise)
 
-pub pair_stopped : (n : ℕ) (net : Net) (o : Option Net) (p : Pair) (t : Test) → o ≡ Some net → Some t ≡ first_over (quad_tests n net p.rise) → Some t ≡ first_over (pair_tests n o p)
-pair_stopped n net o p t there rise =
-    let P : Option Net → Type 0 = λ x. Some t ≡ first_over (pair_tests n x p) in
-    subst P (sym there) (over_at (quad_tests n net p.rise) (quad_tests n net p.fall) t rise)
+pub pair_stopped : (m : MillerNumbers) (n : ℕ) (net : Net) (o : Option Net) (p : Pair) (t : Test) → o ≡ Some net → Some t ≡ first_over (quad_tests m n net p.rise) → Some t ≡ first_over (pair_tests m n o p)
+pair_stopped m n net o p t there rise =
+    let P : Option Net → Type 0 = λ x. Some t ≡ first_over (pair_tests m n x p) in
+    subst P (sym there) (over_at (quad_tests m n net p.rise) (quad_tests m n net p.fall) t rise)
 
 -- ---- numbers as they are stored
 pub kept : (x y : ℤ) → IsBound x → y ≡ to_z w64 (of_z w64 x) → to_z w128 (of_z w128 y) ≡ x

@@ -37,20 +37,20 @@ first_holds P (u ∷ ts) t h e =
     ]
 
 module _ (d : Parts) (n : ℕ) (there : n < length d.nets) where
-  sinks_inside : (net : Net) (q : Quad) (count : ℕ) → All (IsInside d) (all_sink_tests n net q count)
+  sinks_inside : (net : Net) (q : Quad) (count : ℕ) → All (IsInside d) (all_sink_tests d.miller n net q count)
   sinks_inside net q zero = All-nil (IsInside d)
   sinks_inside net q (suc count) =
-      All-append (IsInside d) (all_sink_tests n net q count) (sink_tests n net q count) (sinks_inside net q count)
-      (All-cons (IsInside d) (TimeAt n (q.thi +ℤ greatest_wire net count)) (SlewAt n (q.shi +ℤ slew_growth (greatest_wire net count)) ∷ []) there
-      (All-cons (IsInside d) (SlewAt n (q.shi +ℤ slew_growth (greatest_wire net count))) [] there (All-nil (IsInside d))))
+      All-append (IsInside d) (all_sink_tests d.miller n net q count) (sink_tests d.miller n net q count) (sinks_inside net q count)
+      (All-cons (IsInside d) (TimeAt n (q.thi +ℤ greatest_wire d.miller net count)) (SlewAt n (q.shi +ℤ slew_growth (greatest_wire d.miller net count)) ∷ []) there
+      (All-cons (IsInside d) (SlewAt n (q.shi +ℤ slew_growth (greatest_wire d.miller net count))) [] there (All-nil (IsInside d))))
 
   chosen_inside : (b : Bool) (ts : List Test) → All (IsInside d) ts → All (IsInside d) (if b then ts else [])
   chosen_inside true ts h = h
   chosen_inside false ts h = All-nil (IsInside d)
 
-  quad_inside : (net : Net) (q : Quad) → All (IsInside d) (quad_tests n net q)
+  quad_inside : (net : Net) (q : Quad) → All (IsInside d) (quad_tests d.miller n net q)
   quad_inside net q =
-      let sinks = all_sink_tests n net q (length net.sinks) in
+      let sinks = all_sink_tests d.miller n net q (length net.sinks) in
       chosen_inside (is_live q) (TimeAt n q.tlo ∷ TimeAt n q.thi ∷ SlewAt n q.shi ∷ sinks)
       (All-cons (IsInside d) (TimeAt n q.tlo) (TimeAt n q.thi ∷ SlewAt n q.shi ∷ sinks) there
       (All-cons (IsInside d) (TimeAt n q.thi) (SlewAt n q.shi ∷ sinks) there
@@ -58,10 +58,10 @@ module _ (d : Parts) (n : ℕ) (there : n < length d.nets) where
 
 net_inside : (d : Parts) (w : List Pair) (n : ℕ) → All (IsInside d) (net_tests d w n)
 net_inside d w n =
-    let P : Option Net → Type 0 = λ o. All (IsInside d) (tests_of w n o) in
+    let P : Option Net → Type 0 = λ o. All (IsInside d) (tests_of d.miller w n o) in
     elim (slice_get_cases d.nets n).1 [
       | inl p ↦
-          subst P (sym p.2) (All-append (IsInside d) (quad_tests n p.0 (assigned w n Rise)) (quad_tests n p.0 (assigned w n Fall))
+          subst P (sym p.2) (All-append (IsInside d) (quad_tests d.miller n p.0 (assigned w n Rise)) (quad_tests d.miller n p.0 (assigned w n Fall))
           (quad_inside d n p.1 p.0 (assigned w n Rise)) (quad_inside d n p.1 p.0 (assigned w n Fall)))
       | inr p ↦ subst P (sym p.1) (All-nil (IsInside d))
     ]

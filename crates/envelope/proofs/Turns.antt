@@ -15,11 +15,13 @@ use Rattle.xt_model.specs.declared.quad.Pair.{Pair}
 use Rattle.xt_model.specs.declared.net.Net.{Net}
 use Rattle.xt_model.specs.Quads.{bottom, IsLive, IsPairInRange, quad_at}
 use Rattle.xt_model.specs.Levels.{IsOrder}
+use Rattle.xt_model.specs.Miller.{MillerNumbers}
 use Rattle.xt_model.specs.Parts.{Parts}
 use Rattle.xt_model.specs.Sound.{IsSound, IsSoundNet}
 use Rattle.xt_model.specs.Assign.{assigned, words_of, quads_of}
 use Rattle.xt_meaning.specs.Operator.{wire_range, widest_operator, step}
 use Rattle.xt_meaning.specs.Fixpoint.{IsContained}
+use Rattle.xt_meaning.specs.Overlap.{all_overlap}
 use Rattle.xt_meaning.specs.Envelope.{IsWidest, IsEnvelope, IsAccepted, Test, keeps, tests_of, net_tests, first_over}
 use Rattle.xt_meaning.specs.Barrier.{IsFittingStart}
 use Rattle.xt_meaning.specs.Laws.{quiet_windows}
@@ -62,26 +64,26 @@ not_live q same live = dead (ordered_from_live q live) where
 
 module _ (d : Parts) (order : List ℕ) (v : List Pair) (i : ℕ) (s : IsSound d) (tested : IsTestedPass d order v i) where
   turned_fits : (m : ℕ) (f : Edge) (sink : ℕ) (net : Net) → slice_get d.nets m ≡ Some net → sink < length net.sinks → IsTurned order i m → IsLive (assigned v m f)
-      → FitsWire (assigned v m f) (wire_range (λ n e k g. true) m f sink (Some net))
+      → FitsWire (assigned v m f) (wire_range d.miller all_overlap m f sink (Some net))
   turned_fits m f sink net there inside t live =
       let P : Quad → Type 0 = λ q. pos 0 ≤ℤ q.slo in
-      let slo = subst P (sym (tested.pass.fixed m f t)) (operator_slew d (λ n e k g. true) (assigned v) m f s) in
-      room_fits d m net (λ n e k g. true) f sink (assigned v m f) (found (IsSoundNet d m) (slice_get d.nets m) net there (s.nets m)) inside
+      let slo = subst P (sym (tested.pass.fixed m f t)) (operator_slew d all_overlap (assigned v) m f s) in
+      room_fits d m net all_overlap f sink (assigned v m f) s.miller (found (IsSoundNet d m) (slice_get d.nets m) net there (s.nets m)) inside
       (room_tested d m net (assigned v m f) (assigned v m f) s there (net_passed d v m net f (tested.kept m t) there) slo (within_refl (assigned v m f)) live)
 
   window_fits : (m : ℕ) (f : Edge) (sink : ℕ) (o : Option Net) → slice_get d.nets m ≡ o → IsSomeAnd o (λ net. sink < length net.sinks) → IsLive (assigned v m f)
-      → FitsWire (assigned v m f) (wire_range (λ n e k g. true) m f sink o)
+      → FitsWire (assigned v m f) (wire_range d.miller all_overlap m f sink o)
   window_fits m f sink None there inside live = absurd inside
   window_fits m f sink (Some net) there inside live = elim (turned_or_not order i m) [
     | inl t ↦ turned_fits m f sink net there inside t live
     | inr never ↦ absurd (not_live (assigned v m f) (tested.pass.quiet m f never) live)
   ]
 
-  inputs_fit : (n : ℕ) (o : Option Net) → IfSome o (IsSoundNet d n) → IfSome o (λ net. All (FitsAtInput d (λ n e k g. true) (quads_of (words_of (assigned v)))) net.arcs)
+  inputs_fit : (n : ℕ) (o : Option Net) → IfSome o (IsSoundNet d n) → IfSome o (λ net. All (FitsAtInput d all_overlap (quads_of (words_of (assigned v)))) net.arcs)
   inputs_fit n None sound = tt
   inputs_fit n (Some net) sound = λ k x h.
       let a = get_or net.arcs k x in
-      let P : Quad → Type 0 = λ q. IsLive q → FitsWire q (wire_range (λ n e k g. true) a.from.0 a.input a.sink (slice_get d.nets a.from.0)) in
+      let P : Quad → Type 0 = λ q. IsLive q → FitsWire q (wire_range d.miller all_overlap a.from.0 a.input a.sink (slice_get d.nets a.from.0)) in
       subst P (sym (quads_of_words (assigned v) a.from.0 a.input)) (window_fits a.from.0 a.input a.sink (slice_get d.nets a.from.0) refl (sound.arcs k x h).sink)
 
   pub tested_fits : (n : ℕ) → ReadsFit d (quads_of (words_of (assigned v))) n
@@ -104,13 +106,13 @@ next_is : (d : Parts) (v : List Pair) (n : ℕ) (p : Pair) → IsSound d → IsN
 next_is d v n p s next = by_edge (λ e. quad_at p e ≡ widest_operator d (assigned v) n e) (next.rise ∙ widest_of_words d v n Rise s) (next.fall ∙ widest_of_words d v n Fall s)
 
 -- the same windows have the same tests
-same_tests : (w : List Pair) (n : ℕ) (o : Option Net) (p : Pair) → ((e : Edge) → assigned w n e ≡ quad_at p e) → pair_tests n o p ≡ tests_of w n o
-same_tests w n None p h = refl
-same_tests w n (Some net) p h = let r = h Rise in let f = h Fall in rw (r, f) refl
+same_tests : (m : MillerNumbers) (w : List Pair) (n : ℕ) (o : Option Net) (p : Pair) → ((e : Edge) → assigned w n e ≡ quad_at p e) → pair_tests m n o p ≡ tests_of m w n o
+same_tests m w n None p h = refl
+same_tests m w n (Some net) p h = let r = h Rise in let f = h Fall in rw (r, f) refl
 
-other_tests : (v w : List Pair) (n : ℕ) (o : Option Net) → ((e : Edge) → assigned v n e ≡ assigned w n e) → tests_of v n o ≡ tests_of w n o
-other_tests v w n None h = refl
-other_tests v w n (Some net) h = let r = h Rise in let f = h Fall in rw (r, f) refl
+other_tests : (m : MillerNumbers) (v w : List Pair) (n : ℕ) (o : Option Net) → ((e : Edge) → assigned v n e ≡ assigned w n e) → tests_of m v n o ≡ tests_of m w n o
+other_tests m v w n None h = refl
+other_tests m v w n (Some net) h = let r = h Rise in let f = h Fall in rw (r, f) refl
 
 passing : (xs ys : List Test) → xs ≡ ys → AllPass keeps xs → AllPass keeps ys
 passing xs ys e h = let P : List Test → Type 0 = λ ts. AllPass keeps ts in subst P e h
@@ -123,19 +125,19 @@ module _ (d : Parts) (order : List ℕ) (v : List Pair) (i : ℕ) (p : Pair) (s 
   inside : slice_index order i < length v
   inside = let a = net_there d order i s o h in omega (arith, a, tested.pass.windows.count)
 
-  kept_now : None ≡ first_over (pair_tests (slice_index order i) (slice_get d.nets (slice_index order i)) p) → AllPass keeps (net_tests d (set v (slice_index order i) p) (slice_index order i))
+  kept_now : None ≡ first_over (pair_tests d.miller (slice_index order i) (slice_get d.nets (slice_index order i)) p) → AllPass keeps (net_tests d (set v (slice_index order i) p) (slice_index order i))
   kept_now none =
       let n = slice_index order i in
-      passing (pair_tests n (slice_get d.nets n) p) (net_tests d (set v n p) n) (same_tests (set v n p) n (slice_get d.nets n) p (λ e. assigned-set_same v n p e inside))
-      (all_passed (pair_tests n (slice_get d.nets n) p) none)
+      passing (pair_tests d.miller n (slice_get d.nets n) p) (net_tests d (set v n p) n) (same_tests d.miller (set v n p) n (slice_get d.nets n) p (λ e. assigned-set_same v n p e inside))
+      (all_passed (pair_tests d.miller n (slice_get d.nets n) p) none)
 
   kept_before : (m : ℕ) → (m ≡ slice_index order i → ⊥) → IsTurned order i m → AllPass keeps (net_tests d (set v (slice_index order i) p) m)
   kept_before m other t =
       let n = slice_index order i in
-      passing (net_tests d v m) (net_tests d (set v n p) m) (other_tests v (set v n p) m (slice_get d.nets m) (λ e. sym (assigned-set_other v n m p e other))) (tested.kept m t)
+      passing (net_tests d v m) (net_tests d (set v n p) m) (other_tests d.miller v (set v n p) m (slice_get d.nets m) (λ e. sym (assigned-set_other v n m p e other))) (tested.kept m t)
 
   -- a net more that keeps its limits
-  tested_more : None ≡ first_over (pair_tests (slice_index order i) (slice_get d.nets (slice_index order i)) p) → IsTestedPass d order (set v (slice_index order i) p) (i + 1)
+  tested_more : None ≡ first_over (pair_tests d.miller (slice_index order i) (slice_get d.nets (slice_index order i)) p) → IsTestedPass d order (set v (slice_index order i) p) (i + 1)
   tested_more none = record { pass = turn; kept = kept } where
     now : (m : ℕ) → m ≡ slice_index order i → AllPass keeps (net_tests d (set v (slice_index order i) p) m)
     now m same = let P : ℕ → Type 0 = λ k. AllPass keeps (net_tests d (set v (slice_index order i) p) k) in subst P (sym same) (kept_now none)
@@ -150,33 +152,33 @@ module _ (d : Parts) (order : List ℕ) (v : List Pair) (i : ℕ) (p : Pair) (s 
     ]
 
   -- a net that does not keep its limits passes the first that is passed
-  first_there : (t : Test) → Some t ≡ first_over (pair_tests (slice_index order i) (slice_get d.nets (slice_index order i)) p) → (w : List Pair) → IsWidest d w
+  first_there : (t : Test) → Some t ≡ first_over (pair_tests d.miller (slice_index order i) (slice_get d.nets (slice_index order i)) p) → (w : List Pair) → IsWidest d w
       → Some t ≡ first_over (net_tests d w (slice_index order i))
   first_there t over w widest =
       let n = slice_index order i in
       let here : IsTurned order (i + 1) n = record { place = i; before = omega arith; there = refl } in
-      over ∙ ap (λ ts. first_over ts) (same_tests w n (slice_get d.nets n) p (λ e.
+      over ∙ ap (λ ts. first_over ts) (same_tests d.miller w n (slice_get d.nets n) p (λ e.
       sym (turned_agree d o.0 order s o.1 o.2 (set v n p) w (i + 1) turn widest n here e) ∙ assigned-set_same v n p e inside))
 
   before_there : (w : List Pair) → IsWidest d w → (k : ℕ) → k < i → AllPass keeps (net_tests d w (slice_index order k))
   before_there w widest k below =
       let m = slice_index order k in
       let t : IsTurned order i m = record { place = k; before = below; there = refl } in
-      passing (net_tests d v m) (net_tests d w m) (other_tests v w m (slice_get d.nets m) (λ e. turned_agree d o.0 order s o.1 o.2 v w i tested.pass widest m t e)) (tested.kept m t)
+      passing (net_tests d v m) (net_tests d w m) (other_tests d.miller v w m (slice_get d.nets m) (λ e. turned_agree d o.0 order s o.1 o.2 v w i tested.pass widest m t e)) (tested.kept m t)
 
-  first_is : (t : Test) → Some t ≡ first_over (pair_tests (slice_index order i) (slice_get d.nets (slice_index order i)) p) → (w : List Pair) → IsWidest d w
+  first_is : (t : Test) → Some t ≡ first_over (pair_tests d.miller (slice_index order i) (slice_get d.nets (slice_index order i)) p) → (w : List Pair) → IsWidest d w
       → Some t ≡ first_over (flat_map (net_tests d w) order)
   first_is t over w widest = first_of_nets (net_tests d w) order i t h (before_there w widest) (first_there t over w widest)
 
 pub pass_turned : (d : Parts) (order : List ℕ) (v after : List Pair) (i : ℕ) (p : Pair) → IsSound d → IsOrder d.nets order → i < length order → IsTestedPass d order v i
-    → IsNext d v (slice_index order i) p → None ≡ first_over (pair_tests (slice_index order i) (slice_get d.nets (slice_index order i)) p)
+    → IsNext d v (slice_index order i) p → None ≡ first_over (pair_tests d.miller (slice_index order i) (slice_get d.nets (slice_index order i)) p)
     → after ≡ set v (slice_index order i) p → IsTestedPass d order after (i + 1)
 pass_turned d order v after i p s o h tested next none e =
     let P : List Pair → Type 0 = λ w. IsTestedPass d order w (i + 1) in
     subst P (sym e) (tested_more d order v i p s o h tested next none)
 
 pub pass_stopped : (d : Parts) (order : List ℕ) (v : List Pair) (i : ℕ) (p : Pair) (n : ℕ) (what : What) (value : ℤ) → IsSound d → IsOrder d.nets order → i < length order → IsTestedPass d order v i
-    → IsNext d v (slice_index order i) p → Some (test_of n what value) ≡ first_over (pair_tests (slice_index order i) (slice_get d.nets (slice_index order i)) p)
+    → IsNext d v (slice_index order i) p → Some (test_of n what value) ≡ first_over (pair_tests d.miller (slice_index order i) (slice_get d.nets (slice_index order i)) p)
     → IsFirstPassed d n what value
 pass_stopped d order v i p n what value s o h tested next over =
     let top = widest_exists d o.0 s o.1 in
@@ -224,7 +226,7 @@ module _ (d : Parts) (order : List ℕ) (v : List Pair) (i : ℕ) (s : IsSound d
   } where
     nothing : (n : ℕ) → length d.nets ≤ n → AllPass keeps (net_tests d v n)
     nothing n beyond =
-        let P : Option Net → Type 0 = λ net. AllPass keeps (tests_of v n net) in
+        let P : Option Net → Type 0 = λ net. AllPass keeps (tests_of d.miller v n net) in
         subst P (sym (slice_get_past d.nets n beyond)) (All-nil (λ t. keeps t ≡ true))
 
   pub ended_contains : (w : List Pair) → IsContained (assigned w) (step d w) → IsContained (assigned w) (assigned v)

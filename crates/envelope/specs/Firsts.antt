@@ -3,6 +3,7 @@ use Rattle.std.specs.Prelude.{◌≡◌, ℕ, ℤ, List, [], ◌∷◌, ◌++◌
 use Rattle.xt_model.specs.declared.quad.Quad.{Quad}
 use Rattle.xt_model.specs.declared.quad.Pair.{Pair}
 use Rattle.xt_model.specs.declared.net.Net.{Net}
+use Rattle.xt_model.specs.Miller.{MillerNumbers}
 use Rattle.xt_model.specs.Parts.{Parts}
 use Rattle.xt_model.specs.Levels.{IsOrder}
 use Rattle.xt_meaning.specs.Envelope.{IsWidest, Test, TimeAt, SlewAt, quad_tests, first_passed}
@@ -20,19 +21,19 @@ test_of n Slew value = SlewAt n value
 abbrev pub excess_test : Excess → Test
 excess_test x = test_of x.net.0 x.what x.value
 
--- the quantity that a test told of, if it told of one
-abbrev pub told : Result (Unit {0}) Excess → Option Test
-told (Ok u) = None
-told (Err x) = Some (excess_test x)
+-- the quantity that a result names as past its limit, if it names one
+abbrev pub passed_test : Result (Unit {0}) Excess → Option Test
+passed_test (Ok u) = None
+passed_test (Err x) = Some (excess_test x)
 
 -- what has a limit in a live window at the driver of net number n
 abbrev pub driver_tests : ℕ → Quad → List Test
 driver_tests n q = TimeAt n q.tlo ∷ TimeAt n q.thi ∷ SlewAt n q.shi ∷ []
 
 -- what has a limit in the windows of net number n, where there is such a net
-abbrev pub pair_tests : ℕ → Option Net → Pair → List Test
-pair_tests n None p = []
-pair_tests n (Some net) p = quad_tests n net p.rise ++ quad_tests n net p.fall
+abbrev pub pair_tests : MillerNumbers → ℕ → Option Net → Pair → List Test
+pair_tests m n None p = []
+pair_tests m n (Some net) p = quad_tests m n net p.rise ++ quad_tests m n net p.fall
 
 -- this quantity of net number n is the first that passes its limit, with the nets in order of level, in the
 -- windows that the operator gives back where everything overlaps

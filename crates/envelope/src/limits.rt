@@ -4,24 +4,21 @@ ghost use Rattle.std.specs.Prelude.{◌≡◌, ◌<◌, ◌^◌, [], ◌∷◌, 
 ghost use Rattle.std.specs.List.{slice_get};
 ghost use Rattle.xt_model.specs.Quads.{IsInRange, IsPairInRange};
 ghost use Rattle.xt_meaning.specs.Wires.{slew_growth};
-ghost use Rattle.xt_meaning.specs.Envelope.{TimeAt, SlewAt, greatest_wire, sink_tests, all_sink_tests, quad_tests, first_over};
-ghost use Rattle.envelope.specs.Firsts.{told, driver_tests, pair_tests};
+ghost use Rattle.xt_meaning.specs.Envelope.{TimeAt, SlewAt, first_over};
+ghost use Rattle.xt_meaning.specs.Envelope.{greatest_wire, sink_tests, all_sink_tests, quad_tests};
+ghost use Rattle.envelope.specs.Firsts.{passed_test, driver_tests, pair_tests};
 
 use crate::fault::{Excess, What};
 use miller_bits::{Overlaps, wire_range_by};
+use xt_model::limits::{MOST_SLEW, MOST_TIME};
 use xt_model::{Design, Edge, Net, NetId, Pair, Quad, Windows};
-
-/// The greatest size of a time in fs: 2^46.
-const MOST_TIME: i128 = 70_368_744_177_664;
-
-/// The greatest slew in fs: 2^40.
-const MOST_SLEW: i128 = 1_099_511_627_776;
 
 /// Tests a time of a net.
 fn test_time(net: NetId, value: i128) -> Result<(), Excess>
-    ensures { told result ≡ first_over (TimeAt net.0 value ∷ []) }
+    ensures { passed_test result ≡ first_over (TimeAt net.0 value ∷ []) }
 {
-    if -MOST_TIME <= value && value <= MOST_TIME {
+    let most = i128::from(MOST_TIME);
+    if -most <= value && value <= most {
         return Ok(());
     }
     Err(Excess {
@@ -33,9 +30,9 @@ fn test_time(net: NetId, value: i128) -> Result<(), Excess>
 
 /// Tests a slew of a net.
 fn test_slew(net: NetId, value: i128) -> Result<(), Excess>
-    ensures { told result ≡ first_over (SlewAt net.0 value ∷ []) }
+    ensures { passed_test result ≡ first_over (SlewAt net.0 value ∷ []) }
 {
-    if value <= MOST_SLEW {
+    if value <= i128::from(MOST_SLEW) {
         return Ok(());
     }
     Err(Excess {
@@ -48,7 +45,7 @@ fn test_slew(net: NetId, value: i128) -> Result<(), Excess>
 /// Tests a window at the driver of a net.
 fn test_driver(net: NetId, quad: &Quad) -> Result<(), Excess>
     requires { IsInRange quad.now }
-    ensures { told result ≡ first_over (driver_tests net.0 quad.now) }
+    ensures { passed_test result ≡ first_over (driver_tests net.0 quad.now) }
 {
     test_time(net, i128::from(quad.tlo))?;
     test_time(net, i128::from(quad.thi))?;
@@ -78,7 +75,7 @@ fn greatest_wire(
     requires count { length windows.now ≡ length design.now.nets }
     requires there { slice_get design.now.nets net.0 ≡ Some driven.now }
     requires sink { sink < length driven.now.sinks }
-    ensures value { result ≡ greatest_wire driven.now sink }
+    ensures value { result ≡ greatest_wire design.now.miller driven.now sink }
     ensures low { pos 0 ≤ℤ result }
     ensures high { result ≤ℤ pos (2 ^ 105) }
 {
@@ -101,7 +98,7 @@ fn test_sink(
     requires there { slice_get design.now.nets net.0 ≡ Some driven.now }
     requires sink { sink < length driven.now.sinks }
     requires range { IsInRange quad.now }
-    ensures { told result ≡ first_over (sink_tests net.0 driven.now quad.now sink) }
+    ensures { passed_test result ≡ first_over (sink_tests design.now.miller net.0 driven.now quad.now sink) }
 {
     let wire = greatest_wire(design, windows, net, edge, driven, sink);
     test_time(net, i128::from(quad.thi) + wire)?;
@@ -120,7 +117,8 @@ fn test_sinks(
     requires count { length windows.now ≡ length design.now.nets }
     requires there { slice_get design.now.nets net.0 ≡ Some driven.now }
     requires range { IsInRange quad.now }
-    ensures { told result ≡ first_over (all_sink_tests net.0 driven.now quad.now (length driven.now.sinks)) }
+    ensures { let tests = all_sink_tests design.now.miller net.0 driven.now quad.now (length driven.now.sinks) in
+        passed_test result ≡ first_over tests }
 {
     for sink in 0..driven.sinks.len() {
         test_sink(design, windows, net, edge, quad, driven, sink)?;
@@ -140,7 +138,7 @@ fn test_quad(
     requires count { length windows.now ≡ length design.now.nets }
     requires there { slice_get design.now.nets net.0 ≡ Some driven.now }
     requires range { IsInRange quad.now }
-    ensures { told result ≡ first_over (quad_tests net.0 driven.now quad.now) }
+    ensures { passed_test result ≡ first_over (quad_tests design.now.miller net.0 driven.now quad.now) }
 {
     if !quad.live() {
         return Ok(());
@@ -160,7 +158,8 @@ pub(crate) fn test_pair(
     requires count { length windows.now ≡ length design.now.nets }
     requires net { net.0 < length design.now.nets }
     requires range { IsPairInRange pair.now }
-    ensures { told result ≡ first_over (pair_tests net.0 (slice_get design.now.nets net.0) pair.now) }
+    ensures { let driven = slice_get design.now.nets net.0 in
+        passed_test result ≡ first_over (pair_tests design.now.miller net.0 driven pair.now) }
 {
     let driven = design.net(net.0 as usize);
     test_quad(design, windows, net, Edge::Rise, &pair.rise, driven)?;

@@ -23,11 +23,18 @@ use xt_model::{Design, Direction, NetId, Windows};
 pub fn envelope(alloc: Global, design: &Design) -> Result<Windows, EnvelopeFault>
     ensures envelope { IfOk result (IsEnvelope design.now) }
     ensures accepted { IfOk result (IsAccepted design.now) }
-    ensures contains { IfOk result (λ top. (v : List Pair) → IsContained (assigned v) (step design.now v) → IsContained (assigned v) (assigned top)) }
+    ensures contains { IfOk
+        result
+        (λ top. (v : List Pair)
+        → IsContained (assigned v) (step design.now v)
+        → IsContained (assigned v) (assigned top)) }
     ensures itself { IfOk result (λ top. IsContained (step design.now top) (assigned top)) }
     ensures starts { IfOk result (IsFittingStart Direction.Narrow design.now) }
     ensures limit { IfErr result (IsFaultOfEnvelope design.now) }
-    ensures taken { (top : List Pair) → IsWidest design.now top → IsAccepted design.now top → IfErr result (λ fault. fault ≡ EnvelopeFault.NoMemory) }
+    ensures complete { (top : List Pair)
+        → IsWidest design.now top
+        → IsAccepted design.now top
+        → IfErr result (λ fault. fault ≡ EnvelopeFault.NoMemory) }
 {
     let mut windows = quiet(alloc, design)?;
     for net in design.order() {

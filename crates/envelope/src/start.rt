@@ -22,7 +22,9 @@ fn never(alloc: Global, count: usize) -> Result<Windows, AllocError>
 /// Windows in which nothing switches. Where an envelope keeps the limits, a run can start there that widens.
 pub fn quiet(alloc: Global, design: &Design) -> Result<Windows, AllocError>
     ensures quiet { IfOk result (λ windows. windows ≡ quiet_windows design.now) }
-    ensures starts { (v : List Pair) → IsWithinEnvelope design.now v → IfOk result (IsFittingStart Direction.Widen design.now) }
+    ensures starts { (v : List Pair)
+        → IsWithinEnvelope design.now v
+        → IfOk result (IsFittingStart Direction.Widen design.now) }
 {
     let nets = design.nets();
     let windows = never(alloc, nets.len())?;

@@ -6,7 +6,8 @@ use std::alloc::{AllocError, Global};
 use std::process::Abort;
 use std::test::Fail;
 use xt_model::{
-    Coupling, Design, Edge, Name, Net, NetId, Pair, Quad, Row, SinkPin, Table, TimingArc,
+    Coupling, Design, DesignParts, Edge, Miller, Name, Net, NetId, Pair, Quad, Row, SinkPin, Table,
+    TimingArc,
 };
 
 const MOST_TIME: i64 = 1 << 46;
@@ -117,10 +118,16 @@ fn design(
     tables: Vec<Table>,
     nets: Vec<Net>,
 ) -> Result<Design, Fail> {
-    let checks = Vec::new(alloc);
-    let sound = is_sound(alloc, None, &tables, &nets, &checks)?;
+    let parts = DesignParts {
+        period: None,
+        tables: Row::from_vec(tables),
+        nets: Row::from_vec(nets),
+        checks: Row::from_vec(Vec::new(alloc)),
+        miller: Miller::classical(),
+    };
+    let sound = is_sound(alloc, &parts)?;
     assert!(rt; sound);
-    Ok(Design::new(alloc, None, tables, nets, checks)?)
+    Ok(Design::from_parts(alloc, parts)?)
 }
 
 fn limit(what: What, value: i64) -> Option<EnvelopeFault> {

@@ -1,2 +1,2 @@
-pub mod SmallFactors
+pub mod Periods
 pub mod Sums

@@ -1,6 +1,8 @@
-ghost use Rattle.std.specs.Prelude.{◌≡◌, ◌^◌, pos, neg_ℤ, ◌≤ℤ◌};
+ghost use Rattle.std.specs.Prelude.{◌≡◌, ◌↔◌, ◌^◌, IsTrue, Some, None, pos, neg_ℤ, ◌-ℤ◌, ◌≤ℤ◌};
+ghost use Rattle.std.specs.Int.{int_div_euclid};
 ghost use Rattle.xt_model.specs.Quads.{IsBound, IsInRange};
-ghost use Rattle.xt_meaning.specs.Overlap.{half_up, active_from, active_to, ranges_meet, overlaps};
+ghost use Rattle.xt_meaning.specs.Overlap.{half_up, active_from, active_to};
+ghost use Rattle.xt_meaning.specs.Overlap.{ranges_meet, overlaps, Overlap, IsRealPeriod};
 
 use xt_model::Quad;
 
@@ -30,22 +32,87 @@ fn active_to(window: &Quad) -> i64
     window.thi + half_up(window.shi)
 }
 
-/// Whether two ranges of times have a time in common; both hold their ends.
-fn ranges_meet(a_from: i64, a_to: i64, b_from: i64, b_to: i64) -> bool
-    ensures { result ≡ ranges_meet a_from a_to b_from b_to }
+/// The time in fs from one moment to another.
+fn distance(from: i64, to: i64) -> i128
+    ensures value { result ≡ to -ℤ from }
+    ensures low { neg_ℤ (pos (2 ^ 64)) ≤ℤ result }
+    ensures high { result ≤ℤ pos (2 ^ 64) }
+{
+    i128::from(to) - i128::from(from)
+}
+
+/// How many whole periods there are in a distance in fs, rounded down.
+fn whole_periods(distance: i128, period: i64) -> i128
+    requires period { pos 1 ≤ℤ period }
+    requires low { neg_ℤ (pos (2 ^ 64)) ≤ℤ distance }
+    requires high { distance ≤ℤ pos (2 ^ 64) }
+    ensures value { result ≡ int_div_euclid distance period }
+    ensures low { neg_ℤ (pos (2 ^ 64)) ≤ℤ result }
+    ensures high { result ≤ℤ pos (2 ^ 64) }
+{
+    distance.div_euclid(i128::from(period))
+}
+
+/// Whether two ranges of times have a time in common as they stand; both hold their ends.
+fn meet_unmoved(a_from: i64, a_to: i64, b_from: i64, b_to: i64) -> bool
+    ensures { result ≡ ranges_meet None a_from a_to b_from b_to }
 {
     a_from <= b_to && b_from <= a_to
 }
 
-/// Whether the active ranges of two windows meet: each runs from the earliest time less half of the
-/// greatest slew, to the latest time and half of the greatest slew. A window that never switches
-/// overlaps nothing.
-pub fn overlap(a: &Quad, b: &Quad) -> bool
+/// Whether they have a time in common where the second is moved by some whole number of periods: the least
+/// number that brings its end to the first range is at most the greatest that leaves its start there.
+fn meet_moved(a_from: i64, a_to: i64, b_from: i64, b_to: i64, period: i64) -> bool
+    requires { pos 1 ≤ℤ period }
+    ensures { result ≡ ranges_meet (Some period) a_from a_to b_from b_to }
+{
+    let least = -whole_periods(distance(a_from, b_to), period);
+    let greatest = whole_periods(distance(b_from, a_to), period);
+    least <= greatest
+}
+
+/// Whether two ranges of times meet, one of them moved by some whole number of periods. Divides only where they
+/// do not meet as they stand.
+fn ranges_meet(a_from: i64, a_to: i64, b_from: i64, b_to: i64, period: Option<i64>) -> bool
+    requires { IsRealPeriod period }
+    ensures { result ≡ ranges_meet period a_from a_to b_from b_to }
+{
+    if meet_unmoved(a_from, a_to, b_from, b_to) {
+        return true;
+    }
+    match period {
+        None => false,
+        Some(period) => meet_moved(a_from, a_to, b_from, b_to, period),
+    }
+}
+
+/// Whether the active ranges of two windows meet: each runs from the earliest time less half of the greatest
+/// slew, to the latest time and half of the greatest slew.
+fn active_ranges_meet(a: &Quad, b: &Quad, period: Option<i64>) -> bool
     requires first { IsInRange a.now }
     requires second { IsInRange b.now }
-    ensures { result ≡ overlaps a.now b.now }
+    requires period { IsRealPeriod period }
+    ensures { result ≡ ranges_meet period (active_from a.now) (active_to a.now) (active_from b.now) (active_to b.now) }
 {
-    a.live() && b.live() && ranges_meet(active_from(a), active_to(a), active_from(b), active_to(b))
+    ranges_meet(
+        active_from(a),
+        active_to(a),
+        active_from(b),
+        active_to(b),
+        period,
+    )
+}
+
+/// Whether two windows overlap: both can switch, and their active ranges meet, in a design with a clock period,
+/// in fs, also where one of them is moved by any whole number of periods.
+pub fn overlap(a: &Quad, b: &Quad, period: Option<i64>) -> bool
+    requires first { IsInRange a.now }
+    requires second { IsInRange b.now }
+    requires period { IsRealPeriod period }
+    ensures meaning { IsTrue result ↔ Overlap period a.now b.now }
+    ensures value { result ≡ overlaps period a.now b.now }
+{
+    a.live() && b.live() && active_ranges_meet(a, b, period)
 }
 
 #[cfg(test)]
@@ -64,6 +131,13 @@ mod tests {
         }
     }
 
+    /// A clock period of so many fs, and of one where there are none.
+    fn clock(period: u16) -> Option<i64>
+        ensures { IsRealPeriod result }
+    {
+        Some(i64::from(period).max(1))
+    }
+
     #[test]
     fn active_ranges_meet_at_their_ends(rt: HostRuntime) {
         for (a, b, want) in [
@@ -78,8 +152,30 @@ mod tests {
             ((1, 0, 0, 0), (0, 1, 0, 0), false),
             ((0, 1, 10, 9), (0, 1, 0, 10), false),
         ] {
-            assert_eq!(rt; overlap(&window(a), &window(b)), want);
-            assert_eq!(rt; overlap(&window(b), &window(a)), want);
+            assert_eq!(rt; overlap(&window(a), &window(b), None), want);
+            assert_eq!(rt; overlap(&window(b), &window(a), None), want);
+        }
+    }
+
+    #[test]
+    fn ranges_that_lie_whole_periods_apart_meet(rt: HostRuntime) {
+        for (a, b, period, want) in [
+            ((0, 0, 0, 0), (300, 300, 0, 0), 100, true),
+            ((0, 0, 0, 0), (299, 299, 0, 0), 100, false),
+            ((0, 0, 0, 0), (-300, -300, 0, 0), 100, true),
+            ((0, 0, 0, 0), (-301, -301, 0, 0), 100, false),
+            ((0, 10, 0, 0), (411, 430, 0, 0), 100, false),
+            ((0, 10, 0, 0), (410, 430, 0, 0), 100, true),
+            ((0, 10, 0, 0), (370, 400, 0, 0), 100, true),
+            ((0, 10, 0, 0), (370, 399, 0, 0), 100, false),
+            ((0, 0, 0, 5), (94, 94, 0, 5), 100, true),
+            ((0, 0, 0, 5), (93, 93, 0, 5), 100, false),
+            ((0, 100, 0, 0), (1000, 1000, 0, 0), 101, true),
+            ((7, 7, 0, 0), (32_000, 32_000, 0, 0), 1, true),
+            ((1, 0, 0, 0), (100, 100, 0, 0), 100, false),
+        ] {
+            assert_eq!(rt; overlap(&window(a), &window(b), clock(period)), want);
+            assert_eq!(rt; overlap(&window(b), &window(a), clock(period)), want);
         }
     }
 }

@@ -14,6 +14,7 @@ use Rattle.xt_model.specs.declared.net.TimingArc.{TimingArc}
 use Rattle.xt_model.specs.Quads.{bottom, IsInRange, join_of}
 use Rattle.xt_model.specs.Tables.{TableParts, IsTableNumber}
 use Rattle.xt_model.specs.Parts.{Parts}
+use Rattle.xt_model.specs.Miller.{IsMiller}
 use Rattle.xt_model.specs.Sound.{IsSoundNet, IsSoundCoupling, IsSoundSink, IsProduct, IsSlew, IsTime}
 use Rattle.xt_model.specs.Assign.{Assignment}
 use Rattle.xt_meaning.specs.Lookup.{Box, table_value, slew_value, least_over, greatest_over}
@@ -71,8 +72,9 @@ sound_wired d own n s = record {
   coefs = All-weaker (IsSoundSink (length n.couplings)) HasNaturalCoefs (λ p h. All-weaker IsProduct IsNatural (λ c g. g.least) p.coefs h.coefs) n.sinks s.sinks;
 }
 
-pub loads_ordered : (d : Parts) (own : ℕ) (n : Net) (b : Answers) (e : Edge) (c0 c1 : ℤ) → IsSoundNet d own n → c0 ≡ (load_range b own e n).least → c1 ≡ (load_range b own e n).most → c0 ≤ℤ c1
-loads_ordered d own n b e c0 c1 s h k = rw (h, k) ((load_range_ordered b own e n (sound_wired d own n s)).ordered)
+pub loads_ordered : (d : Parts) (own : ℕ) (n : Net) (b : Answers) (e : Edge) (c0 c1 : ℤ) → IsMiller d.miller → IsSoundNet d own n → c0 ≡ (load_range d.miller b own e n).least
+    → c1 ≡ (load_range d.miller b own e n).most → c0 ≤ℤ c1
+loads_ordered d own n b e c0 c1 m s h k = rw (h, k) ((load_range_ordered d.miller b own e n m (sound_wired d own n s)).ordered)
 
 -- ---- numbers as they are stored
 pub kept : (x : ℤ) → neg_ℤ (pos (2 ^ 62)) ≤ℤ x → x ≤ℤ pos (2 ^ 62) → to_z w64 (of_z w64 x) ≡ x

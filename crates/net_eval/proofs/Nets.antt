@@ -21,7 +21,7 @@ use Rattle.net_eval.specs.Arcs.{with_arc_at}
 use Rattle.net_eval.proofs.Contributions.{bottom_in_range}
 
 arcs_is : (d : Parts) (b : Answers) (W : Assignment) (n : ℕ) (net : Net) (e : Edge) (arcs : List TimingArc) → 0 < length arcs
-    → arcs_quad d b W n net e arcs ≡ fold (with_arc_at d b W e (load_range b n e net)) bottom arcs
+    → arcs_quad d b W n net e arcs ≡ fold (with_arc_at d b W e (load_range d.miller b n e net)) bottom arcs
 arcs_is d b W n net e [] some = absurd (omega arith)
 arcs_is d b W n net e (a ∷ more) some = refl
 
@@ -30,7 +30,7 @@ none_is d b W n net e [] none = refl
 none_is d b W n net e (a ∷ more) none = absurd (omega arith)
 
 pub operator_is : (d : Parts) (b : Answers) (W : Assignment) (n : ℕ) (e : Edge) (net : Net) (q : Quad) → slice_get d.nets n ≡ Some net → 0 < length net.arcs
-    → q ≡ fold (with_arc_at d b W e (load_range b n e net)) bottom net.arcs → q ≡ operator_by d b W n e
+    → q ≡ fold (with_arc_at d b W e (load_range d.miller b n e net)) bottom net.arcs → q ≡ operator_by d b W n e
 unfolding operator_by
 operator_is d b W n e net q there some is = rw there (is ∙ sym (arcs_is d b W n net e net.arcs some))
 
@@ -53,10 +53,10 @@ source_in_range d own n Rise s = given_in_range n.given.rise s.rise
 source_in_range d own n Fall s = given_in_range n.given.fall s.fall
 
 -- ---- the words of a net with arcs and of its couplings' nets
-pub own_words : (has : ℕ → Type 0) (d : Parts) (n : ℕ) (net : Net) → slice_get d.nets n ≡ Some net → HoldsOfReads (HasNet has) d n → 0 < length net.arcs → HasVictim has d n
-own_words has d n net there reads some =
+pub own_words : (has : ℕ → Type 0) (d : Parts) (n : ℕ) (e : Edge) (net : Net) → slice_get d.nets n ≡ Some net → HoldsOfReads (HasNet has) d n → 0 < length net.arcs → HasVictim has d n e
+own_words has d n e net there reads some =
     let looks = found (λ net. All (HoldsOfArcReads (HasNet has) d n net) net.arcs) (slice_get d.nets n) net there reads.arcs in
     let first = looks 0 no_arc some in
-    record { own = first.own; aggressors = held _ (slice_get d.nets n) net there first.aggressors } where
+    record { own = first.own e; aggressors = held _ (slice_get d.nets n) net there first.aggressors } where
       no_arc : TimingArc
       no_arc = record { from = record { 0 = 0 }; sink = 0; input = Rise; output = Rise; delay = 0; slew = 0 }

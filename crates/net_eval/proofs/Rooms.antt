@@ -1,5 +1,5 @@
 -- Windows within an accepted envelope fit the wires behind them.
-use Rattle.std.proofs.Common.{◌≡◌, ℕ, ◌<◌, refl, List, length, get_or, arith}
+use Rattle.std.proofs.Common.{◌≡◌, ℕ, ◌<◌, refl, ◌≤ℤ◌, List, length, get_or, arith}
 use Rattle.std.specs.Prelude.{Option, Some, None, IfSome}
 use Rattle.std.specs.Option.{IsSomeAnd}
 use Rattle.std.specs.List.{All, slice_get}
@@ -11,42 +11,46 @@ use Rattle.xt_model.specs.declared.net.Net.{Net}
 use Rattle.xt_model.specs.declared.net.TimingArc.{TimingArc}
 use Rattle.xt_model.specs.Quads.{IsLive, IsWithin}
 use Rattle.xt_model.specs.Parts.{Parts}
+use Rattle.xt_model.specs.Miller.{IsMiller}
 use Rattle.xt_model.specs.Sound.{IsSound, IsSoundNet}
 use Rattle.xt_model.specs.Assign.{Assignment, assigned}
-use Rattle.xt_meaning.specs.Wires.{miller}
-use Rattle.xt_meaning.specs.Overlap.{Answers, least_factor, greatest_factor}
+use Rattle.xt_meaning.specs.Wires.{wire_delay}
+use Rattle.xt_meaning.specs.Overlap.{Answers, all_overlap, least_factors, greatest_factors}
 use Rattle.xt_meaning.specs.Operator.{wire_range}
-use Rattle.xt_meaning.specs.Envelope.{IsEnvelope, IsAccepted}
+use Rattle.xt_meaning.specs.Envelope.{IsEnvelope, IsAccepted, greatest_wire}
 use Rattle.xt_meaning.specs.Laws.{HasRoom}
 use Rattle.xt_meaning.specs.Reads.{HoldsOfReads, HoldsOfArcReads}
-use Rattle.xt_meaning.proofs.Growth.{factors_ordered, wire_delay_mono}
+use Rattle.xt_meaning.proofs.Growth.{IsImpliedAt, factors_ordered, greatest_factors_rise, wire_delay_mono}
 use Rattle.xt_meaning.proofs.Room.{wire_delay_natural}
 use Rattle.xt_meaning.proofs.Limits.{room_at}
 use Rattle.miller_bits.specs.Views.{HasNet}
-use Rattle.miller_bits.proofs.SmallFactors.{greatest_factors}
 use Rattle.miller_bits.proofs.Sums.{found}
 use Rattle.net_eval.specs.Room.{ReadsWithinEnvelope, FitsWire, FitsAtInput, ReadsFitBy, IsReady}
 use Rattle.net_eval.proofs.Contributions.{sound_wired}
 
 -- a window with room at every sink fits the wire to each
-pub room_fits : (d : Parts) (own : ℕ) (n : Net) (b : Answers) (e : Edge) (sink : ℕ) (q : Quad) → IsSoundNet d own n → sink < length n.sinks → HasRoom n q → FitsWire q (wire_range b own e sink (Some n))
-room_fits d own n b e sink q s sink_in room =
+pub room_fits : (d : Parts) (own : ℕ) (n : Net) (b : Answers) (e : Edge) (sink : ℕ) (q : Quad) → IsMiller d.miller → IsSoundNet d own n → sink < length n.sinks → HasRoom d.miller n q
+    → FitsWire q (wire_range d.miller b own e sink (Some n))
+room_fits d own n b e sink q m s sink_in room =
+    let ks = n.couplings in
     let w = sound_wired d own n s in
-    let below = wire_delay_mono (greatest_factor b own e) (λ k. miller.high) n sink (λ k x h. (greatest_factors b own e).few (get_or n.couplings k x)) w in
+    let implied : IsImpliedAt b all_overlap own ks = record { each = λ e f k x h t. refl } in
+    let below : wire_delay (greatest_factors d.miller b own e ks) n sink ≤ℤ greatest_wire d.miller n sink =
+    wire_delay_mono (greatest_factors d.miller b own e ks) (greatest_factors d.miller all_overlap own e ks) n sink (greatest_factors_rise d.miller b all_overlap own e ks m implied) w in
     let time = room.arrivals sink sink_in in
     record {
       driver = room.driver;
-      low = wire_delay_natural d own n (least_factor b own e) sink s;
-      ordered = wire_delay_mono (least_factor b own e) (greatest_factor b own e) n sink (factors_ordered b own e n.couplings) w;
+      low = wire_delay_natural d own n (least_factors d.miller b own e ks) sink s;
+      ordered = wire_delay_mono (least_factors d.miller b own e ks) (greatest_factors d.miller b own e ks) n sink (factors_ordered d.miller b own e ks m) w;
       high = omega (arith, ints, below, time.most, room.driver.thi.least);
     }
 
 fits_at : (d : Parts) (top : List Pair) (W : Assignment) (b : Answers) (a : TimingArc) (o : Option Net) → IsSound d → IsEnvelope d top → IsAccepted d top → slice_get d.nets a.from.0 ≡ o
     → IsSomeAnd o (λ m. a.sink < length m.sinks) → IsWithin (W a.from.0 a.input) (assigned top a.from.0 a.input) → IsLive (W a.from.0 a.input)
-    → FitsWire (W a.from.0 a.input) (wire_range b a.from.0 a.input a.sink o)
+    → FitsWire (W a.from.0 a.input) (wire_range d.miller b a.from.0 a.input a.sink o)
 fits_at d top W b a None s env acc there sink w live = absurd sink
 fits_at d top W b a (Some m) s env acc there sink w live =
-    room_fits d a.from.0 m b a.input a.sink (W a.from.0 a.input) (found (IsSoundNet d a.from.0) (slice_get d.nets a.from.0) m there (s.nets a.from.0)) sink
+    room_fits d a.from.0 m b a.input a.sink (W a.from.0 a.input) s.miller (found (IsSoundNet d a.from.0) (slice_get d.nets a.from.0) m there (s.nets a.from.0)) sink
     (room_at d top a.from.0 a.input m (W a.from.0 a.input) s env.widest acc there w live)
 
 -- windows within an accepted envelope fit the wires, whatever overlaps
@@ -67,6 +71,6 @@ ready_arcs has d b W n net s there reads fit =
     let inputs = found (λ net. All (FitsAtInput d b W) net.arcs) (slice_get d.nets n) net there fit.inputs in
     λ k x h. record {
       sound = sound.arcs k x h;
-      words = record { own = (looks k x h).from; aggressors = (looks k x h).from_aggressors };
+      words = record { own = (looks k x h).from (get_or net.arcs k x).input; aggressors = (looks k x h).from_aggressors };
       room = inputs k x h;
     }

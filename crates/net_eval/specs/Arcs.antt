@@ -12,7 +12,13 @@ use Rattle.xt_meaning.specs.Operator.{Range, wire_range, contribution_by, contri
 
 -- what arc `a` contributes to a net with this range of loads
 abbrev pub contribution_at : Parts → Answers → Assignment → Range → TimingArc → Quad
-contribution_at d b W load a = contribution_by d a (W a.from.0 a.input) (wire_range b a.from.0 a.input a.sink (slice_get d.nets a.from.0)) load
+contribution_at d b W load a =
+    contribution_by
+    d
+    a
+    (W a.from.0 a.input)
+    (wire_range d.miller b a.from.0 a.input a.sink (slice_get d.nets a.from.0))
+    load
 
 -- a window, joined with what the arc contributes to edge e
 abbrev pub with_arc_at : Parts → Answers → Assignment → Edge → Range → Quad → TimingArc → Quad

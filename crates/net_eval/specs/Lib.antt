@@ -1,3 +1,4 @@
 pub mod Room
 pub mod Arcs
 pub mod Closing
+pub mod ReadLists

@@ -1,5 +1,5 @@
 -- When no sum of an evaluation leaves its type.
-use Rattle.std.specs.Prelude.{ℕ, ◌^◌, true, pos, ◌≤ℤ◌, List, IfSome}
+use Rattle.std.specs.Prelude.{ℕ, ◌^◌, pos, ◌≤ℤ◌, List, IfSome}
 use Rattle.std.specs.List.{All, slice_get}
 use Rattle.xt_model.specs.declared.quad.Quad.{Quad}
 use Rattle.xt_model.specs.declared.quad.Pair.{Pair}
@@ -8,7 +8,7 @@ use Rattle.xt_model.specs.Quads.{IsLive, IsWithin}
 use Rattle.xt_model.specs.Parts.{Parts}
 use Rattle.xt_model.specs.Sound.{IsConstraint, IsSoundArc}
 use Rattle.xt_model.specs.Assign.{Assignment, assigned}
-use Rattle.xt_meaning.specs.Overlap.{Answers}
+use Rattle.xt_meaning.specs.Overlap.{Answers, all_overlap}
 use Rattle.xt_meaning.specs.Operator.{Range, wire_range}
 use Rattle.xt_meaning.specs.Envelope.{IsEnvelope, IsAccepted}
 use Rattle.miller_bits.specs.Views.{HasVictim}
@@ -18,7 +18,9 @@ pub record ReadsWithinEnvelope (d : Parts) (W : Assignment) (n : ℕ) : Type 0 w
   pub top : List Pair
   pub envelope : IsEnvelope d top
   pub accepted : IsAccepted d top
-  pub inputs : IfSome (slice_get d.nets n) (λ net. All (λ a. IsWithin (W a.from.0 a.input) (assigned top a.from.0 a.input)) net.arcs)
+  pub inputs : IfSome
+      (slice_get d.nets n)
+      (λ net. All (λ a. IsWithin (W a.from.0 a.input) (assigned top a.from.0 a.input)) net.arcs)
 
 -- a window that a design can be given, before a wire with a delay from 0 to 2^47 fs
 pub record FitsWire (q : Quad) (wire : Range) : Type 0 where
@@ -29,7 +31,9 @@ pub record FitsWire (q : Quad) (wire : Range) : Type 0 where
 
 -- the window at the input of an arc, where it is live, fits the wire before the arc
 abbrev pub FitsAtInput : Parts → Answers → Assignment → TimingArc → Type 0
-FitsAtInput d b W a = IsLive (W a.from.0 a.input) → FitsWire (W a.from.0 a.input) (wire_range b a.from.0 a.input a.sink (slice_get d.nets a.from.0))
+FitsAtInput d b W a =
+    IsLive (W a.from.0 a.input)
+    → FitsWire (W a.from.0 a.input) (wire_range d.miller b a.from.0 a.input a.sink (slice_get d.nets a.from.0))
 
 -- so it is at each arc of net number n, with these overlap answers
 pub record ReadsFitBy (d : Parts) (b : Answers) (W : Assignment) (n : ℕ) : Type 0 where
@@ -37,11 +41,11 @@ pub record ReadsFitBy (d : Parts) (b : Answers) (W : Assignment) (n : ℕ) : Typ
 
 -- the same where everything overlaps
 abbrev pub ReadsFit : Parts → Assignment → ℕ → Type 0
-ReadsFit d W n = ReadsFitBy d (λ m e k f. true) W n
+ReadsFit d W n = ReadsFitBy d all_overlap W n
 
 -- an arc whose references lead somewhere, whose words are there, and whose input window, where it is live, fits
 -- the wire before the arc
 pub record IsReady (has : ℕ → Type 0) (d : Parts) (b : Answers) (W : Assignment) (a : TimingArc) : Type 0 where
   pub sound : IsSoundArc d a
-  pub words : HasVictim has d a.from.0
+  pub words : HasVictim has d a.from.0 a.input
   pub room : FitsAtInput d b W a

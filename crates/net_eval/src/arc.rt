@@ -5,7 +5,7 @@ ghost use Rattle.std.specs.List.{slice_get};
 ghost use Rattle.xt_model.specs.Assign.{quads_of};
 ghost use Rattle.xt_model.specs.Quads.{IsInRange, same_edge};
 ghost use Rattle.xt_model.specs.Sound.{IsSoundArc, HasSink};
-ghost use Rattle.xt_meaning.specs.Operator.{contribution_by, wire_range};
+ghost use Rattle.xt_meaning.specs.Operator.{Range, contribution_by, wire_range};
 ghost use Rattle.miller_bits.specs.Views.{HasVictim, answers_by};
 ghost use Rattle.net_eval.specs.Room.{FitsWire, IsReady};
 ghost use Rattle.net_eval.specs.Arcs.{with_arc_at};
@@ -34,9 +34,14 @@ fn wire_before<V: Bounds>(
     input: &Quad,
 ) -> (i64, i64)
     requires sink { HasSink design.now arc.now.from.0 arc.now.sink }
-    requires words { HasVictim (V.has view.now) design.now arc.now.from.0 }
-    requires fits { FitsWire input.now (wire_range (answers_by overlaps (V.bound_of view.now)) arc.now.from.0 arc.now.input arc.now.sink (slice_get design.now.nets arc.now.from.0)) }
-    ensures { record { least = result.0; most = result.1 } ≡ wire_range (answers_by overlaps (V.bound_of view.now)) arc.now.from.0 arc.now.input arc.now.sink (slice_get design.now.nets arc.now.from.0) }
+    requires words { HasVictim (V.has view.now) design.now arc.now.from.0 arc.now.input }
+    requires fits { let b = answers_by overlaps design.now (V.bound_of view.now) in
+        let from = slice_get design.now.nets arc.now.from.0 in
+        FitsWire input.now (wire_range design.now.miller b arc.now.from.0 arc.now.input arc.now.sink from) }
+    ensures { let b = answers_by overlaps design.now (V.bound_of view.now) in
+        let from = slice_get design.now.nets arc.now.from.0 in
+        record { least = result.0; most = result.1 }
+        ≡ wire_range design.now.miller b arc.now.from.0 arc.now.input arc.now.sink from }
 {
     let (least, most) = wire_range_by(
         design,
@@ -61,7 +66,9 @@ fn contribution(
     requires sound { IsSoundArc design.now arc.now }
     requires fits { FitsWire input.now (record { least = wire.0; most = wire.1 }) }
     requires load { load.0 ≤ℤ load.1 }
-    ensures value { result ≡ contribution_by design.now arc.now input.now (record { least = wire.0; most = wire.1 }) (record { least = load.0; most = load.1 }) }
+    ensures value { let before : Range = record { least = wire.0; most = wire.1 } in
+        let behind : Range = record { least = load.0; most = load.1 } in
+        result ≡ contribution_by design.now arc.now input.now before behind }
     ensures range { IsInRange result }
 {
     let least_slew = slew_behind(input.slo, wire.0);
@@ -100,10 +107,13 @@ pub(crate) fn with_arc<V: Bounds>(
     load: (i64, i64),
     quad: Quad,
 ) -> Quad
-    requires ready { IsReady (V.has view.now) design.now (answers_by overlaps (V.bound_of view.now)) (quads_of (V.bound_of view.now)) arc.now }
+    requires ready { let b = answers_by overlaps design.now (V.bound_of view.now) in
+        IsReady (V.has view.now) design.now b (quads_of (V.bound_of view.now)) arc.now }
     requires load { load.0 ≤ℤ load.1 }
     requires range { IsInRange quad }
-    ensures value { result ≡ with_arc_at design.now (answers_by overlaps (V.bound_of view.now)) (quads_of (V.bound_of view.now)) edge (record { least = load.0; most = load.1 }) quad arc.now }
+    ensures value { let b = answers_by overlaps design.now (V.bound_of view.now) in
+        let behind : Range = record { least = load.0; most = load.1 } in
+        result ≡ with_arc_at design.now b (quads_of (V.bound_of view.now)) edge behind quad arc.now }
     ensures range { IsInRange result }
 {
     if !same_edge(arc.output, edge) {

@@ -6,6 +6,8 @@ mod arc;
 mod closing;
 mod operator;
 mod ranges;
+mod reads;
 
 pub use closing::{closed, closed_part};
 pub use operator::{eval, eval_widest};
+pub use reads::{ReadLists, read_lists};

@@ -3,6 +3,7 @@
 ghost use Rattle.std.specs.Prelude.{◌≡◌, ◌<◌, length, Some};
 ghost use Rattle.std.specs.List.{All, fold, slice_get};
 ghost use Rattle.xt_model.specs.Assign.{quads_of};
+ghost use Rattle.xt_model.specs.Miller.{IsMiller};
 ghost use Rattle.xt_model.specs.Quads.{bottom, IsInRange, IsPairInRange};
 ghost use Rattle.xt_model.specs.Sound.{IsSound, IsSoundNet};
 ghost use Rattle.xt_model.specs.declared.edge.Edge.TheVariants.{Rise, Fall};
@@ -36,9 +37,13 @@ fn join_of_arcs<V: Bounds>(
 ) -> Quad
     requires there { slice_get design.now.nets net.0 ≡ Some driven.now }
     requires sound { IsSoundNet design.now net.0 driven.now }
-    requires words { HasVictim (V.has view.now) design.now net.0 }
-    requires ready { All (IsReady (V.has view.now) design.now (answers_by overlaps (V.bound_of view.now)) (quads_of (V.bound_of view.now))) driven.now.arcs }
-    ensures value { result ≡ fold (with_arc_at design.now (answers_by overlaps (V.bound_of view.now)) (quads_of (V.bound_of view.now)) edge (load_range (answers_by overlaps (V.bound_of view.now)) net.0 edge driven.now)) bottom driven.now.arcs }
+    requires miller { IsMiller design.now.miller }
+    requires words { HasVictim (V.has view.now) design.now net.0 edge }
+    requires ready { let b = answers_by overlaps design.now (V.bound_of view.now) in
+        All (IsReady (V.has view.now) design.now b (quads_of (V.bound_of view.now))) driven.now.arcs }
+    ensures value { let b = answers_by overlaps design.now (V.bound_of view.now) in
+        let load = load_range design.now.miller b net.0 edge driven.now in
+        result ≡ fold (with_arc_at design.now b (quads_of (V.bound_of view.now)) edge load) bottom driven.now.arcs }
     ensures range { IsInRange result }
 {
     let load = load_range_by(design, overlaps, view, net, edge);
@@ -61,9 +66,12 @@ fn window_of<V: Bounds>(
 ) -> Quad
     requires there { slice_get design.now.nets net.0 ≡ Some driven.now }
     requires sound { IsSoundNet design.now net.0 driven.now }
+    requires miller { IsMiller design.now.miller }
     requires words { HoldsOfReads (HasNet (V.has view.now)) design.now net.0 }
-    requires ready { All (IsReady (V.has view.now) design.now (answers_by overlaps (V.bound_of view.now)) (quads_of (V.bound_of view.now))) driven.now.arcs }
-    ensures value { result ≡ operator_by design.now (answers_by overlaps (V.bound_of view.now)) (quads_of (V.bound_of view.now)) net.0 edge }
+    requires ready { let b = answers_by overlaps design.now (V.bound_of view.now) in
+        All (IsReady (V.has view.now) design.now b (quads_of (V.bound_of view.now))) driven.now.arcs }
+    ensures value { let b = answers_by overlaps design.now (V.bound_of view.now) in
+        result ≡ operator_by design.now b (quads_of (V.bound_of view.now)) net.0 edge }
     ensures range { IsInRange result }
 {
     if driven.arcs.len() == 0 {
@@ -76,9 +84,12 @@ fn window_of<V: Bounds>(
 fn eval_by<V: Bounds>(design: &Design, overlaps: Overlaps, net: NetId, view: &V) -> Pair
     requires net { net.0 < length design.now.nets }
     requires words { HoldsOfReads (HasNet (V.has view.now)) design.now net.0 }
-    requires room { ReadsFitBy design.now (answers_by overlaps (V.bound_of view.now)) (quads_of (V.bound_of view.now)) net.0 }
-    ensures rise { result.rise ≡ operator_by design.now (answers_by overlaps (V.bound_of view.now)) (quads_of (V.bound_of view.now)) net.0 Rise }
-    ensures fall { result.fall ≡ operator_by design.now (answers_by overlaps (V.bound_of view.now)) (quads_of (V.bound_of view.now)) net.0 Fall }
+    requires room { let b = answers_by overlaps design.now (V.bound_of view.now) in
+        ReadsFitBy design.now b (quads_of (V.bound_of view.now)) net.0 }
+    ensures rise { let b = answers_by overlaps design.now (V.bound_of view.now) in
+        result.rise ≡ operator_by design.now b (quads_of (V.bound_of view.now)) net.0 Rise }
+    ensures fall { let b = answers_by overlaps design.now (V.bound_of view.now) in
+        result.fall ≡ operator_by design.now b (quads_of (V.bound_of view.now)) net.0 Fall }
     ensures range { IsPairInRange result }
 {
     let driven = driven(design, net);

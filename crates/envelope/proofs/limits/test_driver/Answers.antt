@@ -1,11 +1,11 @@
 use Rattle.std.proofs.lemmas.Result.{err_from_is_err_and}
-use Rattle.envelope.proofs.Firsts.{kept, driver_told, driver_stopped}
+use Rattle.envelope.proofs.Firsts.{kept, driver_tested, driver_stopped}
 use Rattle.envelope.proofs.limits.test_driver.Goals as goal
 
 pub returns : goal.returns
 returns c =
     let q = c.args.quad.now in
-    driver_told c.args.net.0 q _ _ _ c.test_slew.result
+    driver_tested c.args.net.0 q _ _ _ c.test_slew.result
     (kept q.tlo c.from.result c.requires.tlo c.from.ensures)
     (kept q.thi c.from-2.result c.requires.thi c.from-2.ensures)
     (kept q.shi c.from-3.result c.requires.shi c.from-3.ensures)

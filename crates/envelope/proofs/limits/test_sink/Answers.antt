@@ -1,5 +1,5 @@
 use Rattle.std.proofs.lemmas.Result.{err_from_is_err_and}
-use Rattle.envelope.proofs.Firsts.{arrival_kept, slew_kept, sink_told, sink_stopped}
+use Rattle.envelope.proofs.Firsts.{arrival_kept, slew_kept, sink_tested, sink_stopped}
 use Rattle.envelope.proofs.limits.test_sink.Goals as goal
 
 pub returns-in_err-test_time : goal.returns-in_err-test_time
@@ -7,13 +7,13 @@ returns-in_err-test_time c =
     let q = c.args.quad.now in
     let p = err_from_is_err_and c.from_residual.result c.from_residual.ensures.1 in
     let w = c.greatest_wire-wire.ensures in
-    rw (p.1, p.2) (sink_stopped c.args.net.0 c.args.driven.now q c.args.sink _ _ (arrival_kept q.thi c.from.result c.greatest_wire-wire.result _ c.requires.range.thi c.from.ensures w.low w.high w.value) c.in_err-test_time.ensures)
+    rw (p.1, p.2) (sink_stopped c.args.design.now.miller c.args.net.0 c.args.driven.now q c.args.sink _ _ (arrival_kept q.thi c.from.result c.greatest_wire-wire.result _ c.requires.range.thi c.from.ensures w.low w.high w.value) c.in_err-test_time.ensures)
 
 pub returns : goal.returns
 returns c =
     let q = c.args.quad.now in
     let w = c.greatest_wire-wire.ensures in
-    sink_told c.args.net.0 c.args.driven.now q c.args.sink _ _ c.test_slew.result
+    sink_tested c.args.design.now.miller c.args.net.0 c.args.driven.now q c.args.sink _ _ c.test_slew.result
     (arrival_kept q.thi c.from.result c.greatest_wire-wire.result _ c.requires.range.thi c.from.ensures w.low w.high w.value)
     (slew_kept q.shi c.from-2.result c.greatest_wire-wire.result _ c.slew_growth.result c.requires.range.shi c.from-2.ensures w.low w.high w.value c.slew_growth.ensures.low c.slew_growth.ensures.high c.slew_growth.ensures.value)
     c.in_ok-test_time.ensures c.test_slew.ensures

@@ -36,8 +36,8 @@ returns-in_err-test_pair-clause-limit c =
     rw (p.1, p.2) (pass_stopped c.args.design.now _ c.loop-net.windows c.loop-net.net-index c.eval_widest-pair.result x.net.0 x.what x.value c.order-net-items.ensures.sound c.order-net-items.ensures.value c.loop-net-test.true c.loop-net.invariant
     (record { rise = c.eval_widest-pair.ensures.rise; fall = c.eval_widest-pair.ensures.fall; range = c.eval_widest-pair.ensures.range }) c.in_err-test_pair.ensures)
 
-pub returns-in_err-test_pair-clause-taken : goal.returns-in_err-test_pair-clause-taken
-returns-in_err-test_pair-clause-taken c = λ top widest acc.
+pub returns-in_err-test_pair-clause-complete : goal.returns-in_err-test_pair-clause-complete
+returns-in_err-test_pair-clause-complete c = λ top widest acc.
     let x = c.in_err-test_pair.field-0.0 in
     absurd (none_stopped c.args.design.now x.net.0 x.what x.value top c.order-net-items.ensures.sound
     (pass_stopped c.args.design.now _ c.loop-net.windows c.loop-net.net-index c.eval_widest-pair.result x.net.0 x.what x.value c.order-net-items.ensures.sound c.order-net-items.ensures.value c.loop-net-test.true c.loop-net.invariant

@@ -5,6 +5,6 @@ use Rattle.miller_bits.proofs.wire.product_sums.Given as goal
 
 abbrev pub invariant-loop-index : goal.invariant-loop-index
 invariant-loop-index g l = record {
-  least : IsSumSoFar (least_factor (answers_by l.overlaps (g.V.Bounds.bound_of l.view)) l.net.0 l.edge) l.couplings l.sink.coefs l.sink.base l.index l.least;
-  greatest : IsSumSoFar (greatest_factor (answers_by l.overlaps (g.V.Bounds.bound_of l.view)) l.net.0 l.edge) l.couplings l.sink.coefs l.sink.base l.index l.greatest;
+  least : IsSumSoFar (least_factor l.design.miller (answers_by l.overlaps l.design (g.V.Bounds.bound_of l.view)) l.net.0 l.edge) l.couplings l.sink.coefs l.sink.base l.index l.least;
+  greatest : IsSumSoFar (greatest_factor l.design.miller (answers_by l.overlaps l.design (g.V.Bounds.bound_of l.view)) l.net.0 l.edge) l.couplings l.sink.coefs l.sink.base l.index l.greatest;
 }

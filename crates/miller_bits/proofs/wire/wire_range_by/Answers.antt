@@ -15,10 +15,10 @@ product_sums-least-requires-clause-sink g c =
 
 pub returns-clause-least : goal.returns-clause-least
 returns-clause-least g c =
-    least_wire c.args.design.now.nets (answers_by c.args.overlaps (g.V.Bounds.bound_of c.args.view.now)) c.args.net.0 c.args.edge c.args.sink c.driver-driver.result.now c.pin-pin.result.now _ c.elmore_delay.result _ c.product_sums-least.result.0
+    least_wire c.args.design.now.nets c.args.design.now.miller (answers_by c.args.overlaps c.args.design.now (g.V.Bounds.bound_of c.args.view.now)) c.args.net.0 c.args.edge c.args.sink c.driver-driver.result.now c.pin-pin.result.now _ c.elmore_delay.result _ c.product_sums-least.result.0
     c.driver-driver.ensures.there c.pin-pin.ensures (omega (arith, ints, c.elmore_delay.type_inv)) c.elmore_delay.ensures (omega (arith, ints)) (rw c.as_slice.ensures at c.product_sums-least.ensures.least)
 
 pub returns-clause-greatest : goal.returns-clause-greatest
 returns-clause-greatest g c =
-    greatest_wire c.args.design.now.nets (answers_by c.args.overlaps (g.V.Bounds.bound_of c.args.view.now)) c.args.net.0 c.args.edge c.args.sink c.driver-driver.result.now c.pin-pin.result.now _ c.elmore_delay-2.result _ c.product_sums-least.result.1
+    greatest_wire c.args.design.now.nets c.args.design.now.miller (answers_by c.args.overlaps c.args.design.now (g.V.Bounds.bound_of c.args.view.now)) c.args.net.0 c.args.edge c.args.sink c.driver-driver.result.now c.pin-pin.result.now _ c.elmore_delay-2.result _ c.product_sums-least.result.1
     c.driver-driver.ensures.there c.pin-pin.ensures (omega (arith, ints, c.elmore_delay-2.type_inv)) c.elmore_delay-2.ensures (omega (arith, ints)) (rw c.as_slice.ensures at c.product_sums-least.ensures.greatest)

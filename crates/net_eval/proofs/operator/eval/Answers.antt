@@ -5,4 +5,4 @@ use Rattle.net_eval.proofs.operator.eval.Goals as goal
 
 pub eval_by-requires-clause-room : goal.eval_by-requires-clause-room
 eval_by-requires-clause-room g c =
-    reads_fit c.args.design.now (answers_of (g.V.Bounds.bound_of c.args.view.now)) (quads_of (g.V.Bounds.bound_of c.args.view.now)) c.args.net.0 c.nets-nets.ensures.sound c.requires.room
+    reads_fit c.args.design.now (answers_of c.args.design.now (g.V.Bounds.bound_of c.args.view.now)) (quads_of (g.V.Bounds.bound_of c.args.view.now)) c.args.net.0 c.nets-nets.ensures.sound c.requires.room
