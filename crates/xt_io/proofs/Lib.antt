@@ -1,2 +1,4 @@
+pub mod Known
+pub mod Left
 pub mod Named
 pub mod Pieces

@@ -10,10 +10,10 @@ appended-twice None a b = refl
 appended-twice (Some w) a b = ap (λ t. Some t) (append_assoc w a b)
 
 -- the first `n` bytes of what is left after `at` bytes, added to these
-pub appended-piece : (w : Option (List ℕ)) (bytes : List ℕ) (at n : ℕ) → n ≤ length bytes - at
+pub appended_piece : (w : Option (List ℕ)) (bytes : List ℕ) (at n : ℕ) → n ≤ length bytes - at
     → appended (appended w (take at bytes)) (take n (take (length bytes - at) (drop at bytes)))
     ≡ appended w (take (at + n) bytes)
-appended-piece w bytes at n within =
+appended_piece w bytes at n within =
     appended-twice w (take at bytes) (take n (take (length bytes - at) (drop at bytes)))
     ∙ ap (λ t. appended w t)
     (ap (λ t. take at bytes ++ t) (take-take n (length bytes - at) (drop at bytes) within)

@@ -1,5 +1,7 @@
 -- What files and sinks in memory are, and what a call does to them.
-use Rattle.std.specs.Prelude.{[], ◌≡◌, ℕ, ◌+◌, ◌-◌, ◌≤◌, ◌⊎◌, List, length, min, Contains, Option, option_map, MatchOption, IfSome, slice_get, slice_index, slice_set, string_bytes, position, String, Vec}
+use Rattle.std.specs.Prelude.{[], ◌≡◌, ℕ, ◌+◌, ◌-◌, ◌≤◌, ◌⊎◌, List, length, min, Contains, Option, option_map}
+use Rattle.std.specs.Prelude.{MatchOption, IfSome, slice_get, slice_index, slice_set, string_bytes, position, String}
+use Rattle.std.specs.Prelude.{Vec}
 use Rattle.std.specs.Global.{Global}
 use Rattle.std.specs.Option.{option_map_or}
 use Rattle.std.specs.Str.{bytes_eq}

@@ -1,9 +1,19 @@
 -- What the outside looks like from the program: open files, sinks, and counts of their faults.
-use Rattle.std.specs.Prelude.{◌≡◌, ℕ, ◌+◌, ◌<◌, ◌≤◌, ◌⊎◌, List, ◌++◌, length, take, drop, Option, option_map, IfSome, IsSomeAnd}
+use Rattle.std.specs.Prelude.{◌≡◌, ℕ, ◌+◌, ◌<◌, ◌≤◌, ◌⊎◌, List, ◌++◌, length, take, drop, Option, option_map, IfSome}
+use Rattle.std.specs.Prelude.{IsSomeAnd}
 
 -- a count rose: it is greater after than before, or it stands at the last value of a 64-bit counter
 abbrev pub Rose : ℕ → ℕ → Type 0
 Rose before after = (before < after) ⊎ (after ≡ 18446744073709551615)
+
+-- every count of faults is as before
+abbrev pub KeepsCounts : {K : Type 0} → (K → ℕ) → (K → ℕ) → Type 0
+KeepsCounts {K} before after = (m : K) → after m ≡ before m
+
+-- no count of faults changed but that of this name: another name has its count as before, or shares that of this name
+abbrev pub ChangesOnly : {K : Type 0} → K → (K → ℕ) → (K → ℕ) → Type 0
+ChangesOnly {K} name before after =
+    (m : K) → (after m ≡ before m) ⊎ ((before m ≡ before name) × (after m ≡ after name))
 
 -- where a reader stands: the open name, and how many of its bytes were read
 pub record Place : Type 0 where
@@ -14,13 +24,13 @@ pub record Place : Type 0 where
 abbrev pub moved_by : ℕ → Option Place → Option Place
 moved_by count place = option_map (λ p. record { name = p.name; read = p.read + count }) place
 
--- `bytes` are the next bytes of the content at the place, where a file is open and its content is told
+-- `bytes` are the next bytes of the content at the place, where a file is open and its content is known
 abbrev pub AreNext : Option Place → (List ℕ → Option (List ℕ)) → List ℕ → Type 0
 AreNext place content bytes =
     IfSome place (λ p. IfSome (content p.name) (λ whole.
     (p.read + length bytes ≤ length whole) × (bytes ≡ take (length bytes) (drop p.read whole))))
 
--- the place is at the end of the content, where a file is open and its content is told
+-- the place is at the end of the content, where a file is open and its content is known
 abbrev pub IsAtEnd : Option Place → (List ℕ → Option (List ℕ)) → Type 0
 IsAtEnd place content =
     IfSome place (λ p. IfSome (content p.name) (λ whole. p.read ≡ length whole))
@@ -29,11 +39,15 @@ IsAtEnd place content =
 abbrev pub OpenRose : Option Place → (List ℕ → ℕ) → (List ℕ → ℕ) → Type 0
 OpenRose place before after = IfSome place (λ p. Rose (before p.name) (after p.name))
 
+-- no count of faults changed but that of the open name
+abbrev pub OpenChangesOnly : Option Place → (List ℕ → ℕ) → (List ℕ → ℕ) → Type 0
+OpenChangesOnly place before after = IfSome place (λ p. ChangesOnly p.name before after)
+
 -- the place is more than `most` bytes into the file of this name
 abbrev pub IsPast : Option Place → List ℕ → ℕ → Type 0
 IsPast place name most = IsSomeAnd place (λ p. (p.name ≡ name) × (most < p.read))
 
--- what a sink has after `bytes` were added to what it had, where that is told
+-- what a sink has after `bytes` were added to what it had, where that is known
 abbrev pub appended : Option (List ℕ) → List ℕ → Option (List ℕ)
 appended before bytes = option_map (λ w. w ++ bytes) before
 

@@ -1,7 +1,7 @@
 ghost use Rattle.std.specs.Prelude.{◌≡◌, ℕ, ◌<◌, ◌≤◌, Option, IfOk, replicate, vec_len};
 ghost use Rattle.std.specs.Option.{ForSome};
 ghost use Rattle.xt_io.specs.Memory.{fault_count, RaisesCount};
-ghost use Rattle.xt_io.specs.Outside.{Rose};
+ghost use Rattle.xt_io.specs.Outside.{Rose, ChangesOnly};
 
 use std::alloc::{AllocError, Global};
 
@@ -33,6 +33,8 @@ impl FaultCounts {
             ≤ fault_count self.new.files.items self.new.others k }
         ensures rose { Rose (fault_count self.old.files.items self.old.others file)
             (fault_count self.new.files.items self.new.others file) }
+        ensures others { ChangesOnly file (fault_count self.old.files.items self.old.others)
+            (fault_count self.new.files.items self.new.others) }
         ensures len { vec_len self.new.files ≡ vec_len self.old.files }
     {
         match file {

@@ -1,14 +1,16 @@
-ghost use Rattle.std.specs.Prelude.{◌≡◌};
+ghost use Rattle.std.specs.Prelude.{◌≡◌, Some, IfSome};
+ghost use Rattle.xt_io.specs.Host.{known_bytes};
 
 use crate::failed::Failed;
 use crate::sink::Sink;
-use std::io::{Stderr, Stdout, Write};
+use crate::stream::Stream;
+use std::io::{Stderr, Stdout};
 use std::marker::Model;
 
-/// A sink over a stream of the system. Each piece is handed on at once, and it does not tell what was written. It is a
-/// fault of the stream to take nothing.
+/// A sink over a stream. Each piece is handed on at once; it is a fault of the stream to take nothing. What was
+/// written is what the stream holds, where that is known of its kind.
 #[derive(Drop)]
-pub struct HostStream<W> {
+pub struct HostStream<W: Stream> {
     stream: W,
     faults: u64,
 }
@@ -19,40 +21,48 @@ pub type HostOut = HostStream<Stdout>;
 /// Standard error.
 pub type HostErr = HostStream<Stderr>;
 
-// A contract sees the count of faults.
-impl<W> Model for HostStream<W> {
-    ghost use Rattle.std.specs.Prelude.{ℕ};
+impl<W: Stream> Model for HostStream<W> {
+    ghost use Rattle.xt_io.specs.Host.{StreamState, known_bytes};
 
-    ghost Value = { ℕ };
+    ghost Value = { StreamState };
 
-    ghost view = { λ s. s.faults };
+    ghost view = { λ s. record { written = known_bytes W.known (W.contents s.stream); faults = s.faults } };
 }
 
-impl<W> HostStream<W> {
+impl<W: Stream> HostStream<W> {
     /// A sink over this stream, with no faults yet.
     pub fn new(stream: W) -> HostStream<W>
-        ensures { result ≡ 0 }
+        ensures { result ≡ record { written = known_bytes W.known (W.contents stream); faults = 0 } }
     {
         HostStream { stream, faults: 0 }
     }
+
+    /// The stream, with what was written.
+    pub fn into_stream(self) -> W
+        ensures { IfSome self.written (λ bytes. W.contents result ≡ Some bytes) }
+    {
+        self.stream
+    }
 }
 
-impl<W: Write> Sink for HostStream<W> {
-    ghost use Rattle.std.specs.Prelude.{◌≡◌, ◌<◌, ◌≤◌, length, None, IfOk, OnOk, OnErr};
-    ghost use Rattle.xt_io.specs.Outside.{Rose};
+impl<W: Stream> Sink for HostStream<W> {
+    ghost use Rattle.std.specs.Prelude.{◌≡◌, ◌<◌, ◌≤◌, length, take, IfOk, OnOk, OnErr};
+    ghost use Rattle.xt_io.specs.Outside.{Rose, appended};
     ghost use Rattle.xt_io.specs.Memory.{one_more};
 
-    ghost written = { λ _. None };
+    ghost written = { λ s. s.written };
 
-    ghost faults = { λ s. s };
+    ghost faults = { λ s. s.faults };
 
     fn write(&mut self, piece: &[u8]) -> Result<usize, Failed>
         requires { 0 < length piece.now }
-        ensures counts { self.old ≤ self.new }
+        ensures counts { self.old.faults ≤ self.new.faults }
         ensures count { IfOk result (λ n. (0 < n) × (n ≤ length piece.now)) }
-        ensures failed { OnErr result (Rose self.old self.new) }
-        ensures kept { OnOk result (self.new ≡ self.old) }
-        ensures raised { OnErr result (self.new ≡ one_more self.old) }
+        ensures ok { IfOk result (λ n. self.new.written ≡ appended self.old.written (take n piece.now)) }
+        ensures err { OnErr result (self.new.written ≡ self.old.written) }
+        ensures kept { OnOk result (self.new.faults ≡ self.old.faults) }
+        ensures failed { OnErr result (Rose self.old.faults self.new.faults) }
+        ensures raised { OnErr result (self.new.faults ≡ one_more self.old.faults) }
     {
         match self.stream.write(piece) {
             Ok(count) if count > 0 => Ok(count),

@@ -3,28 +3,34 @@
 #![tactic(auto)]
 
 mod calls;
+mod directory;
+mod directory_files;
 mod failed;
 mod fault_counts;
 mod files;
-mod host_files;
 mod host_stream;
 mod memory_files;
 mod memory_sink;
 mod open_file;
 mod read_fail;
 mod reading;
+mod recorded_files;
 mod sink;
+mod stream;
 mod writing;
 
+pub use directory::Directory;
+pub use directory_files::{DirectoryFiles, HostFiles};
 pub use failed::Failed;
 pub use files::Files;
-pub use host_files::HostFiles;
 pub use host_stream::{HostErr, HostOut, HostStream};
 pub use memory_files::MemoryFiles;
 pub use memory_sink::MemorySink;
 pub use read_fail::ReadFail;
 pub use reading::{MOST_BYTES, read_whole};
+pub use recorded_files::RecordedFiles;
 pub use sink::Sink;
+pub use stream::Stream;
 pub use writing::write_whole;
 
 #[cfg(test)]

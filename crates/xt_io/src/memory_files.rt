@@ -9,7 +9,7 @@ use std::alloc::Global;
 use std::marker::Model;
 use xt_model::NoMemory;
 
-/// Files in memory, whose calls fail where they are told to. Of two files of one name the first counts.
+/// Files in memory, whose calls fail by their numbers. Of two files of one name the first counts.
 #[derive(Drop)]
 pub struct MemoryFiles {
     files: Vec<(String, Vec<u8>)>,
@@ -76,9 +76,12 @@ impl MemoryFiles {
 }
 
 impl Files for MemoryFiles {
-    ghost use Rattle.std.specs.Prelude.{◌≡◌, ◌↔◌, ℕ, ◌<◌, ◌≤◌, ◌⊎◌, List, length, take, Some, None, Ok, IsSome, IsNone, IsErr, IfOk, OnOk, OnErr, IfSome};
-    ghost use Rattle.xt_io.specs.Outside.{Rose, moved_by, AreNext, IsAtEnd, OpenRose};
-    ghost use Rattle.xt_io.specs.Memory.{content_of, faults_of, position_of, IsListed, CountsCall, KeepsFaults, RaisesFaults, FillsBuffer};
+    ghost use Rattle.std.specs.Prelude.{◌≡◌, ◌↔◌, ℕ, ◌<◌, ◌≤◌, ◌⊎◌, List, length, take, Some, None, Ok, IsSome};
+    ghost use Rattle.std.specs.Prelude.{IsNone, IsErr, IfOk, OnOk, OnErr, IfSome};
+    ghost use Rattle.xt_io.specs.Outside.{Rose, KeepsCounts, ChangesOnly, moved_by, AreNext, IsAtEnd, OpenRose};
+    ghost use Rattle.xt_io.specs.Outside.{OpenChangesOnly};
+    ghost use Rattle.xt_io.specs.Memory.{content_of, faults_of, position_of, IsListed, CountsCall, KeepsFaults};
+    ghost use Rattle.xt_io.specs.Memory.{RaisesFaults, FillsBuffer};
 
     ghost content = { λ s. content_of s.files };
 
@@ -91,12 +94,14 @@ impl Files for MemoryFiles {
         ensures counts { (m : List ℕ) → faults_of self.old m ≤ faults_of self.new m }
         ensures opened { OnOk result (self.new.place ≡ Some (record { name = name.now; read = 0 })) }
         ensures closed { OnErr result (self.new.place ≡ None) }
+        ensures kept { OnOk result (KeepsCounts (faults_of self.old) (faults_of self.new)) }
         ensures failed { OnErr result (Rose (faults_of self.old name.now) (faults_of self.new name.now)) }
+        ensures others { OnErr result (ChangesOnly name.now (faults_of self.old) (faults_of self.new)) }
 
         // Which calls fail, and what else each does.
         ensures fails { IsErr result ↔ (IsListed self.old ⊎ IsNone (position_of self.old.files name.now)) }
         ensures called { CountsCall self.old self.new }
-        ensures kept { OnOk result (KeepsFaults self.old self.new) }
+        ensures unraised { OnOk result (KeepsFaults self.old self.new) }
         ensures raised { OnErr result (RaisesFaults self.old self.new name.now) }
     {
         let listed = self.calls.count();
@@ -121,15 +126,17 @@ impl Files for MemoryFiles {
         ensures count { IfOk result (λ n. n ≤ length buffer.old) }
         ensures moved { IfOk result (λ n. self.new.place ≡ moved_by n self.old.place) }
         ensures stays { OnErr result (self.new.place ≡ self.old.place) }
-        ensures told { IfOk result (λ n. AreNext self.old.place (content_of self.old.files) (take n buffer.new)) }
+        ensures next { IfOk result (λ n. AreNext self.old.place (content_of self.old.files) (take n buffer.new)) }
         ensures end { result ≡ Ok 0 → 0 < length buffer.old → IsAtEnd self.old.place (content_of self.old.files) }
+        ensures kept { OnOk result (KeepsCounts (faults_of self.old) (faults_of self.new)) }
         ensures failed { OnErr result (OpenRose self.old.place (faults_of self.old) (faults_of self.new)) }
+        ensures others { OnErr result (OpenChangesOnly self.old.place (faults_of self.old) (faults_of self.new)) }
 
         // Which calls fail, and what else each does.
         ensures fails { IsErr result ↔ IsListed self.old }
         ensures fills { IfOk result (λ n. FillsBuffer self.old (length buffer.old) n) }
         ensures called { CountsCall self.old self.new }
-        ensures kept { OnOk result (KeepsFaults self.old self.new) }
+        ensures unraised { OnOk result (KeepsFaults self.old self.new) }
         ensures raised { OnErr result (IfSome self.old.place (λ p. RaisesFaults self.old self.new p.name)) }
     {
         let Reader { file, read } = self.reader.unwrap();

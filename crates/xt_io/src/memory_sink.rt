@@ -7,7 +7,7 @@ use std::alloc::Global;
 use std::marker::Model;
 use xt_model::NoMemory;
 
-/// A sink in memory, whose writes fail where they are told to. A write takes no memory.
+/// A sink in memory, whose writes fail by their numbers. A write takes no memory.
 #[derive(Drop)]
 pub struct MemorySink {
     written: Vec<u8>,
@@ -75,7 +75,8 @@ impl MemorySink {
 }
 
 impl Sink for MemorySink {
-    ghost use Rattle.std.specs.Prelude.{◌≡◌, ◌↔◌, ◌-◌, ◌<◌, ◌≤◌, ◌++◌, length, take, min, Some, IsErr, IfOk, OnErr};
+    ghost use Rattle.std.specs.Prelude.{◌≡◌, ◌↔◌, ◌-◌, ◌<◌, ◌≤◌, ◌++◌, length, take, min, Some, IsErr, IfOk, OnOk};
+    ghost use Rattle.std.specs.Prelude.{OnErr};
     ghost use Rattle.xt_io.specs.Outside.{Rose};
     ghost use Rattle.xt_io.specs.Memory.{WriteFails, one_more};
 
@@ -87,6 +88,7 @@ impl Sink for MemorySink {
         requires { 0 < length piece.now }
         ensures counts { self.old.faults ≤ self.new.faults }
         ensures count { IfOk result (λ n. (0 < n) × (n ≤ length piece.now)) }
+        ensures kept { OnOk result (self.new.faults ≡ self.old.faults) }
         ensures failed { OnErr result (Rose self.old.faults self.new.faults) }
 
         // Which writes fail, and what each does.

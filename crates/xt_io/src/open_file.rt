@@ -1,54 +1,59 @@
 ghost use Rattle.std.specs.Prelude.{◌≡◌, ◌+◌, ◌≤◌, length, IfOk, OnErr, IfSome};
+ghost use Rattle.std.specs.Io.KnownBytes.{ReadConsumes};
+ghost use Rattle.xt_io.specs.Host.{IsLeft};
 
+use crate::directory::Directory;
 use crate::failed::Failed;
 use arrayvec::ArrayString;
-use std::fs::File;
 use std::io::Read;
 
 // The most bytes of a name that Linux opens: its `PATH_MAX` counts the zero byte behind the name.
 const MOST_NAME: usize = 4095;
 
-/// An open file of the system, its name, and how many of its bytes were read.
+/// An open file: its stream, its name, and how many of its bytes were read.
 #[derive(Drop)]
-pub struct OpenFile {
-    file: File,
+pub struct OpenFile<R: Read> {
+    pub stream: R,
     pub name: ArrayString<MOST_NAME>,
-    pub read: u64,
+    pub read: usize,
 }
 
-impl OpenFile {
-    /// Opens a file at its first byte. `None` where the system cannot open it. It takes no memory.
-    pub fn open(rt: &HostRuntime, name: &str) -> Option<OpenFile>
-        ensures named { IfSome result (λ file. file.name.bytes ≡ name.now) }
-        ensures first { IfSome result (λ file. file.read ≡ 0) }
-    {
-        let Ok(held) = ArrayString::from(name) else {
-            return None;
-        };
-        let Ok(file) = File::open(rt, name) else {
-            return None;
-        };
-        Some(OpenFile {
-            file,
-            name: held,
-            read: 0,
-        })
-    }
+/// Opens a file of a directory at its first byte. `None` where it cannot be opened. It takes no memory.
+pub fn open_file<D: Directory>(directory: &D, name: &str) -> Option<OpenFile<D::Stream>>
+    ensures named { IfSome result (λ file. file.name.bytes ≡ name.now) }
+    ensures first { IfSome result (λ file. file.read ≡ 0) }
+    ensures left { IfSome result (λ file. IsLeft (D.content directory.now name.now) 0
+        (D.Stream.remaining file.stream)) }
+{
+    let Ok(held) = ArrayString::from(name) else {
+        return None;
+    };
+    let stream = directory.open(name)?;
+    Some(OpenFile {
+        stream,
+        name: held,
+        read: 0,
+    })
+}
 
-    /// Reads the next bytes. A failed read leaves the count of bytes as it was.
+impl<R: Read> OpenFile<R> {
+    /// Reads the next bytes. It is a fault to ask for more bytes than can be counted. A failed read leaves the count of
+    /// bytes as it was.
     pub fn read(&mut self, buffer: &mut [u8]) -> Result<usize, Failed>
         ensures count { IfOk result (λ n. n ≤ length buffer.old) }
+        ensures len { length buffer.new ≡ length buffer.old }
         ensures read { IfOk result (λ n. self.new.read ≡ self.old.read + n) }
         ensures failed { OnErr result (self.new.read ≡ self.old.read) }
         ensures name { self.new.name ≡ self.old.name }
+        ensures bytes { ReadConsumes (R.remaining self.old.stream) (R.remaining self.new.stream) result buffer.new }
     {
-        let Ok(count) = self.file.read(buffer) else {
+        if buffer.len() > usize::MAX - self.read {
+            return Err(Failed);
+        }
+        let Ok(count) = self.stream.read(buffer) else {
             return Err(Failed);
         };
-        let Some(read) = self.read.checked_add(count as u64) else {
-            return Err(Failed);
-        };
-        self.read = read;
+        self.read += count;
         Ok(count)
     }
 }

@@ -1,5 +1,5 @@
-ghost use Rattle.std.specs.Prelude.{◌≡◌, ℕ, ◌<◌, ◌≤◌, ◌↔◌, List, length, IfSome, IfOk, vec_len};
-ghost use Rattle.xt_io.specs.Outside.{Rose, IsPast};
+ghost use Rattle.std.specs.Prelude.{◌≡◌, ◌≢◌, ℕ, ◌<◌, ◌≤◌, ◌↔◌, List, length, IfSome, IfOk, vec_len};
+ghost use Rattle.xt_io.specs.Outside.{Rose, KeepsCounts, ChangesOnly, IsPast};
 
 use crate::files::Files;
 use crate::read_fail::ReadFail;
@@ -14,14 +14,18 @@ const PIECE_BYTES: usize = 65_536;
 /// Reads the whole file of a name. It is refused as soon as more than [`MOST_BYTES`] bytes of it were read.
 pub fn read_whole<F: Files>(alloc: Global, files: &mut F, name: &str) -> Result<Vec<u8>, ReadFail>
     ensures content { (m : List ℕ) → F.content files.new m ≡ F.content files.old m }
-    ensures counts { (m : List ℕ) → F.faults files.old m ≤ F.faults files.new m }
     ensures read { IfOk result (λ bytes. F.place files.new ≡ Some (record { name = name.now; read = vec_len bytes })) }
-    ensures fits { IfOk result (λ bytes. vec_len bytes ≤ MOST_BYTES) }
+    ensures fits { IfOk result (λ bytes. vec_len bytes ≤ 268435456) }
     ensures whole { IfOk result (λ bytes. IfSome (F.content files.old name.now) (λ whole. bytes.items ≡ whole)) }
-    ensures fault { result ≡ Err ReadFail.Fault → Rose (F.faults files.old name.now) (F.faults files.new name.now) }
-    ensures too_long { (result ≡ Err ReadFail.TooLong) ↔ IsPast (F.place files.new) name.now MOST_BYTES }
+    ensures too_long { (result ≡ Err ReadFail.TooLong) ↔ IsPast (F.place files.new) name.now 268435456 }
     ensures longer { result ≡ Err ReadFail.TooLong → IfSome (F.content files.old name.now)
-        (λ whole. MOST_BYTES < length whole) }
+        (λ whole. 268435456 < length whole) }
+
+    // The counts of faults: only a fault raises one, that of the name.
+    ensures counts { (m : List ℕ) → F.faults files.old m ≤ F.faults files.new m }
+    ensures kept { result ≢ Err ReadFail.Fault → KeepsCounts (F.faults files.old) (F.faults files.new) }
+    ensures fault { result ≡ Err ReadFail.Fault → Rose (F.faults files.old name.now) (F.faults files.new name.now) }
+    ensures others { ChangesOnly name.now (F.faults files.old) (F.faults files.new) }
 {
     if files.open(name).is_err() {
         return Err(ReadFail::Fault);

@@ -1,15 +1,20 @@
+use crate::directory::Directory;
+use crate::directory_files::{DirectoryFiles, HostFiles};
 use crate::failed::Failed;
 use crate::files::Files;
-use crate::host_files::HostFiles;
 use crate::host_stream::{HostErr, HostOut, HostStream};
 use crate::memory_files::MemoryFiles;
 use crate::memory_sink::MemorySink;
 use crate::read_fail::ReadFail;
-use crate::reading::{MOST_BYTES, read_whole};
+use crate::reading::read_whole;
+use crate::recorded_files::RecordedFiles;
+use crate::stream::Stream;
 use crate::writing::write_whole;
 use std::alloc::{AllocError, Global};
 use std::fs::File;
+use std::io::{ErrorKind, Read, Write};
 use std::test::Fail;
+use std::{fs, io, process};
 
 // Bytes of which no two nearby are alike.
 fn sample(alloc: Global, length: usize) -> Result<Vec<u8>, AllocError> {
@@ -82,12 +87,29 @@ fn writes_pieces(rt: HostRuntime) -> Result<(), Fail> {
     Ok(())
 }
 
+// One file is opened, once, and each read asks for a whole buffer.
+#[test]
+fn makes_no_other_calls(rt: HostRuntime) -> Result<(), Fail> {
+    let alloc = rt.alloc();
+    let mut files = RecordedFiles::new(alloc, two_files(alloc, 200_000, &[])?);
+    assert_eq!(rt; read_whole(alloc, &mut files, "a")?.len(), 200_000);
+    assert_eq!(rt; files.opened.len(), 1);
+    assert_eq!(rt; files.opened[0].as_str(), "a");
+    assert_eq!(rt; files.asked.as_slice(), [65_536; 5].as_slice());
+    Ok(())
+}
+
+// A file of several buffers; names that cannot be opened, a folder, and a name of too many bytes.
 #[test]
 fn reads_real_files(rt: HostRuntime) -> Result<(), Fail> {
     let alloc = rt.alloc();
     let mut files = HostFiles::new(rt);
-    let bytes = read_whole(alloc, &mut files, "/proc/self/cmdline")?;
-    assert!(rt; !bytes.is_empty());
+    let sample = sample(alloc, 200_000)?;
+    let name = format!(in alloc; "/tmp/xt_io-{}", process::id(rt.process()))?;
+    fs::write(&rt, name.as_str(), sample.as_slice())?;
+    let bytes = read_whole(alloc, &mut files, name.as_str())?;
+    fs::remove_file(&rt, name.as_str())?;
+    assert!(rt; bytes.as_slice() == sample.as_slice());
     let mut long = String::new(alloc);
     for _ in 0..4096 {
         long.push('x')?;
@@ -116,6 +138,148 @@ fn writes_real_streams(rt: HostRuntime) -> Result<(), Fail> {
     assert_eq!(rt; write_whole(&mut err, b"to standard error\n"), Ok(()));
     let mut full = HostStream::new(File::options().write(true).open(&rt, "/dev/full")?);
     assert_eq!(rt; write_whole(&mut full, b"to a full device"), Err(Failed));
+    Ok(())
+}
+
+// A stream of so many bytes, of which it gives or takes one at a time. It fails once after `fail` bytes.
+#[derive(Drop)]
+struct Trickle {
+    at: usize,
+    length: usize,
+    fail: Option<usize>,
+    taken: Vec<u8>,
+}
+
+impl Trickle {
+    // Whether the next call fails.
+    fn fails(&mut self) -> bool {
+        let fails = self.fail == Some(self.at);
+        if fails {
+            self.fail = None;
+        }
+        fails
+    }
+}
+
+impl Read for Trickle {
+    fn read(&mut self, buffer: &mut [u8]) -> io::Result<usize> {
+        if self.fails() {
+            return Err(io::Error::from(ErrorKind::Other));
+        }
+        if self.at >= self.length || buffer.is_empty() {
+            return Ok(0);
+        }
+        buffer[0] = (self.at % 251) as u8;
+        self.at += 1;
+        Ok(1)
+    }
+}
+
+impl Write for Trickle {
+    fn write(&mut self, piece: &[u8]) -> io::Result<usize> {
+        if self.fails() {
+            return Err(io::Error::from(ErrorKind::Other));
+        }
+        if self.at >= self.length || piece.is_empty() {
+            return Ok(0);
+        }
+        self.taken.push(piece[0])?;
+        self.at += 1;
+        Ok(1)
+    }
+
+    fn flush(&mut self) -> io::Result<()> {
+        Ok(())
+    }
+}
+
+impl Stream for Trickle {
+    ghost use Rattle.std.specs.Prelude.{false};
+
+    ghost known = { false };
+
+    ghost held = { λ _. tt };
+}
+
+// One file, of the name `a`.
+#[derive(Drop)]
+struct Trickles {
+    alloc: Global,
+    length: usize,
+    fail: Option<usize>,
+}
+
+impl Directory for Trickles {
+    type Stream = Trickle;
+
+    ghost use Rattle.std.specs.Prelude.{None};
+
+    ghost content = { λ _ _. None };
+
+    fn open(&self, name: &str) -> Option<Trickle> {
+        if name != "a" {
+            return None;
+        }
+        Some(Trickle {
+            at: 0,
+            length: self.length,
+            fail: self.fail,
+            taken: Vec::new(self.alloc),
+        })
+    }
+}
+
+#[test]
+fn reads_byte_by_byte(rt: HostRuntime) -> Result<(), Fail> {
+    let alloc = rt.alloc();
+    for (name, fail, fault) in [
+        ("a", None, None),
+        ("a", Some(0), Some(ReadFail::Fault)),
+        ("a", Some(400), Some(ReadFail::Fault)),
+        ("a", Some(1000), Some(ReadFail::Fault)),
+        ("b", None, Some(ReadFail::Fault)),
+    ] {
+        let mut files = DirectoryFiles::new(Trickles {
+            alloc,
+            length: 1000,
+            fail,
+        });
+        match read_whole(alloc, &mut files, name) {
+            Ok(bytes) => {
+                assert_eq!(rt; fault, None);
+                assert_eq!(rt; bytes.as_slice(), sample(alloc, 1000)?.as_slice());
+            }
+            Err(fail) => assert_eq!(rt; Some(fail), fault),
+        }
+    }
+    Ok(())
+}
+
+#[test]
+fn writes_byte_by_byte(rt: HostRuntime) -> Result<(), Fail> {
+    let alloc = rt.alloc();
+    let bytes = sample(alloc, 1000)?;
+    for (length, fail, written) in [
+        (1000, None, 1000),
+        (1000, Some(400), 400),
+        (400, None, 400),
+        (1000, Some(0), 0),
+    ] {
+        let mut sink = HostStream::new(Trickle {
+            at: 0,
+            length,
+            fail,
+            taken: Vec::new(alloc),
+        });
+        assert_eq!(rt; write_whole(&mut sink, &bytes).is_ok(), written == 1000);
+        assert_eq!(rt;
+            sink.into_stream().taken.as_slice(),
+            sample(alloc, written)?.as_slice()
+        );
+    }
+    let mut sink = HostStream::new(Vec::new(alloc));
+    assert_eq!(rt; write_whole(&mut sink, &bytes), Ok(()));
+    assert_eq!(rt; sink.into_stream().as_slice(), bytes.as_slice());
     Ok(())
 }
 
@@ -155,17 +319,16 @@ impl Files for Zeros {
     }
 }
 
+// No proof says that the memory for as many bytes as a file may have is found.
 #[test]
 fn refuses_one_byte_too_many(rt: HostRuntime) {
-    for (length, refusal) in [
-        (MOST_BYTES, None),
-        (MOST_BYTES + 1, Some(ReadFail::TooLong)),
-    ] {
-        let mut zeros = Zeros {
-            length,
-            read: None,
-            faults: 0,
-        };
-        assert_eq!(rt; read_whole(rt.alloc(), &mut zeros, "zeros").err(), refusal);
-    }
+    let mut zeros = Zeros {
+        length: 268_435_457,
+        read: None,
+        faults: 0,
+    };
+    assert_eq!(rt;
+        read_whole(rt.alloc(), &mut zeros, "zeros").err(),
+        Some(ReadFail::TooLong)
+    );
 }

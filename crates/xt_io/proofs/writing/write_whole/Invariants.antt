@@ -4,7 +4,7 @@ use Rattle.xt_io.proofs.writing.write_whole.Given as goal
 
 abbrev pub invariant-loop-at : goal.invariant-loop-at
 invariant-loop-at g l = record {
-  counts : g.S.Sink.faults l.fn.sink ≤ g.S.Sink.faults l.sink;
+  counts : g.S.Sink.faults l.sink ≡ g.S.Sink.faults l.fn.sink;
   within : l.at ≤ length l.bytes;
   written : g.S.Sink.written l.sink ≡ appended (g.S.Sink.written l.fn.sink) (take l.at l.bytes);
   untouched : l.at ≡ 0 → l.sink ≡ l.fn.sink;
