@@ -1,16 +1,13 @@
--- Items that are said once.
-use Rattle.std.proofs.Common.{◌≡◌, ◌∙◌, Bool, true, false, cond, not, ◌&&◌, ◌||◌, refl, sym, ap, List, [], ◌∷◌, ◌++◌, Option, Some, None, codes, true≢false, append_assoc, append-nil, inl, inr}
+-- Items whose names differ.
+use Rattle.std.proofs.Common.{◌≡◌, ◌∙◌, Bool, true, false, cond, not, ◌&&◌, ◌||◌, refl, sym, ap, List, [], ◌∷◌, ◌++◌, Option, Some, None, true≢false, append_assoc, append-nil, inl, inr}
 use Rattle.std.proofs.lemmas.Bool.{and_parts, cases_Bool}
 use Rattle.std.proofs.lemmas.List.Folds.{list_any-append}
 use Rattle.std.proofs.lemmas.Slice.Eq.{bytes_eq-Decides}
 use Rattle.std.proofs.Math.Bool.{or-false}
 use Rattle.std.specs.Option.{option_and_then}
 use Rattle.std.specs.Str.{bytes_eq}
-use Rattle.xtalk_top.specs.Words.{Text, Item, has_name, are_once, in_front, items_of}
-use Rattle.xtalk_top.specs.Reading.{given_of}
-
-pub same_bytes : (a : Text) → bytes_eq a a ≡ true
-same_bytes a = (bytes_eq-Decides a a).1 refl
+use Rattle.xtalk_top.specs.Grammar.{Text, Item, CommandForm, are_once, has_name, has_required, in_front, items_of}
+use Rattle.xtalk_top.specs.Reading.{found_items}
 
 true_back : (a b : Text) → bytes_eq a b ≡ true → bytes_eq b a ≡ true
 true_back a b e = (bytes_eq-Decides b a).1 (sym ((bytes_eq-Decides a b).0 e))
@@ -21,10 +18,10 @@ false_back a b e = elim (cases_Bool (bytes_eq b a)) [
   | inr other ↦ other
 ]
 
-pub has_name_more : (name : Text) (items rest : List Item) → has_name name (items ++ rest) ≡ (has_name name items || has_name name rest)
+has_name_more : (name : Text) (items rest : List Item) → has_name name (items ++ rest) ≡ (has_name name items || has_name name rest)
 has_name_more name items rest = list_any-append (λ i. bytes_eq i.0 name) items rest
 
--- a name that is said again
+-- a name that comes again
 twice : (i : Item) (items more : List Item) → has_name i.0 items ≡ true → are_once (items ++ i ∷ more) ≡ false
 twice i [] more e = absurd (true≢false (sym e))
 twice i (j ∷ rest) more e = elim (cases_Bool (bytes_eq j.0 i.0)) [
@@ -44,7 +41,7 @@ pub neither : (a b : Bool) → (a || b) ≡ false → (a ≡ false) × (b ≡ fa
 neither true b e = absurd (true≢false e)
 neither false b e = (refl, e)
 
--- a name that is said for the first time
+-- a name that comes for the first time
 pub once_more : (i : Item) (items : List Item) → are_once items ≡ true → has_name i.0 items ≡ false → are_once (items ++ i ∷ []) ≡ true
 once_more i [] o e = refl
 once_more i (j ∷ rest) o e =
@@ -52,32 +49,24 @@ once_more i (j ∷ rest) o e =
     let names = neither (bytes_eq j.0 i.0) (has_name i.0 rest) e in
     rw (has_name_more j.0 rest (i ∷ []), false_back j.0 i.0 names.0, or-false (has_name j.0 rest), parts.0, once_more i rest parts.1 names.1) refl
 
--- ---- what the words say, behind what was said before them
+-- ---- the items of the words, behind those of the words before them
 
-abbrev pub whole : List Item → Option (List Item)
-whole items = cond (are_once items && has_name (codes "file") items) (Some items) None
+abbrev pub whole : CommandForm → List Item → Option (List Item)
+whole form items = cond (are_once items && has_required form items) (Some items) None
 
-abbrev pub given_after : List Item → Option (List Item) → Option (List Item)
-given_after items rest = option_and_then (λ more. whole (items ++ more)) rest
+abbrev pub found_after : CommandForm → List Item → Option (List Item) → Option (List Item)
+found_after form items rest = option_and_then (λ more. whole form (items ++ more)) rest
 
-pub given_more : (i : Item) (items : List Item) (rest : Option (List Item)) → given_after items (in_front (Some i) rest) ≡ given_after (items ++ i ∷ []) rest
-given_more i items None = refl
-given_more i items (Some more) = ap whole (sym (append_assoc items (i ∷ []) more))
+pub found_more : (form : CommandForm) (i : Item) (items : List Item) (rest : Option (List Item)) → found_after form items (in_front i rest) ≡ found_after form (items ++ i ∷ []) rest
+found_more form i items None = refl
+found_more form i items (Some more) = ap (whole form) (sym (append_assoc items (i ∷ []) more))
 
-pub given_twice : (i : Item) (items : List Item) (rest : Option (List Item)) → has_name i.0 items ≡ true → given_after items (in_front (Some i) rest) ≡ None
-given_twice i items None e = refl
-given_twice i items (Some more) e = rw (twice i items more e) refl
+pub found_twice : (form : CommandForm) (i : Item) (items : List Item) (rest : Option (List Item)) → has_name i.0 items ≡ true → found_after form items (in_front i rest) ≡ None
+found_twice form i items None e = refl
+found_twice form i items (Some more) e = rw (twice i items more e) refl
 
-pub given_first : (words : List Text) → given_after [] (items_of words) ≡ given_of words
-given_first words = go (items_of words)
-  where
-    by : (b : Bool) (items : List Item) → cond (b && has_name (codes "file") items) (Some items) None ≡ option_and_then (λ is. cond (has_name (codes "file") is) (Some is) None) (cond b (Some items) None)
-    by true items = refl
-    by false items = refl
+pub found_first : (form : CommandForm) (words : List Text) → found_after form [] (items_of form words) ≡ found_items form words
+found_first form words = refl
 
-    go : (o : Option (List Item)) → given_after [] o ≡ option_and_then (λ is. cond (has_name (codes "file") is) (Some is) None) (option_and_then (λ is. cond (are_once is) (Some is) None) o)
-    go None = refl
-    go (Some items) = by (are_once items) items
-
-pub given_end : (items : List Item) → given_after items (Some []) ≡ whole items
-given_end items = ap whole (append-nil items)
+pub found_end : (form : CommandForm) (items : List Item) → found_after form items (Some []) ≡ whole form items
+found_end form items = ap (whole form) (append-nil items)

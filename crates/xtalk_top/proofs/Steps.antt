@@ -1,170 +1,185 @@
--- What one word does to a walk of `clap` over the words of `solve`.
-use Rattle.std.proofs.Common.{◌≡◌, ◌∙◌, ℕ, Bool, true, false, cond, ◌&&◌, ◌==◌, refl, sym, ap, List, [], ◌∷◌, ◌++◌, map, Option, Some, None, codes}
-use Rattle.std.proofs.Common.{◌||◌, true≢false, append-nil}
+-- What one word does to a walk of `clap` over words of a form.
+use Rattle.std.proofs.Common.{◌≡◌, ◌∙◌, ℕ, Bool, true, false, cond, ◌&&◌, ◌||◌, ◌==◌, refl, sym, ap, ap₂, List, [], ◌∷◌, ◌++◌, map, Option, Some, None, inl, inr, true≢false, append-nil}
+use Rattle.std.proofs.lemmas.Bool.{cases_Bool}
 use Rattle.std.proofs.lemmas.List.{map-append}
-use Rattle.std.specs.Str.{bytes_eq}
+use Rattle.std.proofs.lemmas.Slice.Eq.{bytes_eq-Decides}
 use Rattle.std.specs.Option.{option_map_or}
+use Rattle.std.specs.Str.{bytes_eq}
+use Rattle.clap.specs.Lexer.{long_of}
 use Rattle.clap.specs.declared.error.kind.ErrorKind.TheVariants as fault_kind
 use Rattle.clap.specs.declared.builder.value_parser.Reading.TheVariants as reading
 use Rattle.clap.specs.declared.parser.matches.ValueSource.TheVariants.{CommandLine}
 use Rattle.clap.specs.Kinds.{Kinds, or_else}
-use Rattle.clap.specs.Walk.{Held, Row, Rule, Walk, idle, option, has_row, settled, used, walked, finished, at_row, with_values, without, more_values, with_default}
-use Rattle.clap.specs.Simple.{Shape, built}
-use Rattle.clap.specs.Faults.{check_fault, defaults_fault, repeat_fault, settle_fault, turn_fault, use_fault}
+use Rattle.clap.specs.Walk.{Held, Row, Rule, Waiting, Walk, after_flag, after_step, arg_by_id, arg_by_index, arg_by_long, at_row, has_row, idle, is_pending, long_met, long_or_other, more_values, option, option_word, settled, to_positional, trailing, used_by_id, walked, with_values, without}
+use Rattle.clap.specs.Faults.{flag_word_fault, long_fault, positional_fault, repeat_fault, settle_fault, step_fault, stray_fault, turn_fault, use_fault}
 use Rattle.clap.proofs.OnLiterals.{clap_on_literals}
-use Rattle.xtalk_top.specs.Words.{Text, Item, has_name}
-use Rattle.xtalk_top.specs.Reading.{file_rule, solve_app}
+use Rattle.xtalk_top.specs.Grammar.{Text, Item, has_name}
+use Rattle.xtalk_top.proofs.Arguments.{IsKnown, Argument, next, rule_of_argument, same_bytes, shape_with}
 
-abbrev pub shape : Shape
-shape = (built solve_app).top
-
-abbrev pub args : List Rule
-args = shape.rules
-
--- the names that `solve` knows
-pub data Name : Type 0 where
-  workers : Name
-  kind : Name
-
-abbrev pub id : Name → Text
-id workers = codes "workers"
-id kind = codes "kind"
-
--- an option's word, and the same with a value behind it
-abbrev pub word_of : Name → Text
-word_of workers = codes "--workers"
-word_of kind = codes "--kind"
-
-abbrev pub start_of : Name → Text
-start_of workers = codes "--workers="
-start_of kind = codes "--kind="
+abbrev pub ready : Held → ℕ → Walk
+ready h p = record { held = h; waiting = idle; position = p; is_trailing = false; stopped = None }
 
 abbrev pub row : Item → Row
 row i = record { id = i.0; values = i.1 ∷ []; count = None; source = Some CommandLine; reading = reading.AsWritten }
 
-abbrev pub first_rule : List Rule → Rule
-first_rule [] = file_rule
-first_rule (a ∷ more) = a
-
-abbrev pub second_rule : List Rule → Rule
-second_rule [] = file_rule
-second_rule (a ∷ more) = first_rule more
-
-abbrev pub resting : Held → ℕ → Walk
-resting h position = record { held = h; waiting = idle; position = position; is_trailing = false; stopped = None }
-
-abbrev pub open_held : Text → Held → Held
-open_held name h = record { rows = (settled args h).rows; pending = Some (name, []); skip = h.skip }
-
-abbrev pub opened : Text → Held → ℕ → Walk
-opened name h position = record { held = open_held name h; waiting = option name; position = position; is_trailing = false; stopped = None }
-
--- an option's word at rest
-pub option_turn : (n : Name) (h : Held) (p : ℕ) → turn_fault shape [] (resting h p) (word_of n) ≡ or_else (settle_fault args false h) []
-unfolding clap_on_literals
-option_turn workers h p = refl
-option_turn kind h p = refl
-
-pub option_walked : (n : Name) (h : Held) (p : ℕ) → walked args [] (resting h p) (word_of n) ≡ opened (id n) h p
-unfolding clap_on_literals
-option_walked workers h p = refl
-option_walked kind h p = refl
-
--- the value of an option that waits for it
-pub value_turn : (n : Name) (h : Held) (p b : ℕ) (more : Text) → (b == 45) ≡ false → turn_fault shape [] (opened (id n) h p) (b ∷ more) ≡ []
-unfolding clap_on_literals
-value_turn workers h p b more e = rw e (rw e refl)
-value_turn kind h p b more e = rw e (rw e refl)
-
-abbrev pub given_held : Text → Text → Held → Held
-given_held name value h = record { rows = (settled args h).rows; pending = Some (name, value ∷ []); skip = h.skip }
-
-pub value_walked : (n : Name) (h : Held) (p b : ℕ) (more : Text) → (b == 45) ≡ false → walked args [] (opened (id n) h p) (b ∷ more) ≡ resting (given_held (id n) (b ∷ more) h) p
-unfolding clap_on_literals
-value_walked workers h p b more e = rw e (rw e refl)
-value_walked kind h p b more e = rw e (rw e refl)
-
--- an option with its value behind `=`
-abbrev pub rule_of_name : Name → Rule
-rule_of_name workers = first_rule args
-rule_of_name kind = second_rule args
-
-pub attached_turn : (n : Name) (h : Held) (p : ℕ) (v : Text) → turn_fault shape [] (resting h p) (start_of n ++ v) ≡ or_else (or_else (settle_fault args false h) (use_fault false (rule_of_name n) (v ∷ []) (settled args h).rows)) []
-unfolding clap_on_literals
-attached_turn workers h p v = refl
-attached_turn kind h p v = refl
-
-pub attached_walked : (n : Name) (h : Held) (p : ℕ) (v : Text) → walked args [] (resting h p) (start_of n ++ v) ≡ resting (record { rows = used (rule_of_name n) (v ∷ []) (settled args h).rows; pending = None; skip = h.skip }) p
-unfolding clap_on_literals
-attached_walked workers h p v = refl
-attached_walked kind h p v = refl
-
--- an option that waits for its value gets none
-pub missed_turn : (n m : Name) (h : Held) (p : ℕ) → turn_fault shape [] (opened (id n) h p) (word_of m) ≡ fault_kind.InvalidValue ∷ []
-unfolding clap_on_literals
-missed_turn workers workers h p = refl
-missed_turn workers kind h p = refl
-missed_turn kind workers h p = refl
-missed_turn kind kind h p = refl
-
-pub missed_turn_attached : (n m : Name) (h : Held) (p : ℕ) (v : Text) → turn_fault shape [] (opened (id n) h p) (start_of m ++ v) ≡ fault_kind.InvalidValue ∷ []
-unfolding clap_on_literals
-missed_turn_attached workers workers h p v = refl
-missed_turn_attached workers kind h p v = refl
-missed_turn_attached kind workers h p v = refl
-missed_turn_attached kind kind h p v = refl
-
--- a file
-never : (b : Bool) → (b && false) ≡ false
-never true = refl
-never false = refl
-
-abbrev holds_file : Option (Text × List Text) → Bool
-holds_file p = option_map_or (λ q. bytes_eq q.0 (codes "file")) p false
-
-pub file_turn : (h : Held) (b : ℕ) (more : Text) → (b == 45) ≡ false → turn_fault shape [] (resting h 1) (b ∷ more) ≡ settle_fault args false h
-unfolding clap_on_literals
-file_turn h b more e = rw e (rw e (rw (never (holds_file h.pending)) refl))
-
-pub second_file_turn : (h : Held) (b : ℕ) (more : Text) → (b == 45) ≡ false → turn_fault shape [] (resting h 2) (b ∷ more) ≡ fault_kind.UnknownArgument ∷ []
-unfolding clap_on_literals
-second_file_turn h b more e = rw e (rw e refl)
-
-pub file_walked : (h : Held) (b : ℕ) (more : Text) → (b == 45) ≡ false → walked args [] (resting h 1) (b ∷ more) ≡ resting (given_held (codes "file") (b ∷ more) h) 2
-unfolding clap_on_literals
-file_walked h b more e = rw e (rw e (rw (never (holds_file h.pending)) refl))
-
--- an option or a file whose use is at its end
-pub data Use : Type 0 where
-  of_option : Name → Use
-  of_file : Use
-
-abbrev pub name_of : Use → Text
-name_of (of_option n) = id n
-name_of of_file = codes "file"
-
-pub settle_is : (u : Use) (v : Text) (rows : List Row) (skip : ℕ)
-    → settle_fault args false (record { rows = rows; pending = Some (name_of u, v ∷ []); skip = skip }) ≡ or_else (repeat_fault false (name_of u) rows) []
-settle_is (of_option workers) v rows skip = refl
-settle_is (of_option kind) v rows skip = refl
-settle_is of_file v rows skip = refl
-
-pub use_is : (n : Name) (v : Text) (rows : List Row) → use_fault false (rule_of_name n) (v ∷ []) rows ≡ or_else (repeat_fault false (id n) rows) []
-use_is workers v rows = refl
-use_is kind v rows = refl
-
 abbrev pub used_as_new : Text → Text → List Row → List Row
 used_as_new name v rows = with_values name reading.AsWritten CommandLine (v ∷ []) (without name rows)
 
-pub settled_is : (u : Use) (v : Text) (rows : List Row) (skip : ℕ)
-    → (settled args (record { rows = rows; pending = Some (name_of u, v ∷ []); skip = skip })).rows ≡ used_as_new (name_of u) v rows
-settled_is (of_option workers) v rows skip = refl
-settled_is (of_option kind) v rows skip = refl
-settled_is of_file v rows skip = refl
+abbrev dashes : Text
+dashes = 45 ∷ 45 ∷ []
 
-pub used_is : (n : Name) (v : Text) (rows : List Row) → used (rule_of_name n) (v ∷ []) rows ≡ used_as_new (id n) v rows
-used_is workers v rows = refl
-used_is kind v rows = refl
+pub no_dashes : (word : Text) (p : Text × Option Text) → long_of word ≡ Some p → bytes_eq word dashes ≡ false
+no_dashes word p e = elim (cases_Bool (bytes_eq word dashes)) [
+  | inr other ↦ other
+  | inl same ↦ absurd (none_is_not_some (ap long_of (sym ((bytes_eq-Decides word dashes).0 same)) ∙ e))
+]
+  where
+    none_is_not_some : ◌≡◌ {A = Option (Text × Option Text)} None (Some p) → ⊥
+    none_is_not_some e = true≢false (sym (ap (λ (x : Option (Text × Option Text)). elim x as (λ _. Bool) [ None ↦ false | Some y ↦ true ]) e))
+
+pub never : (b : Bool) → (b && false) ≡ false
+never true = refl
+never false = refl
+
+-- ---- an argument that is used
+
+module _ (c : List Rule) where
+  abbrev pub open_held : Text → Held → Held
+  open_held name h = record { rows = (settled c h).rows; pending = Some (name, []); skip = h.skip }
+
+  abbrev pub given_held : Text → Text → Held → Held
+  given_held name value h = record { rows = (settled c h).rows; pending = Some (name, value ∷ []); skip = h.skip }
+
+  abbrev pub attached_held : Text → Text → Held → Held
+  attached_held name v h = record { rows = used_as_new name v (settled c h).rows; pending = None; skip = h.skip }
+
+  abbrev pub opened : Text → Held → ℕ → Walk
+  opened name h p = record { held = open_held name h; waiting = option name; position = p; is_trailing = false; stopped = None }
+
+  -- a use that is pending, with its value
+  pub settle_is : (name v : Text) (rows : List Row) (skip : ℕ) → IsKnown c name
+      → settle_fault c false (record { rows = rows; pending = Some (name, v ∷ []); skip = skip }) ≡ or_else (repeat_fault false name rows) []
+  settle_is name v rows skip k =
+      ap (λ (o : Option Rule). option_map_or (λ a. use_fault false a (v ∷ []) rows) o []) k.found
+      ∙ ap (λ n. or_else (repeat_fault false n rows) []) k.called
+
+  -- an option that is pending, and has no value
+  pub open_is : (name : Text) (h : Held) → IsKnown c name → settle_fault c false (open_held name h) ≡ fault_kind.InvalidValue ∷ []
+  open_is name h k = ap (λ (o : Option Rule). option_map_or (λ a. use_fault false a [] (settled c h).rows) o []) k.found
+
+  pub settled_is : (name v : Text) (rows : List Row) (skip : ℕ) → IsKnown c name
+      → (settled c (record { rows = rows; pending = Some (name, v ∷ []); skip = skip })).rows ≡ used_as_new name v rows
+  settled_is name v rows skip k = ap (λ (o : Option Rule). used_by_id o (v ∷ []) rows) k.found ∙ ap (λ n. used_as_new n v rows) k.called
+
+-- ---- the word of an option
+
+module _ (c : List Rule) where
+  abbrev turn_by : (h : Held) (waiting : Waiting) (p : ℕ) (word : Text) → Bool → Option (Text × Option Text) → Kinds
+  turn_by h waiting p word dashed long =
+      let met = cond dashed (h, trailing p) (long_or_other c waiting word long h) in
+      or_else (cond dashed [] (flag_word_fault c false long word h)) (step_fault (shape_with c) p met.0 met.1)
+
+  abbrev walked_by : (h : Held) (waiting : Waiting) (p : ℕ) (word : Text) → Bool → Option (Text × Option Text) → Walk
+  walked_by h waiting p word dashed long =
+      let met = cond dashed (h, trailing p) (long_or_other c waiting word long h) in
+      after_step c word (record { held = h; waiting = waiting; position = p; is_trailing = false; stopped = None }) met.0 met.1
+
+  abbrev turn_long : (h : Held) (waiting : Waiting) (p : ℕ) (word : Text) → Option Text → Option Rule → Kinds
+  turn_long h waiting p word value a =
+      let met = after_flag c waiting word (long_met c a value h).0 (long_met c a value h).1 in
+      or_else (long_fault c false a value h) (step_fault (shape_with c) p met.0 met.1)
+
+  abbrev walked_long : (h : Held) (waiting : Waiting) (p : ℕ) (word : Text) → Option Text → Option Rule → Walk
+  walked_long h waiting p word value a =
+      let met = after_flag c waiting word (long_met c a value h).0 (long_met c a value h).1 in
+      after_step c word (record { held = h; waiting = waiting; position = p; is_trailing = false; stopped = None }) met.0 met.1
+
+  turn_found : (h : Held) (waiting : Waiting) (p : ℕ) (word name : Text) (value : Option Text) (a : Rule) → long_of word ≡ Some (name, value)
+      → arg_by_long c name ≡ Some a → turn_by h waiting p word (bytes_eq word dashes) (long_of word) ≡ turn_long h waiting p word value (Some a)
+  turn_found h waiting p word name value a e found =
+      ap₂ (turn_by h waiting p word) (no_dashes word (name, value) e) e ∙ ap (turn_long h waiting p word value) found
+
+  walked_found : (h : Held) (waiting : Waiting) (p : ℕ) (word name : Text) (value : Option Text) (a : Rule) → long_of word ≡ Some (name, value)
+      → arg_by_long c name ≡ Some a → walked_by h waiting p word (bytes_eq word dashes) (long_of word) ≡ walked_long h waiting p word value (Some a)
+  walked_found h waiting p word name value a e found =
+      ap₂ (walked_by h waiting p word) (no_dashes word (name, value) e) e ∙ ap (walked_long h waiting p word value) found
+
+  -- `--name`
+  pub option_turn : (h : Held) (p : ℕ) (word name : Text) (s : Argument) → long_of word ≡ Some (name, None) → arg_by_long c name ≡ Some (rule_of_argument s)
+      → turn_fault (shape_with c) [] (ready h p) word ≡ or_else (settle_fault c false h) []
+  option_turn h p word name s e found = turn_found h idle p word name None (rule_of_argument s) e found
+
+  pub option_walked : (h : Held) (p : ℕ) (word name : Text) (s : Argument) → long_of word ≡ Some (name, None) → arg_by_long c name ≡ Some (rule_of_argument s)
+      → s.name ≡ name → walked c [] (ready h p) word ≡ opened c name h p
+  unfolding clap_on_literals
+  option_walked h p word name s e found is = walked_found h idle p word name None (rule_of_argument s) e found ∙ ap (λ n. opened c n h p) is
+
+  -- `--name=value`
+  pub attached_turn : (h : Held) (p : ℕ) (word name v : Text) (s : Argument) → long_of word ≡ Some (name, Some v) → arg_by_long c name ≡ Some (rule_of_argument s) → s.name ≡ name
+      → turn_fault (shape_with c) [] (ready h p) word ≡ or_else (or_else (settle_fault c false h) (or_else (repeat_fault false name (settled c h).rows) [])) []
+  attached_turn h p word name v s e found is =
+      turn_found h idle p word name (Some v) (rule_of_argument s) e found
+      ∙ ap (λ n. or_else (or_else (settle_fault c false h) (or_else (repeat_fault false n (settled c h).rows) [])) []) is
+
+  pub attached_walked : (h : Held) (p : ℕ) (word name v : Text) (s : Argument) → long_of word ≡ Some (name, Some v) → arg_by_long c name ≡ Some (rule_of_argument s) → s.name ≡ name
+      → walked c [] (ready h p) word ≡ ready (attached_held c name v h) p
+  unfolding clap_on_literals
+  attached_walked h p word name v s e found is = walked_found h idle p word name (Some v) (rule_of_argument s) e found ∙ ap (λ n. ready (attached_held c n v h) p) is
+
+  -- the word of an option, where another waits for its value
+  pub missed_turn : (h : Held) (p : ℕ) (waits word name : Text) (value : Option Text) (s : Argument) → IsKnown c waits → long_of word ≡ Some (name, value)
+      → arg_by_long c name ≡ Some (rule_of_argument s) → turn_fault (shape_with c) [] (opened c waits h p) word ≡ fault_kind.InvalidValue ∷ []
+  missed_turn h p waits word name None s k e found =
+      turn_found (open_held c waits h) (option waits) p word name None (rule_of_argument s) e found ∙ ap (λ ks. or_else ks []) (open_is c waits h k)
+  missed_turn h p waits word name (Some v) s k e found =
+      turn_found (open_held c waits h) (option waits) p word name (Some v) (rule_of_argument s) e found
+      ∙ ap (λ ks. or_else (or_else ks (use_fault false (rule_of_argument s) (v ∷ []) (settled c (open_held c waits h)).rows)) []) (open_is c waits h k)
+
+  -- ---- a plain word
+
+  plain_turn : (h : Held) (p b : ℕ) (more : Text) → (b == 45) ≡ false → turn_fault (shape_with c) [] (ready h p) (b ∷ more) ≡ option_map_or (λ a. positional_fault c false a h) (arg_by_index c p) (stray_fault (shape_with c))
+  plain_turn h p b more e = rw e (rw e refl)
+
+  plain_walked : (h : Held) (p b : ℕ) (more : Text) → (b == 45) ≡ false → walked c [] (ready h p) (b ∷ more) ≡ to_positional c (arg_by_index c p) (b ∷ more) (ready h p) h
+  unfolding clap_on_literals
+  plain_walked h p b more e = rw e (rw e refl)
+
+  -- where a positional word is left, it takes the word
+  pub positional_turn : (h : Held) (p b : ℕ) (more : Text) (s : Argument) → (b == 45) ≡ false → arg_by_index c p ≡ Some (rule_of_argument s)
+      → turn_fault (shape_with c) [] (ready h p) (b ∷ more) ≡ settle_fault c false h
+  positional_turn h p b more s e found =
+      plain_turn h p b more e ∙ ap (λ (o : Option Rule). option_map_or (λ a. positional_fault c false a h) o (stray_fault (shape_with c))) found
+      ∙ ap (λ several. cond several [] (settle_fault c false h)) (never (is_pending (rule_of_argument s) h.pending))
+
+  pub positional_walked : (h : Held) (p b : ℕ) (more : Text) (s : Argument) → (b == 45) ≡ false → arg_by_index c p ≡ Some (rule_of_argument s)
+      → walked c [] (ready h p) (b ∷ more) ≡ ready (given_held c s.name (b ∷ more) h) (next p)
+  positional_walked h p b more s e found =
+      plain_walked h p b more e ∙ ap (λ (o : Option Rule). to_positional c o (b ∷ more) (ready h p) h) found
+      ∙ rw (never (is_pending (rule_of_argument s) h.pending)) refl
+
+  -- where none is left, it is one too many
+  pub stray_turn : (h : Held) (p b : ℕ) (more : Text) → (b == 45) ≡ false → arg_by_index c p ≡ None
+      → turn_fault (shape_with c) [] (ready h p) (b ∷ more) ≡ fault_kind.UnknownArgument ∷ []
+  stray_turn h p b more e none =
+      plain_turn h p b more e ∙ ap (λ (o : Option Rule). option_map_or (λ a. positional_fault c false a h) o (stray_fault (shape_with c))) none
+
+  -- the value of an option that waits for it
+  pub value_turn : (name : Text) (h : Held) (p b : ℕ) (more : Text) → (b == 45) ≡ false → turn_fault (shape_with c) [] (opened c name h p) (b ∷ more) ≡ []
+  value_turn name h p b more e = rw e (rw e refl)
+
+  value_met : (name : Text) (h : Held) (p b : ℕ) (more : Text) → (b == 45) ≡ false
+      → walked c [] (opened c name h p) (b ∷ more) ≡ (let met = option_word (arg_by_id c name) name (b ∷ more) (open_held c name h) in record { held = met.0; waiting = met.1; position = p; is_trailing = false; stopped = None })
+  unfolding clap_on_literals
+  value_met name h p b more e = rw e (rw e refl)
+
+  value_held : (name word : Text) (h : Held) (s : Argument) → s.name ≡ name → option_word (Some (rule_of_argument s)) name word (open_held c name h) ≡ (given_held c name word h, idle)
+  value_held name word h s is = rw (is, same_bytes name) refl
+
+  pub value_walked : (name : Text) (h : Held) (p b : ℕ) (more : Text) → IsKnown c name → (b == 45) ≡ false → walked c [] (opened c name h p) (b ∷ more) ≡ ready (given_held c name (b ∷ more) h) p
+  value_walked name h p b more k e =
+      let walk_at : Held × Waiting → Walk = λ met. record { held = met.0; waiting = met.1; position = p; is_trailing = false; stopped = None } in
+      value_met name h p b more e ∙ ap (λ (o : Option Rule). walk_at (option_word o name (b ∷ more) (open_held c name h))) k.found
+      ∙ ap walk_at (value_held name (b ∷ more) h k.argument k.called)
 
 -- ---- rows and items
 
@@ -182,7 +197,7 @@ at_new_row name change missing (i ∷ rest) e = go (bytes_eq i.0 name) (at_new_r
     go true more e = absurd (true≢false e)
     go false more e = ap (λ rs. row i ∷ rs) (more e)
 
--- what is said for the first time has a new row
+-- what is value_of for the first time has a new row
 pub new_row : (name v : Text) (items : List Item) → has_name name items ≡ false → used_as_new name v (map row items) ≡ map row (items ++ (name, v) ∷ [])
 new_row name v items e =
     ap (with_values name reading.AsWritten CommandLine (v ∷ [])) (at_new_row name (λ _. []) [] items e ∙ append-nil (map row items))
@@ -193,29 +208,3 @@ no_repeat name items e = rw (has_row_is name items ∙ e) refl
 
 pub repeat : (name : Text) (items : List Item) → has_name name items ≡ true → repeat_fault false name (map row items) ≡ fault_kind.ArgumentConflict ∷ []
 repeat name items e = rw (has_row_is name items ∙ e) refl
-
--- ---- the end of the words
-
-abbrev pub end_fault : Held → Kinds
-end_fault h = or_else (settle_fault args false h) (or_else (defaults_fault (settled args h).rows args) (check_fault shape (finished args h) false))
-
-same_either : {X : Type 0} (b : Bool) (x : X) → cond b x x ≡ x
-same_either true x = refl
-same_either false x = refl
-
-always : (b : Bool) → (b || true) ≡ true
-always true = refl
-always false = refl
-
--- no argument of `solve` has a default
-pub finished_is : (h : Held) → finished args h ≡ (settled args h).rows
-finished_is h =
-    let rows = (settled args h).rows in
-    rw (same_either (has_row (codes "workers") rows) rows, same_either (has_row (codes "kind") rows) rows, same_either (has_row (codes "file") rows) rows) refl
-
-pub no_defaults : (rows : List Row) → defaults_fault rows args ≡ []
-unfolding clap_on_literals
-no_defaults rows =
-    let first : List Row = with_default rows (first_rule args) in
-    let second : List Row = with_default first (second_rule args) in
-    rw (always (has_row (codes "workers") rows), always (has_row (codes "kind") first), always (has_row (codes "file") second)) refl

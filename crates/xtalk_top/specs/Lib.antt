@@ -1,5 +1,7 @@
-pub mod Words
+pub mod Grammar
+pub mod Forms
 pub mod Reading
-pub mod Lines
-pub mod Limits
+pub mod Words
 pub mod Outcome
+pub mod Solve
+pub mod Call

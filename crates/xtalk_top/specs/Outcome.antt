@@ -1,113 +1,100 @@
--- What the bytes of a file mean for the program, and what a call does with them.
-use Rattle.std.specs.Prelude.{◌≡◌, Bool, ℕ, ℤ, ◌<◌, ◌≤◌, List, [], length, Option, None, IfSome, unwrap_or}
-use Rattle.std.specs.Option.{IsSomeAnd}
+-- What a call comes to, and the steps that its commands share: a file, a linked text, a design.
+use Rattle.std.specs.Prelude.{◌≡◌, ℕ, ◌<◌, ◌≤◌, ◌⊎◌, List, length, Option, Some, IfSome}
 use Rattle.xt_model.specs.declared.quad.Pair.{Pair}
+use Rattle.xt_model.specs.declared.code.Code.TheVariants.{X9}
+use Rattle.xt_model.specs.declared.net.Net.{Net}
+use Rattle.std.specs.List.{slice_get}
 use Rattle.xt_model.specs.Assign.{assigned}
 use Rattle.xt_model.specs.Parts.{Parts}
 use Rattle.xt_model.specs.Sound.{IsSound}
 use Rattle.xt_model.specs.Levels.{AreLevels}
-use Rattle.xt_model.specs.declared.fault.Code.TheVariants.{X9}
-use Rattle.xt_meaning.specs.Lines.{text_of}
-use Rattle.xt_meaning.specs.Linked.{linked}
+use Rattle.text_lines.specs.Lines.{text_of}
+use Rattle.linked_text.specs.Linked.{linked, IsLinkable}
+use Rattle.xt_meaning.specs.Envelope.{IsWidest, IsAccepted}
 use Rattle.xt_meaning.specs.Fixpoint.{IsContained, IsFixpoint}
-use Rattle.xt_meaning.specs.Report.{IsReport}
-use Rattle.xt_io.specs.Outside.{Rose, appended, IsPrefixAppended}
-use Rattle.envelope.specs.declared.fault.What.{What}
-use Rattle.xtalk_top.specs.Limits.{KeepsLimits, IsPassed}
+use Rattle.report_text.specs.Report.{IsReport}
+use Rattle.envelope.specs.Firsts.{IsFirstPassed}
+use Rattle.report_text.specs.Kinds.{of_checks}
+use Rattle.report_text.specs.declared.kind.ReportKind.{ReportKind}
+use Rattle.transitions.specs.Transitions.{Transition, AreConsistent}
+use Rattle.transitions.specs.Laws.{LieWithin}
+use Rattle.xtalk_top.specs.Words.{Text}
+use Rattle.xtalk_top.specs.declared.refusal.PassedLimit.{PassedLimit}
 use Rattle.xtalk_top.specs.declared.refusal.Refusal.{Refusal}
-use Rattle.xtalk_top.specs.declared.refusal.Refusal.TheVariants.{Words, Long, Text, Limit, Read, Write, Memory}
+use Rattle.xtalk_top.specs.declared.refusal.DesignRefusal.TheVariants.{Limit}
+use Rattle.xtalk_top.specs.declared.refusal.TextRefusal.TheVariants.{At}
+use Rattle.xtalk_top.specs.declared.refusal.FileRefusal.TheVariants.{TooLong, Content}
+use Rattle.xtalk_top.specs.declared.refusal.Refusal.TheVariants.{File, Design}
 
--- the bytes, which are no more than a file may have, are the linked text of this design, which is sound and has
--- levels, and which the program takes as yet: one without checks
-pub record IsDesignText (bytes : List ℕ) (d : Parts) : Type 0 where
+-- what the file of each name holds, where that is known
+abbrev pub Contents : Type 0
+Contents = Text → Option Text
+
+-- what words and files come to: a text to print; a refusal, which has its status and its line; or a file that cannot
+-- be read, all files before it being accepted
+pub data Outcome : Type 0 where
+  prints : Text → Outcome
+  refuses : Refusal → Outcome
+  unread : Text → Outcome
+
+-- ---- a file
+
+-- the most bytes that a file may have: 256 MiB
+abbrev pub most_bytes : ℕ
+most_bytes = 268435456
+
+-- a file of a command: it cannot be read; or it has too many bytes; or it holds bytes that lead to the outcome, no more
+-- than a file may have, and its content where that is known
+abbrev pub FileMeans : Text → Contents → (Text → Type 0) → Outcome → Type 0
+FileMeans file content Leads outcome =
+    (outcome ≡ unread file)
+    ⊎ ((IfSome (content file) (λ whole. most_bytes < length whole) × (outcome ≡ refuses (File file TooLong)))
+    ⊎ ((bytes : Text) × IfSome (content file) (λ whole. bytes ≡ whole) × (length bytes ≤ most_bytes) × Leads bytes))
+
+-- ---- a linked text
+
+-- the bytes are the linked text of this design, which is sound and has levels, and which is taken as yet: one without
+-- checks, whose couplings count by the classical factors
+pub record IsDesignText (bytes : Text) (d : Parts) : Type 0 where
   pub levels : List ℕ
   pub sound : IsSound d
   pub levelled : AreLevels d.nets levels
-  pub unchecked : d.checks ≡ []
+  pub linkable : IsLinkable d
   pub written : bytes ≡ text_of (linked d)
-  pub fits : length bytes ≤ 268435456
 
--- the bytes are more than a file may have
-abbrev pub IsTooLong : List ℕ → Type 0
-IsTooLong bytes = 268435456 < length bytes
+-- the bytes of a file as a linked text: they are of no design, and refused at line 1; or their design leads to the
+-- outcome
+abbrev pub LinkedMeans : Text → Text → (Parts → Type 0) → Outcome → Type 0
+LinkedMeans file bytes Leads outcome =
+    (((d : Parts) → IsDesignText bytes d → ⊥) × (outcome ≡ refuses (File file (Content (At 1 X9)))))
+    ⊎ ((d : Parts) × IsDesignText bytes d × Leads d)
 
--- the bytes are no more than a file may have, and the text of no such design
-abbrev pub IsRefusedText : List ℕ → Type 0
-IsRefusedText bytes = (length bytes ≤ 268435456) × ((d : Parts) → IsDesignText bytes d → ⊥)
+-- ---- a design
 
--- the bytes are the text of a design whose envelope passes a limit, first at a net of this name
-abbrev pub IsLimitedText : List ℕ → What → List ℕ → ℤ → Type 0
-IsLimitedText bytes what net value = (d : Parts) × IsDesignText bytes d × IsPassed d what net value
+-- in the envelope, where everything overlaps, this is the first limit that is passed
+pub record IsPassed (d : Parts) (passed : PassedLimit) : Type 0 where
+  pub number : ℕ
+  pub net : Net
+  pub there : slice_get d.nets number ≡ Some net
+  pub called : passed.name ≡ Some net.name
+  pub first : IsFirstPassed d number passed.what passed.value
 
--- the text is the report of the design whose linked text the bytes are, and whose envelope keeps the limits: of its
--- least and its greatest fixpoint, whole or of the checks alone; and every fixpoint contains the one and lies within
--- the other
-pub record IsAnswer (checks : Bool) (bytes text : List ℕ) : Type 0 where
-  pub design : Parts
-  pub read : IsDesignText bytes design
-  pub limits : KeepsLimits design
-  pub report : IsReport checks design text
-  pub above : (v : List Pair) → IsFixpoint design v → IsContained (assigned report.low) (assigned v)
-  pub below : (v : List Pair) → IsFixpoint design v → IsContained (assigned v) (assigned report.high)
+-- in the envelope no limit is passed
+pub record KeepsLimits (d : Parts) : Type 0 where
+  pub envelope : List Pair
+  pub widest : IsWidest d envelope
+  pub accepted : IsAccepted d envelope
 
--- why there is no report of a design
-abbrev pub IsDesignCause : Parts → Refusal → Type 0
-IsDesignCause d Words = ⊥
-IsDesignCause d Long = ⊥
-IsDesignCause d (Text line code) = ⊥
-IsDesignCause d (Limit what net value) = IsPassed d what net value
-IsDesignCause d Read = ⊥
-IsDesignCause d Write = ⊥
-IsDesignCause d Memory = Unit {0}
+-- the text is the report, of this kind, of the design's least and greatest fixpoint; every fixpoint contains the least
+-- and lies within the greatest; and all transitions that explain one another lie within the greatest
+pub record IsSolution (kind : ReportKind) (d : Parts) (text : Text) : Type 0 where
+  pub report : IsReport (of_checks kind) d text
+  pub above : (v : List Pair) → IsFixpoint d v → IsContained (assigned report.low) (assigned v)
+  pub below : (v : List Pair) → IsFixpoint d v → IsContained (assigned v) (assigned report.high)
+  pub consistent : (xs : List Transition) → AreConsistent d xs → LieWithin (assigned report.high) xs
 
--- why there is no report for the bytes of a file
-abbrev pub IsBytesCause : List ℕ → Refusal → Type 0
-IsBytesCause bytes Words = ⊥
-IsBytesCause bytes Long = ⊥
-IsBytesCause bytes (Text line code) = (line ≡ 1) × (code ≡ X9) × IsRefusedText bytes
-IsBytesCause bytes (Limit what net value) = IsLimitedText bytes what net value
-IsBytesCause bytes Read = ⊥
-IsBytesCause bytes Write = ⊥
-IsBytesCause bytes Memory = Unit {0}
-
--- why there is no report for a file: its content, where that is told, is too long, is refused or passes a limit, or
--- its count of faults rose
-abbrev pub IsFileCause : Option (List ℕ) → ℕ → ℕ → Refusal → Type 0
-IsFileCause content faults_before faults_after Words = ⊥
-IsFileCause content faults_before faults_after Long = IfSome content IsTooLong
-IsFileCause content faults_before faults_after (Text line code) = (line ≡ 1) × (code ≡ X9) × IfSome content IsRefusedText
-IsFileCause content faults_before faults_after (Limit what net value) = IfSome content (λ bytes. IsLimitedText bytes what net value)
-IsFileCause content faults_before faults_after Read = Rose faults_before faults_after
-IsFileCause content faults_before faults_after Write = ⊥
-IsFileCause content faults_before faults_after Memory = Unit {0}
-
--- the answer to the file's content, where that is told, was appended
-abbrev pub Appends : Bool → Option (List ℕ) → Option (List ℕ) → Option (List ℕ) → Type 0
-Appends checks content before after = IfSome content (λ bytes. (text : List ℕ) × IsAnswer checks bytes text × (after ≡ appended before text))
-
--- some first part of the answer to the file's content, where that is told, was appended
-abbrev pub AppendsPart : Bool → Option (List ℕ) → Option (List ℕ) → Option (List ℕ) → Type 0
-AppendsPart checks content before after = IfSome content (λ bytes. (text : List ℕ) × IsAnswer checks bytes text × IsPrefixAppended before after text)
-
--- what a call did to the output, and its count of faults before and after
-pub record Output : Type 0 where
-  pub before : Option (List ℕ)
-  pub after : Option (List ℕ)
-  pub faults_before : ℕ
-  pub faults_after : ℕ
-
--- why a call gave no report, or not all of it: the words name no file; its content is too long, is refused, or
--- passes a limit; its count of faults rose; that of the output rose, after some first part of the report; there was
--- no memory
-abbrev pub IsCause : Bool → Option (List ℕ) → (List ℕ → Option (List ℕ)) → (List ℕ → ℕ) → (List ℕ → ℕ) → Output → Refusal → Type 0
-IsCause checks file content before after out Words = file ≡ None
-IsCause checks file content before after out Long = IsSomeAnd file (λ name. IsFileCause (content name) (before name) (after name) Long)
-IsCause checks file content before after out (Text line code) = IsSomeAnd file (λ name. IsFileCause (content name) (before name) (after name) (Text line code))
-IsCause checks file content before after out (Limit what net value) = IsSomeAnd file (λ name. IsFileCause (content name) (before name) (after name) (Limit what net value))
-IsCause checks file content before after out Read = IsSomeAnd file (λ name. Rose (before name) (after name))
-IsCause checks file content before after out Write = Rose out.faults_before out.faults_after × IsSomeAnd file (λ name. AppendsPart checks (content name) out.before out.after)
-IsCause checks file content before after out Memory = Unit {0}
-
--- the name of the file, nothing where the words name none
-abbrev pub name_of : Option (List ℕ) → List ℕ
-name_of file = unwrap_or file []
+-- a design that is solved: its envelope passes a limit; or it keeps the limits, and its report is printed
+abbrev pub DesignMeans : ReportKind → Parts → Outcome → Type 0
+DesignMeans kind d outcome =
+    ((passed : PassedLimit) × IsPassed d passed × (outcome ≡ refuses (Design (Limit passed))))
+    ⊎ (KeepsLimits d × (text : Text) × IsSolution kind d text × (outcome ≡ prints text))

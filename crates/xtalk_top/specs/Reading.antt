@@ -1,34 +1,39 @@
--- How the words of `solve` are read: a test of each word, then one command of `clap`.
-use Rattle.std.specs.Prelude.{Bool, true, false, ◌&&◌, ◌||◌, nat_eq, List, [], ◌∷◌, codes, Option, Some, None, if◌then◌else◌, option_and_then}
-use Rattle.std.specs.List.{list_all, starts_with}
-use Rattle.std.specs.Str.{bytes_eq}
-use Rattle.clap.specs.Words.{App, Rule, new_app, new_rule, with_rule}
-use Rattle.clap.specs.Simple.{on_top}
-use Rattle.xtalk_top.specs.Words.{Text, Item, is_plain, has_name, once_of}
+-- How words of a form are read: a test of each word, one command of `clap`, and a test of each value.
+use Rattle.std.specs.Prelude.{◌≡◌, Bool, true, ◌&&◌, ◌||◌, if◌then◌else◌, List, [], ◌++◌, map, codes}
+use Rattle.std.specs.Prelude.{Option, Some, None, is_some, option_and_then}
+use Rattle.std.specs.Option.{IsSomeAnd}
+use Rattle.clap.specs.Words.{App, Rule, first_value, found_of, new_rule}
+use Rattle.clap.specs.Simple.{new_shape}
+use Rattle.clap.specs.declared.parser.matches.ArgMatches.{ArgMatches}
+use Rattle.xtalk_top.specs.Grammar.{Text, Item, CommandForm, OptionForm, is_plain, option_of}
+use Rattle.xtalk_top.specs.Grammar.{are_once, has_required, items_of, value_of}
 
--- a word of an option of `solve`
-abbrev pub is_option : Text → Bool
-is_option word = bytes_eq word (codes "--workers") || (bytes_eq word (codes "--kind") || (starts_with nat_eq word (codes "--workers=") || starts_with nat_eq word (codes "--kind=")))
+-- `clap` is shown the word
+abbrev pub is_listed : List OptionForm → Text → Bool
+is_listed options word = is_plain word || is_some (option_of options word)
 
--- a word that the command is shown
-abbrev pub is_listed : Text → Bool
-is_listed word = is_plain word || is_option word
+-- the items that `clap` finds: each name has one at most, and what is required is there
+abbrev pub found_items : CommandForm → List Text → Option (List Item)
+found_items form words =
+    option_and_then (λ is. if are_once is && has_required form is then Some is else None) (items_of form words)
 
--- the command is `solve`, and each word behind it is one that it is shown
-abbrev pub is_shown : List Text → Bool
-is_shown [] = false
-is_shown (command ∷ rest) = bytes_eq command (codes "solve") && list_all is_listed rest
+-- the matches of `clap` have the values of the items
+abbrev pub Holds : Option (List Item) → ArgMatches → Type 0
+Holds items m = IsSomeAnd items (λ is. first_value (found_of m) ≡ value_of is)
 
--- the items of the words, each said once, with a file among them
-abbrev pub given_of : List Text → Option (List Item)
-given_of words = option_and_then (λ is. if has_name (codes "file") is then Some is else None) (once_of words)
+abbrev pub option_rule : OptionForm → Rule
+option_rule o = record (new_rule o.name) { long = Some o.name; required = o.is_required }
 
-abbrev pub option_rule : Text → Rule
-option_rule name = record (new_rule name) { long = Some name }
+abbrev pub positional_rule : Text → Rule
+positional_rule name = record (new_rule name) { required = true }
 
-abbrev pub file_rule : Rule
-file_rule = record (new_rule (codes "file")) { required = true }
+-- a command of these arguments, with no flags for help or the version
+abbrev pub app_with : List Rule → App
+app_with rules = record {
+  top = record (new_shape (codes "xtalk")) { rules = rules; disable_help_flag = true; disable_version_flag = true };
+  subs = [];
+}
 
--- two options that take a value, and a file, with no flags for help or the version
-abbrev pub solve_app : App
-solve_app = with_rule (with_rule (with_rule (on_top (λ s. record s { disable_help_flag = true; disable_version_flag = true }) (new_app (codes "solve"))) (option_rule (codes "workers"))) (option_rule (codes "kind"))) file_rule
+-- the options, and then the positional words
+abbrev pub app_of_form : CommandForm → App
+app_of_form form = app_with (map option_rule form.options ++ map positional_rule form.positionals)

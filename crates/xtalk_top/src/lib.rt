@@ -1,16 +1,27 @@
 //! The top call: from the words of the command line and the bytes of the files to the bytes of the report.
 #![tactic(auto)]
 
-mod answer;
+mod design_report;
+mod file_name;
+mod fixpoints;
+mod grammar;
+mod input;
 mod refusal;
+mod refuse;
 mod rounds;
-mod solving;
-mod telling;
+mod solve;
 mod top;
 mod words;
 
+pub use file_name::FileName;
 pub use top::xtalk;
-pub use words::{Job, WordsFault, parse_words};
+pub use words::{Job, SolveJob, WordsFault, parse_words};
 
+#[cfg(test)]
+mod grammar_tests;
+#[cfg(test)]
+mod outside_tests;
+#[cfg(test)]
+mod parts_tests;
 #[cfg(test)]
 mod tests;

@@ -1,21 +1,68 @@
+//! Why a call does not print its text, by layer: refusals of a design, of a text, of a file and of the call, each with
+//! what its line prints.
+
+use crate::file_name::FileName;
 use envelope::What;
 use xt_model::{Code, Name};
 
-/// Why the program gives no report.
+/// A limit that is passed: what has it, the name of its net, if it is a net's, and the number that passes it.
+#[derive(Debug, Drop)]
+pub struct PassedLimit {
+    pub what: What,
+    pub name: Option<Name>,
+    pub value: i128,
+}
+
+/// Why a design has no report.
+#[derive(Debug, Drop)]
+pub enum DesignRefusal {
+    /// A window of its envelope passes a limit: the first one that does.
+    Limit(PassedLimit),
+}
+
+/// Why a text means nothing.
+#[derive(Debug, Drop)]
+pub enum TextRefusal {
+    /// It is refused at this line, counted from 1.
+    At { line: u32, code: Code },
+}
+
+/// Why a file that was read gives nothing.
+#[derive(Debug, Drop)]
+pub enum FileRefusal {
+    /// It has more bytes than a file may have.
+    TooLong,
+    /// Its content is refused.
+    Content(TextRefusal),
+}
+
+/// Why the words and the files of a call mean no text.
 #[derive(Debug, Drop)]
 pub enum Refusal {
-    /// The words are none that the program knows.
+    /// The words are outside the grammar.
     Words,
-    /// A file is longer than a file may be.
-    Long,
-    /// The text of a file is refused at a line.
-    Text { line: u32, code: Code },
-    /// A window of the envelope passes a limit: the first one that does, at a net of this name.
-    Limit { what: What, net: Name, value: i128 },
+    /// A file is refused.
+    File { file: FileName, why: FileRefusal },
+    /// The design is refused.
+    Design(DesignRefusal),
+}
+
+/// Why a call has no text to print.
+#[derive(Debug, Drop)]
+pub enum Stop {
+    /// The words and the files mean none.
+    Refused(Refusal),
     /// A file could not be read.
-    Read,
-    /// The report could not be written.
-    Write,
+    Unread { file: FileName },
     /// There was no memory.
-    Memory,
+    NoMemory,
+}
+
+/// Why a call did not print its whole text.
+#[derive(Debug, Drop)]
+pub enum Failure {
+    /// It had none.
+    NoText(Stop),
+    /// The text could not be written.
+    Unwritten,
 }

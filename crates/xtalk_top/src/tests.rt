@@ -7,64 +7,354 @@ use std::test::Fail;
 use std::thread::Threads;
 use xt_io::{MemoryFiles, MemorySink};
 
-const ONE: &[u8] =
-    b"xtalk-design 1\ncounts 0 1 0\nperiod none\nnet a i 0 0 0 0\nrise 1000 1000 0 0\nfall quiet\nend\n";
+const ONE: &[u8] = b"\
+    xtalk-design 1\n\
+    counts 0 1 0\n\
+    period none\n\
+    net a i 0 0 0 0\n\
+    rise 1000 1000 0 0\n\
+    fall quiet\n\
+    end\n";
 
-const ONE_REPORT: &[u8] =
-    b"xtalk 1\nnets 1 couplings 0 pairs 0 levels 1 bound 1\nperiod none\nnet a rise least 1.000 1.000 0.000 0.000 greatest 1.000 1.000 0.000 0.000\nnet a fall quiet\nend\n";
+const ONE_REPORT: &[u8] = b"\
+    xtalk 1\n\
+    nets 1 couplings 0 pairs 0 levels 1 bound 1\n\
+    period none\n\
+    net a rise least 1.000 1.000 0.000 0.000 greatest 1.000 1.000 0.000 0.000\n\
+    net a fall quiet\n\
+    end\n";
 
-const EMPTY: &[u8] = b"xtalk-design 1\ncounts 0 0 0\nperiod none\nend\n";
+const EMPTY: &[u8] = b"\
+    xtalk-design 1\n\
+    counts 0 0 0\n\
+    period none\n\
+    end\n";
 
-const EMPTY_REPORT: &[u8] =
-    b"xtalk 1\nnets 0 couplings 0 pairs 0 levels 0 bound 0\nperiod none\nend\n";
+const EMPTY_REPORT: &[u8] = b"\
+    xtalk 1\n\
+    nets 0 couplings 0 pairs 0 levels 0 bound 0\n\
+    period none\n\
+    end\n";
 
-const CHECKED: &[u8] =
-    b"xtalk-design 1\ncounts 0 1 1\nperiod 1\nnet a i 0 0 0 0\nrise 1000 1000 0 0\nfall quiet\nend\n";
+const CHECKED: &[u8] = b"\
+    xtalk-design 1\n\
+    counts 0 1 1\n\
+    period 1\n\
+    net a i 0 0 0 0\n\
+    rise 1000 1000 0 0\n\
+    fall quiet\n\
+    end\n";
 
-const CROSS: &[u8] =
-    b"xtalk-design 1\ncounts 2 4 0\nperiod none\ntable 1 1\nslews 0\nloads 0\nrow 500\ntable 1 1\nslews 0\nloads 0\nrow 600\nnet s i 0 1 1 0\nnet t i 0 1 1 0\nnet c w 0 0 0 1\nnet d w 0 0 0 1\nrise 1000 1000 600 600\nfall quiet\ncouple 3 1000\nsink c/A 0 200000000\nrise 1000 1000 600 600\nfall quiet\ncouple 2 1000\nsink d/A 0 200000000\narc 0 0 rise rise 0 1\narc 1 0 rise rise 0 1\nend\n";
+const CROSS: &[u8] = b"\
+    xtalk-design 1\n\
+    counts 2 4 0\n\
+    period none\n\
+    table 1 1\n\
+    slews 0\n\
+    loads 0\n\
+    row 500\n\
+    table 1 1\n\
+    slews 0\n\
+    loads 0\n\
+    row 600\n\
+    net s i 0 1 1 0\n\
+    net t i 0 1 1 0\n\
+    net c w 0 0 0 1\n\
+    net d w 0 0 0 1\n\
+    rise 1000 1000 600 600\n\
+    fall quiet\n\
+    couple 3 1000\n\
+    sink c/A 0 200000000\n\
+    rise 1000 1000 600 600\n\
+    fall quiet\n\
+    couple 2 1000\n\
+    sink d/A 0 200000000\n\
+    arc 0 0 rise rise 0 1\n\
+    arc 1 0 rise rise 0 1\n\
+    end\n";
 
-const CROSS_REPORT: &[u8] =
-    b"xtalk 1\nnets 4 couplings 2 pairs 2 levels 2 bound 18\nperiod none\nnet s rise least 1.000 1.000 0.600 0.600 greatest 1.000 1.000 0.600 0.600\nnet s fall quiet\nnet t rise least 1.000 1.000 0.600 0.600 greatest 1.000 1.000 0.600 0.600\nnet t fall quiet\nnet c rise least 1.700 1.700 0.600 0.600 greatest 1.500 1.700 0.600 0.600\nnet c fall quiet\nnet d rise least 1.700 1.700 0.600 0.600 greatest 1.500 1.700 0.600 0.600\nnet d fall quiet\nguilty s rise d 1.000 fast possible slow no\nguilty t rise c 1.000 fast possible slow no\nend\n";
+const CROSS_REPORT: &[u8] = b"\
+    xtalk 1\n\
+    nets 4 couplings 2 pairs 2 levels 2 bound 18\n\
+    period none\n\
+    net s rise least 1.000 1.000 0.600 0.600 greatest 1.000 1.000 0.600 0.600\n\
+    net s fall quiet\n\
+    net t rise least 1.000 1.000 0.600 0.600 greatest 1.000 1.000 0.600 0.600\n\
+    net t fall quiet\n\
+    net c rise least 1.700 1.700 0.600 0.600 greatest 1.500 1.700 0.600 0.600\n\
+    net c fall quiet\n\
+    net d rise least 1.700 1.700 0.600 0.600 greatest 1.500 1.700 0.600 0.600\n\
+    net d fall quiet\n\
+    guilty s rise d 1.000 fast possible slow no\n\
+    guilty t rise c 1.000 fast possible slow no\n\
+    end\n";
 
-const LOAD_PAIR: &[u8] =
-    b"xtalk-design 1\ncounts 2 4 0\nperiod none\ntable 1 2\nslews 0\nloads 0 10000\nrow 800 2800\ntable 1 1\nslews 0\nloads 0\nrow 0\nnet p i 0 0 1 0\nnet q i 0 0 1 0\nnet a w 0 1 0 1\nnet b w 0 1 0 1\nrise 0 0 0 0\nfall quiet\nsink a/A 0\nrise quiet\nfall 100 100 0 0\nsink b/A 0\ncouple 3 1000\narc 0 0 rise rise 0 1\ncouple 2 1000\narc 1 0 fall fall 0 1\nend\n";
+const LOAD_PAIR: &[u8] = b"\
+    xtalk-design 1\n\
+    counts 2 4 0\n\
+    period none\n\
+    table 1 2\n\
+    slews 0\n\
+    loads 0 10000\n\
+    row 800 2800\n\
+    table 1 1\n\
+    slews 0\n\
+    loads 0\n\
+    row 0\n\
+    net p i 0 0 1 0\n\
+    net q i 0 0 1 0\n\
+    net a w 0 1 0 1\n\
+    net b w 0 1 0 1\n\
+    rise 0 0 0 0\n\
+    fall quiet\n\
+    sink a/A 0\n\
+    rise quiet\n\
+    fall 100 100 0 0\n\
+    sink b/A 0\n\
+    couple 3 1000\n\
+    arc 0 0 rise rise 0 1\n\
+    couple 2 1000\n\
+    arc 1 0 fall fall 0 1\n\
+    end\n";
 
-const LOAD_PAIR_REPORT: &[u8] =
-    b"xtalk 1\nnets 4 couplings 2 pairs 1 levels 2 bound 10\nperiod none\nnet p rise least 0.000 0.000 0.000 0.000 greatest 0.000 0.000 0.000 0.000\nnet p fall quiet\nnet q rise quiet\nnet q fall least 0.100 0.100 0.000 0.000 greatest 0.100 0.100 0.000 0.000\nnet a rise least 1.000 1.000 0.000 0.000 greatest 1.000 1.200 0.000 0.000\nnet a fall quiet\nnet b rise quiet\nnet b fall least 1.100 1.100 0.000 0.000 greatest 1.100 1.300 0.000 0.000\nguilty a rise b 1.000 fast no slow possible\nguilty b fall a 1.000 fast no slow possible\nend\n";
+const LOAD_PAIR_REPORT: &[u8] = b"\
+    xtalk 1\n\
+    nets 4 couplings 2 pairs 1 levels 2 bound 10\n\
+    period none\n\
+    net p rise least 0.000 0.000 0.000 0.000 greatest 0.000 0.000 0.000 0.000\n\
+    net p fall quiet\n\
+    net q rise quiet\n\
+    net q fall least 0.100 0.100 0.000 0.000 greatest 0.100 0.100 0.000 0.000\n\
+    net a rise least 1.000 1.000 0.000 0.000 greatest 1.000 1.200 0.000 0.000\n\
+    net a fall quiet\n\
+    net b rise quiet\n\
+    net b fall least 1.100 1.100 0.000 0.000 greatest 1.100 1.300 0.000 0.000\n\
+    guilty a rise b 1.000 fast no slow possible\n\
+    guilty b fall a 1.000 fast no slow possible\n\
+    end\n";
 
 // The same with one input so late that the couplings change nothing, though the envelope has them change it.
-const APART: &[u8] =
-    b"xtalk-design 1\ncounts 2 4 0\nperiod none\ntable 1 2\nslews 0\nloads 0 10000\nrow 800 2800\ntable 1 1\nslews 0\nloads 0\nrow 0\nnet p i 0 0 1 0\nnet q i 0 0 1 0\nnet a w 0 1 0 1\nnet b w 0 1 0 1\nrise 0 0 0 0\nfall quiet\nsink a/A 0\nrise quiet\nfall 5000 5000 0 0\nsink b/A 0\ncouple 3 1000\narc 0 0 rise rise 0 1\ncouple 2 1000\narc 1 0 fall fall 0 1\nend\n";
+const APART: &[u8] = b"\
+    xtalk-design 1\n\
+    counts 2 4 0\n\
+    period none\n\
+    table 1 2\n\
+    slews 0\n\
+    loads 0 10000\n\
+    row 800 2800\n\
+    table 1 1\n\
+    slews 0\n\
+    loads 0\n\
+    row 0\n\
+    net p i 0 0 1 0\n\
+    net q i 0 0 1 0\n\
+    net a w 0 1 0 1\n\
+    net b w 0 1 0 1\n\
+    rise 0 0 0 0\n\
+    fall quiet\n\
+    sink a/A 0\n\
+    rise quiet\n\
+    fall 5000 5000 0 0\n\
+    sink b/A 0\n\
+    couple 3 1000\n\
+    arc 0 0 rise rise 0 1\n\
+    couple 2 1000\n\
+    arc 1 0 fall fall 0 1\n\
+    end\n";
 
-const APART_REPORT: &[u8] =
-    b"xtalk 1\nnets 4 couplings 2 pairs 1 levels 2 bound 10\nperiod none\nnet p rise least 0.000 0.000 0.000 0.000 greatest 0.000 0.000 0.000 0.000\nnet p fall quiet\nnet q rise quiet\nnet q fall least 5.000 5.000 0.000 0.000 greatest 5.000 5.000 0.000 0.000\nnet a rise least 1.000 1.000 0.000 0.000 greatest 1.000 1.000 0.000 0.000\nnet a fall quiet\nnet b rise quiet\nnet b fall least 6.000 6.000 0.000 0.000 greatest 6.000 6.000 0.000 0.000\nend\n";
+const APART_REPORT: &[u8] = b"\
+    xtalk 1\n\
+    nets 4 couplings 2 pairs 1 levels 2 bound 10\n\
+    period none\n\
+    net p rise least 0.000 0.000 0.000 0.000 greatest 0.000 0.000 0.000 0.000\n\
+    net p fall quiet\n\
+    net q rise quiet\n\
+    net q fall least 5.000 5.000 0.000 0.000 greatest 5.000 5.000 0.000 0.000\n\
+    net a rise least 1.000 1.000 0.000 0.000 greatest 1.000 1.000 0.000 0.000\n\
+    net a fall quiet\n\
+    net b rise quiet\n\
+    net b fall least 6.000 6.000 0.000 0.000 greatest 6.000 6.000 0.000 0.000\n\
+    end\n";
 
 // A window at the end of the range of times.
-const LATE: &[u8] =
-    b"xtalk-design 1\ncounts 0 1 0\nperiod none\nnet a i 0 0 1 0\nrise 70368744177664 70368744177664 0 0\nfall quiet\nsink a 0\nend\n";
+const LATE: &[u8] = b"\
+    xtalk-design 1\n\
+    counts 0 1 0\n\
+    period none\n\
+    net a i 0 0 1 0\n\
+    rise 70368744177664 70368744177664 0 0\n\
+    fall quiet\n\
+    sink a 0\n\
+    end\n";
 
-const LATE_REPORT: &[u8] =
-    b"xtalk 1\nnets 1 couplings 0 pairs 0 levels 1 bound 1\nperiod none\nnet a rise least 70368744177.664 70368744177.664 0.000 0.000 greatest 70368744177.664 70368744177.664 0.000 0.000\nnet a fall quiet\nend\n";
+const LATE_REPORT: &[u8] = b"\
+    xtalk 1\n\
+    nets 1 couplings 0 pairs 0 levels 1 bound 1\n\
+    period none\n\
+    net a rise least 70368744177.664 70368744177.664 0.000 0.000 greatest 70368744177.664 70368744177.664 0.000 0.000\n\
+    net a fall quiet\n\
+    end\n";
 
 // The same with a wire of 1 fs.
-const TOO_LATE: &[u8] =
-    b"xtalk-design 1\ncounts 0 1 0\nperiod none\nnet a i 0 0 1 0\nrise 70368744177664 70368744177664 0 0\nfall quiet\nsink a 1000000\nend\n";
+const TOO_LATE: &[u8] = b"\
+    xtalk-design 1\n\
+    counts 0 1 0\n\
+    period none\n\
+    net a i 0 0 1 0\n\
+    rise 70368744177664 70368744177664 0 0\n\
+    fall quiet\n\
+    sink a 1000000\n\
+    end\n";
 
 // A slew at the end of its range, that a wire of 1 fs makes 2 fs slower.
-const TOO_SLOW: &[u8] =
-    b"xtalk-design 1\ncounts 0 1 0\nperiod none\nnet a i 0 0 1 0\nrise 0 0 0 1099511627776\nfall quiet\nsink a 1000000\nend\n";
+const TOO_SLOW: &[u8] = b"\
+    xtalk-design 1\n\
+    counts 0 1 0\n\
+    period none\n\
+    net a i 0 0 1 0\n\
+    rise 0 0 0 1099511627776\n\
+    fall quiet\n\
+    sink a 1000000\n\
+    end\n";
 
 // A time at the start of the range, and a gate that is 1 fs faster than none.
-const TOO_EARLY: &[u8] =
-    b"xtalk-design 1\ncounts 2 2 0\nperiod none\ntable 1 1\nslews 0\nloads 0\nrow -1\ntable 1 1\nslews 0\nloads 0\nrow 0\nnet a i 0 0 1 0\nnet b w 0 0 0 1\nrise -70368744177664 0 0 0\nfall quiet\nsink a 0\narc 0 0 rise rise 0 1\nend\n";
+const TOO_EARLY: &[u8] = b"\
+    xtalk-design 1\n\
+    counts 2 2 0\n\
+    period none\n\
+    table 1 1\n\
+    slews 0\n\
+    loads 0\n\
+    row -1\n\
+    table 1 1\n\
+    slews 0\n\
+    loads 0\n\
+    row 0\n\
+    net a i 0 0 1 0\n\
+    net b w 0 0 0 1\n\
+    rise -70368744177664 0 0 0\n\
+    fall quiet\n\
+    sink a 0\n\
+    arc 0 0 rise rise 0 1\n\
+    end\n";
 
-const DIFFER: &[u8] =
-    b"xtalk-design 1\ncounts 5 9 0\nperiod none\ntable 1 1\nslews 0\nloads 0\nrow 500\ntable 1 1\nslews 0\nloads 0\nrow 600\ntable 1 1\nslews 0\nloads 0\nrow 300\ntable 1 1\nslews 0\nloads 0\nrow 100\ntable 1 1\nslews 0\nloads 0\nrow 700\nnet y w 0 1 0 6\nnet p i 0 1 1 0\nnet q i 0 1 1 0\nnet r i 0 2 1 0\nnet u i 0 1 0 0\nnet a w 0 2 1 2\nnet b w 0 2 1 2\nnet c w 0 1 1 2\nnet d w 0 1 1 4\ncouple 4 100\narc 7 0 rise fall 2 3\narc 7 0 fall rise 2 3\narc 8 0 rise rise 3 1\narc 8 0 rise fall 3 1\narc 8 0 fall rise 3 1\narc 8 0 fall fall 3 1\nrise 1000 1000 600 600\nfall 4000 4200 400 400\ncouple 6 1000\nsink a/A 0 200000000\nrise 3000 3000 400 500\nfall 1000 1000 600 600\ncouple 5 1000\nsink b/A 0 200000000\nrise quiet\nfall 1150 1180 101 101\ncouple 5 400\ncouple 6 400\nsink c/A 50000000 60000000 60000000\nrise quiet\nfall quiet\ncouple 0 100\ncouple 2 1000\ncouple 3 400\nsink d/A 30000000 40000000 90000000\narc 1 0 rise fall 0 1\narc 1 0 fall rise 0 1\ncouple 1 1000\ncouple 3 400\nsink d/B 20000000 100000000 50000000\narc 2 0 rise fall 0 1\narc 2 0 fall rise 0 1\ncouple 8 800\nsink y/A 1999999 35000000\narc 3 0 fall rise 3 4\narc 3 0 fall fall 3 4\ncouple 7 800\nsink y/B 0 45000000\narc 5 0 rise rise 2 3\narc 5 0 fall fall 2 3\narc 6 0 rise rise 2 3\narc 6 0 fall fall 2 3\nend\n";
+const DIFFER: &[u8] = b"\
+    xtalk-design 1\n\
+    counts 5 9 0\n\
+    period none\n\
+    table 1 1\n\
+    slews 0\n\
+    loads 0\n\
+    row 500\n\
+    table 1 1\n\
+    slews 0\n\
+    loads 0\n\
+    row 600\n\
+    table 1 1\n\
+    slews 0\n\
+    loads 0\n\
+    row 300\n\
+    table 1 1\n\
+    slews 0\n\
+    loads 0\n\
+    row 100\n\
+    table 1 1\n\
+    slews 0\n\
+    loads 0\n\
+    row 700\n\
+    net y w 0 1 0 6\n\
+    net p i 0 1 1 0\n\
+    net q i 0 1 1 0\n\
+    net r i 0 2 1 0\n\
+    net u i 0 1 0 0\n\
+    net a w 0 2 1 2\n\
+    net b w 0 2 1 2\n\
+    net c w 0 1 1 2\n\
+    net d w 0 1 1 4\n\
+    couple 4 100\n\
+    arc 7 0 rise fall 2 3\n\
+    arc 7 0 fall rise 2 3\n\
+    arc 8 0 rise rise 3 1\n\
+    arc 8 0 rise fall 3 1\n\
+    arc 8 0 fall rise 3 1\n\
+    arc 8 0 fall fall 3 1\n\
+    rise 1000 1000 600 600\n\
+    fall 4000 4200 400 400\n\
+    couple 6 1000\n\
+    sink a/A 0 200000000\n\
+    rise 3000 3000 400 500\n\
+    fall 1000 1000 600 600\n\
+    couple 5 1000\n\
+    sink b/A 0 200000000\n\
+    rise quiet\n\
+    fall 1150 1180 101 101\n\
+    couple 5 400\n\
+    couple 6 400\n\
+    sink c/A 50000000 60000000 60000000\n\
+    rise quiet\n\
+    fall quiet\n\
+    couple 0 100\n\
+    couple 2 1000\n\
+    couple 3 400\n\
+    sink d/A 30000000 40000000 90000000\n\
+    arc 1 0 rise fall 0 1\n\
+    arc 1 0 fall rise 0 1\n\
+    couple 1 1000\n\
+    couple 3 400\n\
+    sink d/B 20000000 100000000 50000000\n\
+    arc 2 0 rise fall 0 1\n\
+    arc 2 0 fall rise 0 1\n\
+    couple 8 800\n\
+    sink y/A 1999999 35000000\n\
+    arc 3 0 fall rise 3 4\n\
+    arc 3 0 fall fall 3 4\n\
+    couple 7 800\n\
+    sink y/B 0 45000000\n\
+    arc 5 0 rise rise 2 3\n\
+    arc 5 0 fall fall 2 3\n\
+    arc 6 0 rise rise 2 3\n\
+    arc 6 0 fall fall 2 3\n\
+    end\n";
 
 // As a plain program finds it, written from the definitions alone.
-const DIFFER_REPORT: &[u8] =
-    b"xtalk 1\nnets 9 couplings 12 pairs 6 levels 4 bound 100\nperiod none\nnet y rise least 1.756 5.505 0.100 0.600 greatest 1.661 5.550 0.100 0.600\nnet y fall least 1.756 5.505 0.100 0.600 greatest 1.661 5.550 0.100 0.600\nnet p rise least 1.000 1.000 0.600 0.600 greatest 1.000 1.000 0.600 0.600\nnet p fall least 4.000 4.200 0.400 0.400 greatest 4.000 4.200 0.400 0.400\nnet q rise least 3.000 3.000 0.400 0.500 greatest 3.000 3.000 0.400 0.500\nnet q fall least 1.000 1.000 0.600 0.600 greatest 1.000 1.000 0.600 0.600\nnet r rise quiet\nnet r fall least 1.150 1.180 0.101 0.101 greatest 1.150 1.180 0.101 0.101\nnet u rise quiet\nnet u fall quiet\nnet a rise least 4.500 4.900 0.600 0.600 greatest 4.500 4.900 0.600 0.600\nnet a fall least 1.700 1.700 0.600 0.600 greatest 1.500 1.700 0.600 0.600\nnet b rise least 1.700 1.700 0.600 0.600 greatest 1.500 1.700 0.600 0.600\nnet b fall least 3.700 3.700 0.600 0.600 greatest 3.700 3.700 0.600 0.600\nnet c rise least 1.420 1.450 0.700 0.700 greatest 1.360 1.510 0.700 0.700\nnet c fall least 1.420 1.450 0.700 0.700 greatest 1.360 1.510 0.700 0.700\nnet d rise least 2.170 5.360 0.100 0.100 greatest 1.870 5.360 0.100 0.100\nnet d fall least 2.160 4.170 0.100 0.100 greatest 1.830 4.170 0.100 0.100\nunconstrained u\nguilty p rise b 1.000 fast possible slow no\nguilty p fall b 1.000 fast sure slow no\nguilty q fall a 1.000 fast possible slow no\nguilty r fall a 0.400 fast possible slow no\nguilty r fall b 0.400 fast no slow possible\nguilty a fall q 1.000 fast possible slow no\nguilty a fall r 0.400 fast possible slow no\nguilty b rise p 1.000 fast possible slow no\nguilty b rise r 0.400 fast no slow possible\nguilty b fall p 1.000 fast sure slow no\nguilty c rise d 0.800 fast possible slow possible\nguilty c fall d 0.800 fast possible slow possible\nguilty d rise c 0.800 fast possible slow possible\nguilty d fall c 0.800 fast possible slow possible\nend\n";
+const DIFFER_REPORT: &[u8] = b"\
+    xtalk 1\n\
+    nets 9 couplings 12 pairs 6 levels 4 bound 100\n\
+    period none\n\
+    net y rise least 1.756 5.505 0.100 0.600 greatest 1.661 5.550 0.100 0.600\n\
+    net y fall least 1.756 5.505 0.100 0.600 greatest 1.661 5.550 0.100 0.600\n\
+    net p rise least 1.000 1.000 0.600 0.600 greatest 1.000 1.000 0.600 0.600\n\
+    net p fall least 4.000 4.200 0.400 0.400 greatest 4.000 4.200 0.400 0.400\n\
+    net q rise least 3.000 3.000 0.400 0.500 greatest 3.000 3.000 0.400 0.500\n\
+    net q fall least 1.000 1.000 0.600 0.600 greatest 1.000 1.000 0.600 0.600\n\
+    net r rise quiet\n\
+    net r fall least 1.150 1.180 0.101 0.101 greatest 1.150 1.180 0.101 0.101\n\
+    net u rise quiet\n\
+    net u fall quiet\n\
+    net a rise least 4.500 4.900 0.600 0.600 greatest 4.500 4.900 0.600 0.600\n\
+    net a fall least 1.700 1.700 0.600 0.600 greatest 1.500 1.700 0.600 0.600\n\
+    net b rise least 1.700 1.700 0.600 0.600 greatest 1.500 1.700 0.600 0.600\n\
+    net b fall least 3.700 3.700 0.600 0.600 greatest 3.700 3.700 0.600 0.600\n\
+    net c rise least 1.420 1.450 0.700 0.700 greatest 1.360 1.510 0.700 0.700\n\
+    net c fall least 1.420 1.450 0.700 0.700 greatest 1.360 1.510 0.700 0.700\n\
+    net d rise least 2.170 5.360 0.100 0.100 greatest 1.870 5.360 0.100 0.100\n\
+    net d fall least 2.160 4.170 0.100 0.100 greatest 1.830 4.170 0.100 0.100\n\
+    unconstrained u\n\
+    guilty p rise b 1.000 fast possible slow no\n\
+    guilty p fall b 1.000 fast sure slow no\n\
+    guilty q fall a 1.000 fast possible slow no\n\
+    guilty r fall a 0.400 fast possible slow no\n\
+    guilty r fall b 0.400 fast no slow possible\n\
+    guilty a fall q 1.000 fast possible slow no\n\
+    guilty a fall r 0.400 fast possible slow no\n\
+    guilty b rise p 1.000 fast possible slow no\n\
+    guilty b rise r 0.400 fast no slow possible\n\
+    guilty b fall p 1.000 fast sure slow no\n\
+    guilty c rise d 0.800 fast possible slow possible\n\
+    guilty c fall d 0.800 fast possible slow possible\n\
+    guilty d rise c 0.800 fast possible slow possible\n\
+    guilty d fall c 0.800 fast possible slow possible\n\
+    end\n";
 
 /// The status of a call, and what stands on the output and on the error stream after it.
 #[derive(Drop)]
@@ -166,14 +456,10 @@ fn reads_the_options(rt: HostRuntime) -> Result<(), Fail> {
     ];
     for (words, count, checks) in cases {
         let words = strings(rt.alloc(), words)?;
-        let Job::Solve {
-            file,
-            workers,
-            kind,
-        } = parse_words(rt.alloc(), &words)?;
-        assert_eq!(rt; file.as_str(), "f");
-        assert_eq!(rt; workers, count);
-        assert_eq!(rt; matches!(kind, ReportKind::Checks), checks);
+        let Job::Solve(job) = parse_words(rt.alloc(), &words)?;
+        assert_eq!(rt; job.file.as_str(), "f");
+        assert_eq!(rt; job.workers, count);
+        assert_eq!(rt; matches!(job.kind, ReportKind::Checks), checks);
     }
     Ok(())
 }

@@ -1,26 +1,25 @@
-ghost use Rattle.std.specs.Prelude.{◌≡◌, ◌≢◌, ◌⊎◌, ℕ, ℤ, List, None, Some};
-ghost use Rattle.std.specs.Option.{IsSomeAnd};
-ghost use Rattle.xt_io.specs.Outside.{Rose};
-ghost use Rattle.xt_model.specs.Parts.{Parts};
-ghost use Rattle.envelope.specs.declared.fault.What.{What};
+ghost use Rattle.std.specs.Prelude.{◌≡◌, ◌≢◌, ◌⊎◌, IfOk, IfErr};
+ghost use Rattle.xt_io.specs.Outside.{Rose, KeepsCounts, appended};
+ghost use Rattle.xtalk_top.specs.Words.{Text, bytes_of};
+ghost use Rattle.xtalk_top.specs.Outcome.{prints, refuses, unread};
+ghost use Rattle.xtalk_top.specs.Call.{JobMeans, Means, AreKnown, IsStop, IsFailure, HasFault, IsCutOff};
+ghost use Rattle.xtalk_top.specs.Call.{WritesLine, line_of, status_of};
 ghost use Rattle.xtalk_top.specs.declared.refusal.Refusal.{Refusal};
-ghost use Rattle.xtalk_top.specs.Words.{asks_checks, bytes_of, solved_file};
-ghost use Rattle.xtalk_top.specs.Lines.{status_of, line_of, Tells};
-ghost use Rattle.xtalk_top.specs.Limits.{KeepsLimits};
-ghost use Rattle.xtalk_top.specs.Outcome.{IsDesignText, IsTooLong, IsRefusedText, IsLimitedText, Appends, IsCause, Output, name_of};
+ghost use Rattle.xtalk_top.specs.declared.refusal.Failure.{Failure};
+ghost use Rattle.xtalk_top.specs.declared.refusal.Failure.TheVariants.{NoText};
+ghost use Rattle.xtalk_top.specs.declared.refusal.Stop.TheVariants.{Refused};
 
-use crate::answer::answer_file;
-use crate::refusal::Refusal;
-use crate::telling::refuse;
-use crate::words::{WordsFault, parse_words};
+use crate::refusal::{Failure, Refusal, Stop};
+use crate::refuse::refuse;
+use crate::solve::solve;
+use crate::words::{Job, WordsFault, parse_words};
 use std::alloc::Global;
 use std::thread::Threads;
 use xt_io::{Files, Sink, write_whole};
 
-/// Does what the words after the program's name say: reads the files that they name, writes the report to
-/// `out`, and gives the exit status. A refusal writes its one line to `err`, as far as `err` takes it, and but for
-/// a write fault leaves `out` as it was.
-#[tactic(auto, using(crate::proofs::Asked::named_file, crate::proofs::Asked::asked_kind))]
+/// Does what the words after the program's name say: reads the files that they name, writes one text to `out`, and
+/// gives the exit status. A failure writes its one line to `err`, as far as `err` takes it, and but for a write
+/// fault leaves `out` as it was.
 pub fn xtalk<R: Threads + Sync, F: Files, O: Sink, E: Sink>(
     rt: &R,
     alloc: Global,
@@ -29,37 +28,70 @@ pub fn xtalk<R: Threads + Sync, F: Files, O: Sink, E: Sink>(
     out: &mut O,
     err: &mut E,
 ) -> u8
-    // 0: the report of the least and the greatest fixpoint that is asked for was written, and nothing else.
-    ensures report { result ≡ 0 → IsSomeAnd (solved_file (bytes_of words.now)) (λ name. Appends (asks_checks (bytes_of words.now)) (F.content files.old name) (O.written out.old) (O.written out.new)) }
-    ensures silent { result ≡ 0 → err.new ≡ err.old }
+    // 0: the text that the words and the files mean was written, and nothing else.
+    ensures printed { result ≡ 0 → (text : Text) × Means (bytes_of words.now) (F.content files.old) (prints text)
+        × (O.written out.new ≡ appended (O.written out.old) text) × (err.new ≡ err.old) }
 
-    // Any other status has its one cause, and its line on err, or a first part of that where err had a fault.
-    ensures refusal { result ≢ 0 → (refusal : Refusal) × (result ≡ status_of refusal)
-        × IsCause (asks_checks (bytes_of words.now)) (solved_file (bytes_of words.now)) (F.content files.old) (F.faults files.old) (F.faults files.new)
-        (record { before = O.written out.old; after = O.written out.new; faults_before = O.faults out.old; faults_after = O.faults out.new }) refusal
-        × Tells (E.written err.old) (E.written err.new) (E.faults err.old) (E.faults err.new) (line_of refusal (name_of (solved_file (bytes_of words.now)))) }
-    ensures untouched { result ≢ 0 → result ≢ 7 → out.new ≡ out.old }
+    // Any other status has one failure as its cause, and the line of that failure on err.
+    ensures failed { result ≢ 0 → (failure : Failure) × (result ≡ status_of failure)
+        × IsFailure (Means (bytes_of words.now) (F.content files.old))
+        (HasFault (F.faults files.old) (F.faults files.new))
+        (IsCutOff (O.written out.old) (O.written out.new) (O.faults out.old) (O.faults out.new)) failure
+        × WritesLine (E.written err.old) (E.written err.new) (E.faults err.old) (E.faults err.new) (line_of failure) }
 
-    // When each comes.
-    ensures bad_words { (result ≡ 2 → solved_file (bytes_of words.now) ≡ None) × (solved_file (bytes_of words.now) ≡ None → (result ≡ 2) ⊎ (result ≡ 8)) }
-    ensures refused { (name bytes : List ℕ) → solved_file (bytes_of words.now) ≡ Some name → F.content files.old name ≡ Some bytes → IsRefusedText bytes
-        → (result ≡ 3) ⊎ ((result ≡ 8) ⊎ ((result ≡ 6) × Rose (F.faults files.old name) (F.faults files.new name))) }
-    ensures too_long { (name bytes : List ℕ) → solved_file (bytes_of words.now) ≡ Some name → F.content files.old name ≡ Some bytes → IsTooLong bytes
-        → (result ≡ 5) ⊎ ((result ≡ 8) ⊎ ((result ≡ 6) × Rose (F.faults files.old name) (F.faults files.new name))) }
-    ensures limited { (name bytes net : List ℕ) (what : What) (value : ℤ) → solved_file (bytes_of words.now) ≡ Some name → F.content files.old name ≡ Some bytes → IsLimitedText bytes what net value
-        → (result ≡ 5) ⊎ ((result ≡ 8) ⊎ ((result ≡ 6) × Rose (F.faults files.old name) (F.faults files.new name))) }
-    ensures complete { (name bytes : List ℕ) (d : Parts) → solved_file (bytes_of words.now) ≡ Some name → F.content files.old name ≡ Some bytes → IsDesignText bytes d → KeepsLimits d
-        → (Rose (F.faults files.old name) (F.faults files.new name) → ⊥) → (Rose (O.faults out.old) (O.faults out.new) → ⊥) → (result ≡ 0) ⊎ (result ≡ 8) }
+    // What else stays as it was.
+    ensures out_kept { result ≢ 0 → result ≢ 7 → out.new ≡ out.old }
+    ensures out_calm { result ≢ 7 → O.faults out.new ≡ O.faults out.old }
+    ensures files_calm { result ≢ 6 → KeepsCounts (F.faults files.old) (F.faults files.new) }
+
+    // A refusal that the words and the files mean comes, unless memory runs out or a read fault came before it.
+    ensures refused { (why : Refusal) → Means (bytes_of words.now) (F.content files.old) (refuses why)
+        → AreKnown (bytes_of words.now) (F.content files.old)
+        → (result ≡ status_of (NoText (Refused why))) ⊎ ((result ≡ 8) ⊎ ((result ≡ 6)
+        × (file : Text) × Means (bytes_of words.now) (F.content files.old) (unread file)
+        × HasFault (F.faults files.old) (F.faults files.new) file)) }
+
+    // Where they mean no refusal, and neither a file nor out had a fault, the text comes, unless memory runs out.
+    ensures complete { ((why : Refusal) → Means (bytes_of words.now) (F.content files.old) (refuses why) → ⊥)
+        → ((file : Text) → Means (bytes_of words.now) (F.content files.old) (unread file)
+        → HasFault (F.faults files.old) (F.faults files.new) file → ⊥)
+        → (Rose (O.faults out.old) (O.faults out.new) → ⊥) → (result ≡ 0) ⊎ (result ≡ 8) }
+{
+    match text_of(alloc, words, files) {
+        Ok(text) => match write_whole(out, &text) {
+            Ok(()) => 0,
+            Err(_) => refuse(err, &Failure::Unwritten),
+        },
+        Err(stop) => refuse(err, &Failure::NoText(stop)),
+    }
+}
+
+// The text that the words and the files mean.
+fn text_of<F: Files>(alloc: Global, words: &[String], files: &mut F) -> Result<Vec<u8>, Stop>
+    ensures ok { IfOk result (λ text. Means (bytes_of words.now) (F.content files.old) (prints text.items)) }
+    ensures stop { IfErr result (IsStop (Means (bytes_of words.now) (F.content files.old))
+        (HasFault (F.faults files.old) (F.faults files.new))) }
+    ensures calm { IfOk result (λ _. KeepsCounts (F.faults files.old) (F.faults files.new)) }
+    ensures read { IfErr result (λ stop. status_of (NoText stop) ≢ 6
+        → KeepsCounts (F.faults files.old) (F.faults files.new)) }
 {
     match parse_words(alloc, words) {
-        Err(WordsFault::Bad) => refuse(err, &Refusal::Words, ""),
-        Err(WordsFault::NoMemory) => refuse(err, &Refusal::Memory, ""),
-        Ok(job) => match answer_file(alloc, files, job.file(), job.kind()) {
-            Err(refusal) => refuse(err, &refusal, job.file()),
-            Ok(text) => match write_whole(out, &text) {
-                Ok(()) => 0,
-                Err(_) => refuse(err, &Refusal::Write, job.file()),
-            },
-        },
+        Ok(job) => job_text(alloc, files, job),
+        Err(WordsFault::Bad) => Err(Stop::Refused(Refusal::Words)),
+        Err(WordsFault::NoMemory) => Err(Stop::NoMemory),
+    }
+}
+
+// The text that a job and the files mean.
+fn job_text<F: Files>(alloc: Global, files: &mut F, job: Job) -> Result<Vec<u8>, Stop>
+    ensures ok { IfOk result (λ text. JobMeans job (F.content files.old) (prints text.items)) }
+    ensures stop { IfErr result (IsStop (JobMeans job (F.content files.old))
+        (HasFault (F.faults files.old) (F.faults files.new))) }
+    ensures calm { IfOk result (λ _. KeepsCounts (F.faults files.old) (F.faults files.new)) }
+    ensures read { IfErr result (λ stop. status_of (NoText stop) ≢ 6
+        → KeepsCounts (F.faults files.old) (F.faults files.new)) }
+{
+    match job {
+        Job::Solve(job) => solve(alloc, files, job),
     }
 }

@@ -1,242 +1,146 @@
-ghost use Rattle.std.specs.Prelude.{◌≡◌, ◌≢◌, ◌⊎◌, ℕ, List, drop, true, false, IfOk, IfErr, IsSomeAnd, None, Some, codes, is_some, option_map, string_bytes};
-ghost use Rattle.std.specs.Char.{is_ascii_digit};
-ghost use Rattle.std.specs.List.{list_all};
-ghost use Rattle.clap.specs.Words.{app_of, first_value, found_of, rule_of};
-ghost use Rattle.xtalk_top.specs.Reading;
+//! The commands, and the jobs that they ask for.
+
+ghost use Rattle.std.specs.Prelude.{◌≡◌, ◌⊎◌, IfOk, None, Some, option_map};
+ghost use Rattle.clap.specs.Words.{first_value, found_of};
+ghost use Rattle.xtalk_top.specs.Forms.{form_of};
 ghost use Rattle.xtalk_top.specs.Words;
 ghost use Rattle.xtalk_top.specs.Words.{bytes_of, job_of};
 
-use clap::error::ErrorKind;
-use clap::{Arg, ArgMatches, Command};
+use crate::file_name::FileName;
+pub use crate::grammar::WordsFault;
+use crate::grammar::{CommandRule, OptionRule, ValueRule, number, read};
+use clap::ArgMatches;
 use report_text::ReportKind;
 use std::alloc::{AllocError, Global};
-use thiserror::Error;
 
 /// What the words ask for.
 #[derive(Debug, Drop)]
 pub enum Job {
-    /// The solution of the design in a linked text: by how many workers, and which report of it.
-    Solve {
-        file: String,
-        workers: u32,
-        kind: ReportKind,
+    /// The report of the design in a linked text.
+    Solve(SolveJob),
+}
+
+/// A linked text to solve: by how many workers, and which report of it.
+#[derive(Debug, Drop)]
+pub struct SolveJob {
+    pub file: FileName,
+    pub workers: u32,
+    pub kind: ReportKind,
+}
+
+/// The command that the first word names.
+#[derive(Debug, Clone, Copy)]
+enum CommandName {
+    Solve,
+}
+
+// ---- the table
+
+const WORKERS: OptionRule = OptionRule {
+    name: "workers",
+    is_required: false,
+    value: ValueRule::Number { least: 1, most: 64 },
+};
+
+const KIND: OptionRule = OptionRule {
+    name: "kind",
+    is_required: false,
+    value: ValueRule::OneOf {
+        words: &["all", "checks"],
     },
-}
+};
 
-impl Job {
-    /// The file of the job.
-    pub fn file(&self) -> &str
-        ensures { result.now ≡ (Words.solve_of self.now).file }
-    {
-        match self {
-            Job::Solve {
-                file,
-                workers: _,
-                kind: _,
-            } => file.as_str(),
-        }
-    }
+const SOLVE: CommandRule = CommandRule {
+    positionals: &["file"],
+    options: &[WORKERS, KIND],
+};
 
-    /// Which report of the design is wanted.
-    pub fn kind(&self) -> ReportKind
-        ensures { result ≡ (Words.solve_of self.now).kind }
-    {
-        match self {
-            Job::Solve {
-                file: _,
-                workers: _,
-                kind,
-            } => *kind,
-        }
-    }
-}
-
-/// Why the words ask for nothing.
-#[derive(Debug, Drop, Error)]
-pub enum WordsFault {
-    /// They are outside the grammar.
-    #[error("bad command line")]
-    Bad,
-    /// There was no memory.
-    #[error("out of memory")]
-    NoMemory,
-}
-
-fn are_digits(text: &[u8]) -> bool
-    ensures { result ≡ list_all is_ascii_digit text.now }
+// The command of this name.
+fn command_named(word: &str) -> Option<CommandName>
+    ensures { result ≡ Words.command_named word.now }
 {
-    text.iter().all(|byte| byte.is_ascii_digit())
-}
-
-fn is_number(text: &[u8]) -> bool
-    ensures { result ≡ Words.is_number text.now }
-{
-    !text.is_empty() && text.len() <= 20 && are_digits(text)
-}
-
-// The number that one to twenty digits write.
-fn number(text: &str) -> Option<u128>
-    ensures { result ≡ Words.number_of text.now }
-{
-    if is_number(text.as_bytes()) {
-        text.parse::<u128>().ok()
-    } else {
-        None
-    }
-}
-
-// How many workers are said, or one.
-fn workers(text: Option<&str>) -> Option<u32>
-    ensures { result ≡ Words.workers_of (option_map (λ t. t.now) text.entry) }
-{
-    let Some(text) = text else {
-        return Some(1);
-    };
-    match number(text) {
-        Some(count) if 1 <= count && count <= 64 => Some(count as u32),
+    match word {
+        "solve" => Some(CommandName::Solve),
         _ => None,
     }
 }
 
-// Which report is said, or the whole one.
-fn kind(text: Option<&str>) -> Option<ReportKind>
-    ensures { result ≡ Words.kind_of (option_map (λ t. t.now) text.entry) }
+// What may stand behind the word of the command.
+fn rule_of(command: CommandName) -> CommandRule
+    ensures { form_of result ≡ Words.form_of_command command }
+{
+    match command {
+        CommandName::Solve => SOLVE,
+    }
+}
+
+// ---- values
+
+// The number that is given, or one.
+fn number_or_one(text: Option<&str>) -> u32
+    ensures { result ≡ Words.number_or_one (option_map (λ t. t.now) text.entry) }
 {
     match text {
-        None => Some(ReportKind::All),
-        Some("all") => Some(ReportKind::All),
-        Some("checks") => Some(ReportKind::Checks),
-        Some(_) => None,
+        Some(text) => u32::try_from(number(text).unwrap_or(1)).unwrap_or(1),
+        None => 1,
     }
 }
 
-// Whether the word begins with no dash and has a first byte, or is an option of `solve`.
-fn is_listed(word: &str) -> bool
-    ensures { result ≡ Reading.is_listed word.now }
+// The report that is given, or the whole one.
+fn kind_or_all(text: Option<&str>) -> ReportKind
+    ensures { result ≡ Words.kind_or_all (option_map (λ t. t.now) text.entry) }
 {
-    match word.as_bytes() {
-        [] => false,
-        [b'-', ..] => is_option(word),
-        _ => true,
+    match text {
+        Some("checks") => ReportKind::Checks,
+        _ => ReportKind::All,
     }
 }
 
-fn is_option(word: &str) -> bool
-    ensures { result ≡ Reading.is_option word.now }
+fn file_name(alloc: Global, text: Option<&str>) -> Result<FileName, AllocError>
+    ensures { IfOk result (λ name. name ≡ Words.text_or_empty (option_map (λ t. t.now) text.entry)) }
 {
-    word == "--workers"
-        || word == "--kind"
-        || word.as_bytes().starts_with(b"--workers=")
-        || word.as_bytes().starts_with(b"--kind=")
+    Ok(FileName::new(String::from_str(alloc, text.unwrap_or(""))?))
 }
 
-// An option with a value.
-fn option_arg<'a>(alloc: Global, name: &'a str) -> Arg<'a>
-    ensures rule { rule_of result ≡ Reading.option_rule name.entry.now }
-    ensures local { result.global ≡ false }
+// ---- jobs
+
+fn solve_job(alloc: Global, matches: &ArgMatches) -> Result<SolveJob, AllocError>
+    ensures { IfOk result (λ job. job ≡ Words.solve_job (first_value (found_of matches.now))) }
 {
-    Arg::new(alloc, name).long(name)
+    Ok(SolveJob {
+        file: file_name(alloc, matches.get_str("file"))?,
+        workers: number_or_one(matches.get_str("workers")),
+        kind: kind_or_all(matches.get_str("kind")),
+    })
 }
 
-// The word that is no option.
-fn file_arg<'a>(alloc: Global) -> Arg<'a>
-    ensures rule { rule_of result ≡ Reading.file_rule }
-    ensures local { result.global ≡ false }
+// The job of a command whose words give this.
+fn job_for(alloc: Global, command: CommandName, matches: &ArgMatches) -> Result<Job, AllocError>
+    ensures { IfOk result (λ job. job ≡ Words.job_for command (first_value (found_of matches.now))) }
 {
-    Arg::new(alloc, "file").required(true)
-}
-
-// The command whose words those after `solve` are.
-fn command<'a>(alloc: Global) -> Result<Command<'a>, AllocError>
-    ensures { IfOk result (λ c. app_of c ≡ Reading.solve_app) }
-{
-    Command::new(alloc, "solve")
-        .disable_help_flag(true)
-        .disable_version_flag(true)
-        .arg(option_arg(alloc, "workers"))?
-        .arg(option_arg(alloc, "kind"))?
-        .arg(file_arg(alloc))
-}
-
-// What the command finds in the words.
-fn matches<'a>(alloc: Global, words: &'a [String]) -> Result<ArgMatches<'a>, WordsFault>
-    requires { list_all Reading.is_listed (drop 1 (bytes_of words.now)) ≡ true }
-    ensures ok { IfOk result (λ m. IsSomeAnd (Reading.given_of (drop 1 (bytes_of words.now))) (λ items. (name : List ℕ) → first_value (found_of m) name ≡ Words.said name items)) }
-    ensures bad { result ≡ Err WordsFault.Bad → Reading.given_of (drop 1 (bytes_of words.now)) ≡ None }
-{
-    let Ok(command) = command(alloc) else {
-        return Err(WordsFault::NoMemory);
-    };
-    match command.try_get_matches_from(words) {
-        Ok(matches) => Ok(matches),
-        Err(error) => match error.kind() {
-            ErrorKind::OutOfMemory => Err(WordsFault::NoMemory),
-            _ => Err(WordsFault::Bad),
-        },
-    }
-}
-
-// The job of what is said of the file, of the workers and of the report.
-fn job_said(
-    alloc: Global,
-    file: Option<&str>,
-    count: Option<&str>,
-    report: Option<&str>,
-) -> Result<Job, WordsFault>
-    ensures parsed { IfOk result (λ job. Words.job_said (option_map (λ t. t.now) file.entry) (option_map (λ t. t.now) count.entry) (option_map (λ t. t.now) report.entry) ≡ Some (Words.solve_of job)) }
-    ensures bad { result ≡ Err WordsFault.Bad → Words.job_said (option_map (λ t. t.now) file.entry) (option_map (λ t. t.now) count.entry) (option_map (λ t. t.now) report.entry) ≡ None }
-{
-    let Some(file) = file else {
-        return Err(WordsFault::Bad);
-    };
-    let Some(workers) = workers(count) else {
-        return Err(WordsFault::Bad);
-    };
-    let Some(kind) = kind(report) else {
-        return Err(WordsFault::Bad);
-    };
-    match String::from_str(alloc, file) {
-        Ok(file) => Ok(Job::Solve {
-            file,
-            workers,
-            kind,
-        }),
-        Err(_) => Err(WordsFault::NoMemory),
-    }
-}
-
-fn are_listed(words: &[String]) -> bool
-    ensures { result ≡ list_all (λ word. Reading.is_listed (string_bytes word)) words.now }
-{
-    words.iter().all(|word| is_listed(word.as_str()))
-}
-
-// Whether the words are `solve` and words that its command is shown.
-fn is_shown(words: &[String]) -> bool
-    ensures { result ≡ Reading.is_shown (bytes_of words.now) }
-{
-    match words {
-        [] => false,
-        [command, rest @ ..] => command.as_str() == "solve" && are_listed(rest),
+    match command {
+        CommandName::Solve => Ok(Job::Solve(solve_job(alloc, matches)?)),
     }
 }
 
 /// Reads the words after the program's name.
 pub fn parse_words(alloc: Global, words: &[String]) -> Result<Job, WordsFault>
-    ensures parsed { IfOk result (λ job. job_of (bytes_of words.now) ≡ Some (Words.solve_of job)) }
+    ensures parsed { IfOk result (λ job. job_of (bytes_of words.now) ≡ Some job) }
     ensures bad { result ≡ Err WordsFault.Bad → job_of (bytes_of words.now) ≡ None }
-    ensures refused { job_of (bytes_of words.now) ≡ None → (result ≡ Err WordsFault.Bad) ⊎ (result ≡ Err WordsFault.NoMemory) }
+    ensures refused { job_of (bytes_of words.now) ≡ None
+        → (result ≡ Err WordsFault.Bad) ⊎ (result ≡ Err WordsFault.NoMemory) }
 {
-    if !is_shown(words) {
+    let [first, ..] = words else {
         return Err(WordsFault::Bad);
-    }
-    match matches(alloc, words) {
-        Ok(matches) => job_said(
-            alloc,
-            matches.get_str("file"),
-            matches.get_str("workers"),
-            matches.get_str("kind"),
-        ),
+    };
+    let Some(command) = command_named(first.as_str()) else {
+        return Err(WordsFault::Bad);
+    };
+    match read(alloc, &rule_of(command), words) {
+        Ok(matches) => match job_for(alloc, command, &matches) {
+            Ok(job) => Ok(job),
+            Err(_) => Err(WordsFault::NoMemory),
+        },
         Err(fault) => Err(fault),
     }
 }

@@ -1,5 +1,5 @@
 use Rattle.xt_meaning.specs.Barrier.{IsFittingStart}
-use Rattle.xt_meaning.proofs.Measure.{room}
+use Rattle.xt_meaning.specs.Measure.{room}
 use Rattle.xtalk_top.proofs.rounds.settle.Given as goal
 
 abbrev pub invariant-rounds : goal.invariant-rounds

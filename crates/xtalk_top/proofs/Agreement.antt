@@ -1,0 +1,115 @@
+-- Where the contents of the files are known, the words and the files mean one outcome.
+use Rattle.std.proofs.Common.{◌≡◌, ◌⊎◌, ℕ, ◌<◌, ◌≤◌, List, length, Option, Some, None, IfSome, refl, sym, ◌∙◌, subst, inl, inr, arith, true≢false}
+use Rattle.std.specs.Prelude.{IsSome, MatchOption}
+use Rattle.xt_model.specs.Parts.{Parts}
+use Rattle.xt_model.specs.Sound.{IsSound}
+use Rattle.linked_text.proofs.Refusals.{texts_differ}
+use Rattle.report_text.specs.declared.kind.ReportKind.{ReportKind}
+use Rattle.xtalk_top.specs.Words.{Text, job_of}
+use Rattle.xtalk_top.specs.Outcome.{Contents, Outcome, prints, refuses, unread, FileMeans, LinkedMeans, DesignMeans, IsDesignText, most_bytes}
+use Rattle.xtalk_top.specs.Solve.{SolveMeans}
+use Rattle.xtalk_top.specs.Call.{JobMeans, Means, AreKnown, IsStop, status_of}
+use Rattle.xtalk_top.specs.declared.words.Job.{Job}
+use Rattle.xtalk_top.specs.declared.words.Job.TheVariants.{Solve}
+use Rattle.xtalk_top.specs.declared.words.SolveJob.{SolveJob}
+use Rattle.xtalk_top.specs.declared.refusal.Refusal.{Refusal}
+use Rattle.xtalk_top.specs.declared.refusal.Refusal.TheVariants.{Words}
+use Rattle.xtalk_top.specs.declared.refusal.Stop.{Stop}
+use Rattle.xtalk_top.specs.declared.refusal.Stop.TheVariants.{Refused, Unread, NoMemory}
+use Rattle.xtalk_top.specs.declared.refusal.Failure.TheVariants.{NoText}
+use Rattle.xtalk_top.proofs.Within.{within_or_passed}
+
+-- both print, or both refuse with one status; a file that cannot be read stands beside any outcome
+abbrev pub Agree : Outcome → Outcome → Type 0
+Agree (prints a) (prints b) = Unit {0}
+Agree (prints a) (refuses b) = ⊥
+Agree (prints a) (unread f) = Unit {0}
+Agree (refuses a) (prints b) = ⊥
+Agree (refuses a) (refuses b) = status_of (NoText (Refused a)) ≡ status_of (NoText (Refused b))
+Agree (refuses a) (unread f) = Unit {0}
+Agree (unread f) o = Unit {0}
+
+-- all outcomes that are meant agree
+abbrev pub LeavesOne : (Outcome → Type 0) → Type 0
+LeavesOne Meant = (o p : Outcome) → Meant o → Meant p → Agree o p
+
+unread_agrees : (o : Outcome) (f : Text) → Agree o (unread f)
+unread_agrees (prints a) f = tt
+unread_agrees (refuses a) f = tt
+unread_agrees (unread g) f = tt
+
+agree_as : (o p x y : Outcome) → o ≡ x → p ≡ y → Agree x y → Agree o p
+agree_as o p x y e f a = subst (λ z. Agree z p) (sym e) (subst (Agree x) (sym f) a)
+
+pub one_of_design : (kind : ReportKind) (d : Parts) → IsSound d → LeavesOne (DesignMeans kind d)
+one_of_design kind d s o p (inl a) (inl b) = agree_as o p _ _ a.2 b.2 refl
+one_of_design kind d s o p (inl a) (inr b) = absurd (within_or_passed d a.0 s b.0 a.1)
+one_of_design kind d s o p (inr a) (inl b) = absurd (within_or_passed d b.0 s a.0 b.1)
+one_of_design kind d s o p (inr a) (inr b) = agree_as o p _ _ a.3 b.3 tt
+
+-- a text is of one design
+pub one_design : (bytes : Text) (d e : Parts) → IsDesignText bytes d → IsDesignText bytes e → d ≡ e
+one_design bytes d e t u = texts_differ d e t.sound t.linkable u.sound u.linkable (sym t.written ∙ u.written)
+
+pub one_of_linked : (file bytes : Text) (Leads : Parts → Outcome → Type 0) → ((d : Parts) → IsDesignText bytes d → LeavesOne (Leads d))
+    → LeavesOne (λ o. LinkedMeans file bytes (λ d. Leads d o) o)
+one_of_linked file bytes Leads one o p (inl a) (inl b) = agree_as o p _ _ a.1 b.1 refl
+one_of_linked file bytes Leads one o p (inl a) (inr b) = absurd (a.0 b.0 b.1)
+one_of_linked file bytes Leads one o p (inr a) (inl b) = absurd (b.0 a.0 a.1)
+one_of_linked file bytes Leads one o p (inr a) (inr b) =
+    one a.0 a.1 o p a.2 (subst (λ d. Leads d p) (one_design bytes b.0 a.0 b.1 a.1) b.2)
+
+-- where its content is known, a file holds no other bytes
+one_content : (c : Option Text) (a b : Text) → IsSome c → IfSome c (λ whole. a ≡ whole) → IfSome c (λ whole. b ≡ whole) → b ≡ a
+one_content None a b known is_a is_b = absurd (true≢false (sym known))
+one_content (Some whole) a b known is_a is_b = is_b ∙ sym is_a
+
+-- and none is too long and is not
+fits_or_not : (c : Option Text) (bytes : Text) → IsSome c → IfSome c (λ whole. bytes ≡ whole) → length bytes ≤ most_bytes → IfSome c (λ whole. most_bytes < length whole) → ⊥
+fits_or_not None bytes known is fits long = absurd (true≢false (sym known))
+fits_or_not (Some whole) bytes known is fits long =
+    let short : length whole ≤ most_bytes = subst (λ b. length b ≤ most_bytes) is fits in
+    absurd (omega (arith, short, long))
+
+pub one_of_file : (file : Text) (content : Contents) (Leads : Text → Outcome → Type 0) → IsSome (content file) → ((bytes : Text) → LeavesOne (Leads bytes))
+    → LeavesOne (λ o. FileMeans file content (λ bytes. Leads bytes o) o)
+one_of_file file content Leads known one o p (inl e) b = agree_as o p (unread file) p e refl tt
+one_of_file file content Leads known one o p (inr a) (inl e) = agree_as o p o (unread file) refl e (unread_agrees o file)
+one_of_file file content Leads known one o p (inr (inl a)) (inr (inl b)) = agree_as o p _ _ a.1 b.1 refl
+one_of_file file content Leads known one o p (inr (inl a)) (inr (inr b)) = absurd (fits_or_not (content file) b.0 known b.1 b.2 a.0)
+one_of_file file content Leads known one o p (inr (inr a)) (inr (inl b)) = absurd (fits_or_not (content file) a.0 known a.1 a.2 b.0)
+one_of_file file content Leads known one o p (inr (inr a)) (inr (inr b)) =
+    one a.0 o p a.3 (subst (λ bytes. Leads bytes p) (one_content (content file) a.0 b.0 known a.1 b.1) b.3)
+
+pub one_of_solve : (job : SolveJob) (content : Contents) → ((f : Text) → SolveMeans job content (unread f) → IsSome (content f)) → LeavesOne (SolveMeans job content)
+one_of_solve job content known =
+    one_of_file job.file content (λ bytes o. LinkedMeans job.file bytes (λ d. DesignMeans job.kind d o) o) (known job.file (inl refl)) (λ bytes.
+    one_of_linked job.file bytes (λ d. DesignMeans job.kind d) (λ d t. one_of_design job.kind d t.sound))
+
+pub one_outcome : (words : List Text) (content : Contents) → AreKnown words content → LeavesOne (Means words content)
+one_outcome words content known = go (job_of words) known
+  where
+    go : (j : Option Job) → ((f : Text) → MatchOption j (unread f ≡ refuses Words) (λ job. JobMeans job content (unread f)) → IsSome (content f))
+        → LeavesOne (λ o. MatchOption j (o ≡ refuses Words) (λ job. JobMeans job content o))
+    go None known o p a b = agree_as o p _ _ a b refl
+    go (Some (Solve job)) known o p a b = one_of_solve job content known o p a b
+
+-- ---- the status of a call without a text
+
+-- where a refusal is meant: its status, or that of want of memory or of a read fault
+pub refused : (Meant : Outcome → Type 0) (Fault : Text → Type 0) → LeavesOne Meant → (why : Refusal) (stop : Stop) (status : ℕ) → Meant (refuses why) → IsStop Meant Fault stop
+    → status ≡ status_of (NoText stop) → (status ≡ status_of (NoText (Refused why))) ⊎ ((status ≡ 8) ⊎ ((status ≡ 6) × (file : Text) × Meant (unread file) × Fault file))
+refused Meant Fault one why (Refused other) status meant h e = inl (e ∙ one (refuses other) (refuses why) h meant)
+refused Meant Fault one why (Unread file) status meant h e = inr (inr (e, file, h.0, h.1))
+refused Meant Fault one why NoMemory status meant h e = inr (inl e)
+
+-- a text and a refusal are not both meant
+pub not_both : (Meant : Outcome → Type 0) → LeavesOne Meant → (text : Text) (why : Refusal) → Meant (prints text) → Meant (refuses why) → ⊥
+not_both Meant one text why a b = one (prints text) (refuses why) a b
+
+-- where no refusal is meant and no count rose: that of want of memory
+pub completed : (Meant : Outcome → Type 0) (Fault : Text → Type 0) (stop : Stop) (status : ℕ) → ((why : Refusal) → Meant (refuses why) → ⊥)
+    → ((file : Text) → Meant (unread file) → Fault file → ⊥) → IsStop Meant Fault stop → status ≡ status_of (NoText stop) → (status ≡ 0) ⊎ (status ≡ 8)
+completed Meant Fault (Refused why) status accepted calm h e = absurd (accepted why h)
+completed Meant Fault (Unread file) status accepted calm h e = absurd (calm file h.0 h.1)
+completed Meant Fault NoMemory status accepted calm h e = inr e

@@ -1,4 +1,0 @@
-use Rattle.xtalk_top.proofs.solving.solve.Goals as goal
-
-pub settle-requires : goal.settle-requires
-settle-requires c = c.in_ok-low.ensures.starts c.args.top c.requires.within

@@ -1,0 +1,100 @@
+-- What a call does, from its words and its files to its status.
+use Rattle.std.specs.Prelude.{◌≡◌, ℕ, ◌+◌, ◌⊎◌, ◌≤◌, ◌++◌, [], ◌∷◌, List, length, take, codes}
+use Rattle.std.specs.Prelude.{Option, Some, None, IsSome, MatchOption}
+use Rattle.std.specs.Fmt.{decimal, signed_decimal}
+use Rattle.xt_model.specs.Codes.{code_text}
+use Rattle.envelope.specs.declared.fault.What.{What}
+use Rattle.envelope.specs.declared.fault.What.TheVariants.{Time, Slew}
+use Rattle.xt_io.specs.Outside.{Rose, ChangesOnly, IsPrefixAppended, appended}
+use Rattle.xtalk_top.specs.Outcome.{Contents, Outcome, prints, refuses, unread, most_bytes}
+use Rattle.xtalk_top.specs.Solve.{SolveMeans}
+use Rattle.xtalk_top.specs.Words.{Text, job_of}
+use Rattle.xtalk_top.specs.declared.words.Job.{Job}
+use Rattle.xtalk_top.specs.declared.words.Job.TheVariants.{Solve}
+use Rattle.xtalk_top.specs.declared.refusal.PassedLimit.{PassedLimit}
+use Rattle.xtalk_top.specs.declared.refusal.DesignRefusal.TheVariants.{Limit}
+use Rattle.xtalk_top.specs.declared.refusal.TextRefusal.TheVariants.{At}
+use Rattle.xtalk_top.specs.declared.refusal.FileRefusal.TheVariants.{TooLong, Content}
+use Rattle.xtalk_top.specs.declared.refusal.Refusal.TheVariants.{Words, File, Design}
+use Rattle.xtalk_top.specs.declared.refusal.Stop.{Stop}
+use Rattle.xtalk_top.specs.declared.refusal.Stop.TheVariants.{Refused, Unread, NoMemory}
+use Rattle.xtalk_top.specs.declared.refusal.Failure.{Failure}
+use Rattle.xtalk_top.specs.declared.refusal.Failure.TheVariants.{NoText, Unwritten}
+
+-- ---- what the words and the files mean
+
+-- each command has a page of its own
+abbrev pub JobMeans : Job → Contents → Outcome → Type 0
+JobMeans (Solve job) content outcome = SolveMeans job content outcome
+
+-- the words are outside the grammar; or they ask for a job, whose files and design lead to the outcome
+abbrev pub Means : List Text → Contents → Outcome → Type 0
+Means words content outcome =
+    MatchOption (job_of words) (outcome ≡ refuses Words) (λ job. JobMeans job content outcome)
+
+-- the content of each file is known that is read before the outcome stands
+abbrev pub AreKnown : List Text → Contents → Type 0
+AreKnown words content = (file : Text) → Means words content (unread file) → IsSome (content file)
+
+-- ---- why a call does not print its whole text
+
+-- a fault came at this file, by the counts before and after: its own rose, and no other changed
+abbrev pub HasFault : (Text → ℕ) → (Text → ℕ) → Text → Type 0
+HasFault before after file = Rose (before file) (after file) × ChangesOnly file before after
+
+-- there is no text: a refusal is meant; a file cannot be read, and a fault came at it; or there was no memory
+abbrev pub IsStop : (Outcome → Type 0) → (Text → Type 0) → Stop → Type 0
+IsStop Meant Fault (Refused why) = Meant (refuses why)
+IsStop Meant Fault (Unread file) = Meant (unread file) × Fault file
+IsStop Meant Fault NoMemory = Unit {0}
+
+-- the output has a first part of the text, not all of it, and its count of faults rose
+abbrev pub IsCutOff : Option Text → Option Text → ℕ → ℕ → Text → Type 0
+IsCutOff before after faults_before faults_after text =
+    IsPrefixAppended before after text × Rose faults_before faults_after
+
+-- there is no text; or there is one, and writing it was cut off
+abbrev pub IsFailure : (Outcome → Type 0) → (Text → Type 0) → (Text → Type 0) → Failure → Type 0
+IsFailure Meant Fault CutOff (NoText stop) = IsStop Meant Fault stop
+IsFailure Meant Fault CutOff Unwritten = (text : Text) × Meant (prints text) × CutOff text
+
+-- ---- its status and its line
+
+abbrev pub what_word : What → Text
+what_word Time = codes "time"
+what_word Slew = codes "slew"
+
+-- a name and a space, where there is a name
+abbrev pub name_field : Option Text → Text
+name_field None = []
+name_field (Some name) = name ++ codes " "
+
+-- `limit: WHAT NAME VALUE`, or without a name
+abbrev pub limit_line : PassedLimit → Text
+limit_line l = codes "limit: " ++ (what_word l.what ++ (codes " " ++ (name_field l.name ++ signed_decimal l.value)))
+
+-- the exit status of each failure, and its line on the error stream
+abbrev pub status_and_line : Failure → ℕ × Text
+status_and_line (NoText (Refused Words)) = (2, codes "xtalk: bad command line")
+status_and_line (NoText (Refused (File file (Content (At line code))))) =
+    (3, file ++ (codes ":" ++ (decimal line ++ (codes ": " ++ code_text code))))
+status_and_line (NoText (Refused (File file TooLong))) =
+    (5, codes "limit: file " ++ (file ++ (codes " " ++ decimal (most_bytes + 1))))
+status_and_line (NoText (Refused (Design (Limit passed)))) = (5, limit_line passed)
+status_and_line (NoText (Unread file)) = (6, codes "read fault: " ++ file)
+status_and_line Unwritten = (7, codes "write fault")
+status_and_line (NoText NoMemory) = (8, codes "out of memory")
+
+abbrev pub status_of : Failure → ℕ
+status_of failure = (status_and_line failure).0
+
+-- the line, with its newline
+abbrev pub line_of : Failure → Text
+line_of failure = (status_and_line failure).1 ++ 10 ∷ []
+
+-- some first part of the line was appended, and all of it unless the sink had a fault
+pub record WritesLine (before after : Option Text) (faults_before faults_after : ℕ) (line : Text) : Type 0 where
+  pub count : ℕ
+  pub within : count ≤ length line
+  pub prefix : after ≡ appended before (take count line)
+  pub whole : (count ≡ length line) ⊎ Rose faults_before faults_after

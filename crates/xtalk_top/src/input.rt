@@ -1,0 +1,55 @@
+//! The files of a command: their bytes, and the designs that they hold.
+
+ghost use Rattle.std.specs.Prelude.{◌≡◌, ◌≢◌, ◌≤◌, length, IfOk, IfErr, IfSome};
+ghost use Rattle.xt_io.specs.Outside.{KeepsCounts};
+ghost use Rattle.xtalk_top.specs.Outcome.{FileMeans, LinkedMeans, IsDesignText, most_bytes};
+ghost use Rattle.xtalk_top.specs.Call.{HasFault, IsStop, status_of};
+ghost use Rattle.xtalk_top.specs.declared.refusal.Failure.TheVariants.{NoText};
+
+use crate::file_name::FileName;
+use crate::refusal::{FileRefusal, Refusal, Stop, TextRefusal};
+use linked_text::{LinkedFault, read_linked};
+use std::alloc::Global;
+use xt_io::{Files, ReadFail, read_whole};
+use xt_model::Design;
+
+/// The bytes of a file, behind its name.
+pub fn read_file<F: Files>(
+    alloc: Global,
+    files: &mut F,
+    file: FileName,
+) -> Result<(FileName, Vec<u8>), Stop>
+    ensures name { IfOk result (λ r. r.0 ≡ file) }
+    ensures whole { IfOk result (λ r. IfSome (F.content files.old file) (λ whole. r.1.items ≡ whole)) }
+    ensures fits { IfOk result (λ r. length r.1.items ≤ most_bytes) }
+    ensures stop { IfErr result (IsStop (FileMeans file (F.content files.old) (λ _. ⊥))
+        (HasFault (F.faults files.old) (F.faults files.new))) }
+    ensures calm { IfOk result (λ _. KeepsCounts (F.faults files.old) (F.faults files.new)) }
+    ensures read { IfErr result (λ stop. status_of (NoText stop) ≢ 6
+        → KeepsCounts (F.faults files.old) (F.faults files.new)) }
+{
+    match read_whole(alloc, files, file.as_str()) {
+        Ok(bytes) => Ok((file, bytes)),
+        Err(ReadFail::Fault) => Err(Stop::Unread { file }),
+        Err(ReadFail::TooLong) => Err(Stop::Refused(Refusal::File {
+            file,
+            why: FileRefusal::TooLong,
+        })),
+        Err(ReadFail::NoMemory) => Err(Stop::NoMemory),
+    }
+}
+
+/// The design whose linked text a file of this name holds.
+pub fn read_design(alloc: Global, file: FileName, bytes: &[u8]) -> Result<Design, Stop>
+    ensures ok { IfOk result (IsDesignText bytes.now) }
+    ensures stop { IfErr result (IsStop (LinkedMeans file bytes.now (λ _. ⊥)) (λ _. ⊥)) }
+{
+    match read_linked(alloc, bytes) {
+        Ok(design) => Ok(design),
+        Err(LinkedFault::Refused { line, code }) => Err(Stop::Refused(Refusal::File {
+            file,
+            why: FileRefusal::Content(TextRefusal::At { line, code }),
+        })),
+        Err(LinkedFault::NoMemory) => Err(Stop::NoMemory),
+    }
+}

@@ -1,0 +1,244 @@
+//! The line and the status of a failure.
+
+ghost use Rattle.std.specs.Prelude.{◌≡◌, ℕ, ◌≤◌, List, [], ◌++◌, OnOk, OnErr};
+ghost use Rattle.xt_io.specs.Outside.{Rose, appended, IsPrefixAppended};
+ghost use Rattle.xtalk_top.specs.Call.{line_of, status_of, what_word, name_field, WritesLine};
+ghost use Rattle.xtalk_top.specs.declared.refusal.Failure.TheVariants.{NoText};
+ghost use Rattle.xtalk_top.specs.declared.refusal.Stop.TheVariants.{Refused};
+ghost use Rattle.xtalk_top.specs.declared.refusal.Refusal.TheVariants.{File, Design};
+ghost use Rattle.xtalk_top.specs.declared.refusal.FileRefusal.TheVariants.{Content, TooLong};
+ghost use Rattle.xtalk_top.specs.declared.refusal.TextRefusal.TheVariants.{At};
+ghost use Rattle.xtalk_top.specs.declared.refusal.DesignRefusal.TheVariants.{Limit};
+
+use crate::file_name::FileName;
+use crate::refusal::{
+    DesignRefusal, Failure, FileRefusal, PassedLimit, Refusal, Stop, TextRefusal,
+};
+use envelope::What;
+use itoa::Buffer;
+use xt_io::{Failed, MOST_BYTES, Sink, write_whole};
+use xt_model::{Code, Name};
+
+/// Writes the line of a failure, and gives its status. A fault of the sink cuts the line off and changes nothing
+/// else.
+pub fn refuse<E: Sink>(err: &mut E, failure: &Failure) -> u8
+    ensures status { result ≡ status_of failure.now }
+    ensures line { WritesLine (E.written err.old) (E.written err.new) (E.faults err.old) (E.faults err.new)
+        (line_of failure.now) }
+{
+    let _ = write_line(err, failure);
+    status(failure)
+}
+
+// The exit status of a failure.
+fn status(failure: &Failure) -> u8
+    ensures { result ≡ status_of failure.now }
+{
+    match failure {
+        Failure::NoText(Stop::Refused(why)) => refusal_status(why),
+        Failure::NoText(Stop::Unread { file: _ }) => 6,
+        Failure::Unwritten => 7,
+        Failure::NoText(Stop::NoMemory) => 8,
+    }
+}
+
+// The exit status of a refusal.
+fn refusal_status(why: &Refusal) -> u8
+    ensures { result ≡ status_of (NoText (Refused why.now)) }
+{
+    match why {
+        Refusal::Words => 2,
+        Refusal::File {
+            file: _,
+            why: FileRefusal::Content(TextRefusal::At { line: _, code: _ }),
+        } => 3,
+        Refusal::File {
+            file: _,
+            why: FileRefusal::TooLong,
+        } => 5,
+        Refusal::Design(DesignRefusal::Limit(_)) => 5,
+    }
+}
+
+fn word_of_what(what: What) -> &'static [u8]
+    ensures { result.now ≡ what_word what }
+{
+    match what {
+        What::Time => b"time",
+        What::Slew => b"slew",
+    }
+}
+
+// Writes the line as far as the sink takes it.
+fn write_line<E: Sink>(err: &mut E, failure: &Failure) -> Result<(), Failed>
+    ensures ok { OnOk result (E.written err.new ≡ appended (E.written err.old)
+        (line_of failure.now)) }
+    ensures err { OnErr result (IsPrefixAppended (E.written err.old) (E.written err.new)
+        (line_of failure.now)) }
+    ensures failed { OnErr result (Rose (E.faults err.old) (E.faults err.new)) }
+{
+    match failure {
+        Failure::NoText(stop) => write_stop(err, stop),
+        Failure::Unwritten => write_whole(err, b"write fault\n"),
+    }
+}
+
+// Writes why there is no text.
+fn write_stop<E: Sink>(err: &mut E, stop: &Stop) -> Result<(), Failed>
+    ensures ok { OnOk result (E.written err.new ≡ appended (E.written err.old)
+        (line_of (NoText stop.now))) }
+    ensures err { OnErr result (IsPrefixAppended (E.written err.old) (E.written err.new)
+        (line_of (NoText stop.now))) }
+    ensures failed { OnErr result (Rose (E.faults err.old) (E.faults err.new)) }
+{
+    match stop {
+        Stop::Refused(why) => write_refusal(err, why),
+        Stop::Unread { file } => {
+            write_three(err, b"read fault: ", file.as_str().as_bytes(), b"\n")
+        }
+        Stop::NoMemory => write_whole(err, b"out of memory\n"),
+    }
+}
+
+// Writes why the words and the files mean no text.
+fn write_refusal<E: Sink>(err: &mut E, why: &Refusal) -> Result<(), Failed>
+    ensures ok { OnOk result (E.written err.new ≡ appended (E.written err.old)
+        (line_of (NoText (Refused why.now)))) }
+    ensures err { OnErr result (IsPrefixAppended (E.written err.old) (E.written err.new)
+        (line_of (NoText (Refused why.now)))) }
+    ensures failed { OnErr result (Rose (E.faults err.old) (E.faults err.new)) }
+{
+    match why {
+        Refusal::Words => write_whole(err, b"xtalk: bad command line\n"),
+        Refusal::File { file, why } => write_file_refusal(err, file, why),
+        Refusal::Design(DesignRefusal::Limit(passed)) => write_limit(err, passed),
+    }
+}
+
+// Writes why a file of this name gives nothing.
+fn write_file_refusal<E: Sink>(
+    err: &mut E,
+    file: &FileName,
+    why: &FileRefusal,
+) -> Result<(), Failed>
+    ensures ok { OnOk result (E.written err.new ≡ appended (E.written err.old)
+        (line_of (NoText (Refused (File file.now why.now))))) }
+    ensures err { OnErr result (IsPrefixAppended (E.written err.old) (E.written err.new)
+        (line_of (NoText (Refused (File file.now why.now))))) }
+    ensures failed { OnErr result (Rose (E.faults err.old) (E.faults err.new)) }
+{
+    match why {
+        FileRefusal::TooLong => write_length(err, file),
+        FileRefusal::Content(TextRefusal::At { line, code }) => write_place(
+            err, file, *line, *code,
+        ),
+    }
+}
+
+// Writes where a text is refused, and why.
+fn write_place<E: Sink>(err: &mut E, file: &FileName, line: u32, code: Code) -> Result<(), Failed>
+    ensures ok { OnOk result (E.written err.new ≡ appended (E.written err.old)
+        (line_of (NoText (Refused (File file.now (Content (At line code))))))) }
+    ensures err { OnErr result (IsPrefixAppended (E.written err.old) (E.written err.new)
+        (line_of (NoText (Refused (File file.now (Content (At line code))))))) }
+    ensures failed { OnErr result (Rose (E.faults err.old) (E.faults err.new)) }
+{
+    let mut buffer = Buffer::new();
+    write_three(
+        err,
+        file.as_str().as_bytes(),
+        b":",
+        buffer.format(line).as_bytes(),
+    )?;
+    write_three(err, b": ", code.text().as_bytes(), b"\n")
+}
+
+// Writes which file is too long.
+fn write_length<E: Sink>(err: &mut E, file: &FileName) -> Result<(), Failed>
+    ensures ok { OnOk result (E.written err.new ≡ appended (E.written err.old)
+        (line_of (NoText (Refused (File file.now TooLong))))) }
+    ensures err { OnErr result (IsPrefixAppended (E.written err.old) (E.written err.new)
+        (line_of (NoText (Refused (File file.now TooLong))))) }
+    ensures failed { OnErr result (Rose (E.faults err.old) (E.faults err.new)) }
+{
+    let mut buffer = Buffer::new();
+    write_two(err, b"limit: file ", file.as_str().as_bytes())?;
+    write_three(err, b" ", buffer.format(MOST_BYTES + 1).as_bytes(), b"\n")
+}
+
+// Writes which limit is passed, at which net, and by what.
+fn write_limit<E: Sink>(err: &mut E, passed: &PassedLimit) -> Result<(), Failed>
+    ensures ok { OnOk result (E.written err.new ≡ appended (E.written err.old)
+        (line_of (NoText (Refused (Design (Limit passed.now)))))) }
+    ensures err { OnErr result (IsPrefixAppended (E.written err.old) (E.written err.new)
+        (line_of (NoText (Refused (Design (Limit passed.now)))))) }
+    ensures failed { OnErr result (Rose (E.faults err.old) (E.faults err.new)) }
+{
+    let mut buffer = Buffer::new();
+    let (name, space) = name_pieces(&passed.name);
+    write_three(err, b"limit: ", word_of_what(passed.what), b" ")?;
+    write_four(
+        err,
+        name,
+        space,
+        buffer.format(passed.value).as_bytes(),
+        b"\n",
+    )
+}
+
+// A name and a space, or nothing twice.
+fn name_pieces(name: &Option<Name>) -> (&[u8], &[u8])
+    ensures { result.0.now ++ result.1.now ≡ name_field name.now }
+{
+    match name {
+        Some(name) => (name.bytes(), b" "),
+        None => (b"", b""),
+    }
+}
+
+// Writes four pieces one after another; after a failure some first part of the four was written.
+fn write_four<S: Sink>(
+    sink: &mut S,
+    first: &[u8],
+    second: &[u8],
+    third: &[u8],
+    fourth: &[u8],
+) -> Result<(), Failed>
+    ensures counts { S.faults sink.old ≤ S.faults sink.new }
+    ensures ok { OnOk result (S.written sink.new ≡ appended (S.written sink.old)
+        (first.now ++ (second.now ++ (third.now ++ fourth.now)))) }
+    ensures err { OnErr result (IsPrefixAppended (S.written sink.old) (S.written sink.new)
+        (first.now ++ (second.now ++ (third.now ++ fourth.now)))) }
+    ensures failed { OnErr result (Rose (S.faults sink.old) (S.faults sink.new)) }
+{
+    write_whole(sink, first)?;
+    write_three(sink, second, third, fourth)
+}
+
+// Writes three pieces one after another; after a failure some first part of the three was written.
+fn write_three<S: Sink>(
+    sink: &mut S,
+    first: &[u8],
+    second: &[u8],
+    third: &[u8],
+) -> Result<(), Failed>
+    ensures counts { S.faults sink.old ≤ S.faults sink.new }
+    ensures ok { OnOk result (S.written sink.new ≡ appended (S.written sink.old)
+        (first.now ++ (second.now ++ third.now))) }
+    ensures err { OnErr result (IsPrefixAppended (S.written sink.old) (S.written sink.new)
+        (first.now ++ (second.now ++ third.now))) }
+    ensures failed { OnErr result (Rose (S.faults sink.old) (S.faults sink.new)) }
+{
+    write_whole(sink, first)?;
+    write_two(sink, second, third)
+}
+
+fn write_two<S: Sink>(sink: &mut S, first: &[u8], second: &[u8]) -> Result<(), Failed>
+    ensures counts { S.faults sink.old ≤ S.faults sink.new }
+    ensures ok { OnOk result (S.written sink.new ≡ appended (S.written sink.old) (first.now ++ second.now)) }
+    ensures err { OnErr result (IsPrefixAppended (S.written sink.old) (S.written sink.new) (first.now ++ second.now)) }
+    ensures failed { OnErr result (Rose (S.faults sink.old) (S.faults sink.new)) }
+{
+    write_whole(sink, first)?;
+    write_whole(sink, second)
+}
