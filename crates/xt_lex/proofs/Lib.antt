@@ -1,0 +1,4 @@
+pub mod Skip
+pub mod Spans
+pub mod Plain
+pub mod Inline

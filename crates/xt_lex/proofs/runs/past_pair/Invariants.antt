@@ -1,0 +1,12 @@
+use Rattle.std.proofs.Common.{◌≡◌, ◌+◌, length}
+use Rattle.xt_lex.specs.Runs.{past_pair, further}
+use Rattle.xt_lex.proofs.runs.past_pair.Given as goal
+
+abbrev pub invariant-bytes : goal.invariant-bytes
+invariant-bytes l = record {
+  value : further l.passed (past_pair l.left l.right l.rest) ≡ past_pair l.left l.right l.bytes;
+  room : l.passed + length l.rest ≡ length l.bytes;
+}
+
+abbrev pub decreases-bytes : goal.decreases-bytes
+decreases-bytes l = length l.rest

@@ -1,0 +1,11 @@
+pub mod Bytes
+pub mod Runs
+pub mod Fronts
+pub mod Liberty
+pub mod Verilog
+pub mod Spef
+pub mod Sdc
+pub mod Pieces
+pub mod Tokens
+pub mod Faults
+pub mod View
