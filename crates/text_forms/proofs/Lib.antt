@@ -1,0 +1,2 @@
+pub mod ByForms
+mod NameLaws

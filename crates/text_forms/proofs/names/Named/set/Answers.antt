@@ -1,0 +1,8 @@
+use Rattle.std.proofs.Common.{ap, ◌∙◌, refl, map}
+use Rattle.text_forms.proofs.NameLaws.{value_mapped, named}
+use Rattle.text_forms.proofs.names.Named.set.Goals as goal
+
+pub returns-clause-given : goal.returns-clause-given
+returns-clause-given g c =
+    let k = ap (map (named (λ k. k.now))) c.in_ok-insert.ensures.entries ∙ value_mapped (λ k. k.now) c.self.inside.table.entries c.args.name c.args.value in
+    k ∙ rw c.self.view_is refl

@@ -1,0 +1,8 @@
+use Rattle.std.proofs.Common.{ap, ◌∙◌, refl, map}
+use Rattle.text_forms.proofs.NameLaws.{value_mapped, named}
+use Rattle.text_forms.proofs.table.NameTable.set.Goals as goal
+
+pub returns-clause-given : goal.returns-clause-given
+returns-clause-given g c =
+    let k = ap (map (named (λ k. k.items))) c.in_ok-insert.ensures.entries ∙ value_mapped (λ k. k.items) c.self.inside.table.entries c.in_ok-kept.kept c.args.value in
+    k ∙ rw (c.in_ok-kept.ensures.items, c.self.view_is) refl

@@ -1,0 +1,11 @@
+//! What every reader of a text stands on: names in the order in which they were first seen, and the grammar of a text
+//! as forms, whose reading and meaning are definitions (`specs/Forms.antt`, `specs/Meaning.antt`).
+#![tactic(auto)]
+
+mod names;
+mod table;
+#[cfg(test)]
+mod tests;
+
+pub use names::{Named, Names};
+pub use table::NameTable;

@@ -1,0 +1,79 @@
+ghost use Rattle.std.specs.Prelude.{◌≡◌, ◌<◌, ◌^◌, List, ℕ, length, map, option_map, OnOk, OnErr};
+ghost use Rattle.text_forms.specs.Names.{found, with_value};
+
+use indexmap::IndexMap;
+use std::alloc::{AllocError, Global};
+use std::marker::Model;
+
+/// The greatest number of names that a table has.
+const MOST_NAMES: usize = 4_294_967_295;
+
+/// Values by name, in the order in which the names were first seen, with names of its own; contracts see the list of
+/// names with their values. A look-up is by hash, and takes no memory. A table with 4,294,967,295 names has no memory
+/// for a further one.
+#[derive(Drop)]
+pub struct NameTable<V> {
+    table: IndexMap<Vec<u8>, V>,
+}
+
+impl<V> Model for NameTable<V> {
+    ghost Value = { List (List ℕ × V) };
+
+    ghost view = { λ n. map (λ e. (e.0.items, e.1)) n.table.entries };
+
+    ghost invariant = { λ n. length n.table.entries < 2 ^ 32 };
+}
+
+impl<V: Drop> NameTable<V> {
+    ghost use Rattle.std.specs.Prelude.{[]};
+    ghost use Rattle.std.specs.List.{slice_get};
+
+    /// No name.
+    pub fn new(alloc: Global) -> NameTable<V>
+        ensures { result ≡ [] }
+    {
+        NameTable {
+            table: IndexMap::new(alloc),
+        }
+    }
+
+    /// The number and the value of a name, where it has one.
+    pub fn find(&self, name: &[u8]) -> Option<(u32, &V)>
+        ensures { option_map (λ f. (f.0, f.1.now)) result ≡ found name.now self.now }
+    {
+        match self.table.get_full(name) {
+            None => None,
+            Some((number, _, value)) => Some((number as u32, value)),
+        }
+    }
+
+    /// The name of a number and its value.
+    pub fn get(&self, number: u32) -> Option<(&[u8], &V)>
+        ensures { option_map (λ e. (e.0.now, e.1.now)) result ≡ slice_get self.now number }
+    {
+        match self.table.get_index(number as usize) {
+            None => None,
+            Some((name, value)) => Some((name.as_slice(), value)),
+        }
+    }
+
+    /// Gives a name its value, in the place of the one that it has.
+    pub fn set(&mut self, alloc: Global, name: &[u8], value: V) -> Result<(), AllocError>
+        ensures given { OnOk result (self.new ≡ with_value name.now value self.old) }
+        ensures unchanged { OnErr result (self.new ≡ self.old) }
+    {
+        if self.table.len() >= MOST_NAMES {
+            return Err(AllocError);
+        }
+        let kept = Vec::from_slice(alloc, name)?;
+        self.table.insert(kept, value)?;
+        Ok(())
+    }
+
+    /// How many names there are.
+    pub fn len(&self) -> u32
+        ensures { result ≡ length self.now }
+    {
+        self.table.len() as u32
+    }
+}
