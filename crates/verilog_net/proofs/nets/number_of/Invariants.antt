@@ -1,0 +1,12 @@
+use Rattle.std.proofs.Common.{◌≡◌, ℕ, ◌≤◌, ◌*◌, ◌+◌, length}
+use Rattle.verilog_net.specs.Nets.{number_of, number_from, most_bit}
+use Rattle.verilog_net.proofs.nets.number_of.Given as goal
+
+abbrev pub invariant-digits : goal.invariant-digits
+invariant-digits l = record {
+  value : number_from l.number l.rest ≡ number_of l.digits;
+  within : l.number ≤ most_bit * 10 + 255;
+}
+
+abbrev pub decreases-digits : goal.decreases-digits
+decreases-digits l = length l.rest

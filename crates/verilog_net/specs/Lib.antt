@@ -1,0 +1,7 @@
+pub mod Sorts
+pub mod Forms
+pub mod Nets
+pub mod Ports
+pub mod Meaning
+pub mod Reading
+pub mod View

@@ -1,0 +1,106 @@
+-- The nets of a module by their names. A bus has a bit for each number between the bounds of its range.
+use Rattle.std.specs.Prelude.{ℕ, zero, suc, ◌+◌, ◌-◌, ◌*◌, nat_lt, nat_le, Bool, true, false, not, ◌&&◌, ◌||◌}
+use Rattle.std.specs.Prelude.{List, [], ◌∷◌, length, take, Option, Some, None, is_some, ◌==◌, if◌then◌else◌}
+use Rattle.std.specs.Char.{is_ascii_digit}
+use Rattle.std.specs.List.{list_any}
+use Rattle.text_forms.specs.Names.{Text, found, ◌>>=◌}
+use Rattle.verilog_net.specs.declared.netlist.Net.{Net}
+use Rattle.verilog_net.specs.declared.netlist.PortRole.{PortRole}
+use Rattle.verilog_net.specs.declared.netlist.PortRole.TheVariants.{Input, Output, Inner}
+
+-- the nets of a module by name, in order of first declaration or use
+abbrev pub Nets : Type 0
+Nets = List (Text × Net)
+
+-- the greatest number of a bit
+abbrev pub most_bit : ℕ
+most_bit = 1048575
+
+-- the number of these digits behind a number, where none on the way is too great for a bit
+abbrev pub number_from : ℕ → Text → Option ℕ
+number_from n [] = if nat_le n most_bit then Some n else None
+number_from n (b ∷ more) = if nat_le n most_bit then number_from (n * 10 + (b - 48)) more else None
+
+-- the number of a bit or a bound, unless it is too great
+abbrev pub number_of : Text → Option ℕ
+number_of digits = number_from 0 digits
+
+-- the number that goes on with these bytes, up to a `]` that ends them
+abbrev pub closed_from : ℕ → Text → Option ℕ
+closed_from n [] = None
+closed_from n (b ∷ more) =
+    if nat_lt most_bit n then None
+    else if is_ascii_digit b then closed_from (n * 10 + (b - 48)) more
+    else if b == 93 && length more == 0 then Some n
+    else None
+
+-- the number of a bit as its name has it: without needless zeros, and with a `]` that ends the bytes
+abbrev pub closed_number : Text → Option ℕ
+closed_number [] = None
+closed_number (b ∷ more) =
+    if b == 48 then (if nat_lt 1 (length more) then None else closed_from 0 more)
+    else if is_ascii_digit b then closed_from (b - 48) more
+    else None
+
+-- a bit whose `[` stands here, or else one whose `[` stands further on
+abbrev pub bit_here : ℕ → Option ℕ → Option (ℕ × ℕ) → Option (ℕ × ℕ)
+bit_here at (Some bit) more = Some (at, bit)
+bit_here at None more = more
+
+-- where the `[` of a bit's name stands, counted on from a place, and the number of the bit
+abbrev pub bit_from : ℕ → Text → Option (ℕ × ℕ)
+bit_from at [] = None
+bit_from at (b ∷ more) =
+    if b == 91 then bit_here at (closed_number more) (bit_from (at + 1) more) else bit_from (at + 1) more
+
+-- a bus has this bit
+abbrev pub has_bit : ℕ × ℕ → ℕ → Bool
+has_bit range bit = nat_le range.0 bit && nat_le bit range.1 || nat_le range.1 bit && nat_le bit range.0
+
+-- a bit: the number of its bus among the nets, its own number, and the role of the bus
+abbrev pub NetBit : Type 0
+NetBit = ℕ × ℕ × PortRole
+
+-- the bit that has this name: bit k of a bus `a` has the name `a[k]`
+unfoldable pub named_bit : Text → Nets → Option NetBit
+named_bit name nets = do
+  place ← bit_from 0 name
+  bus ← found (take place.0 name) nets
+  range ← bus.1.range
+  if has_bit range place.1 then Some (bus.0, place.1, bus.1.role) else None
+
+-- both are ranges with the same bounds, or none is a range
+abbrev pub same_range : Option (ℕ × ℕ) → Option (ℕ × ℕ) → Bool
+same_range None None = true
+same_range (Some r) (Some q) = r.0 == q.0 && r.1 == q.1
+same_range _ _ = false
+
+-- what a net is that is declared as this and then as that; it cannot have both directions
+abbrev pub joined_role : PortRole → PortRole → Option PortRole
+joined_role Inner role = Some role
+joined_role Input Output = None
+joined_role Output Input = None
+joined_role role _ = Some role
+
+-- the net has a direction
+abbrev pub is_directed : PortRole → Bool
+is_directed Inner = false
+is_directed _ = true
+
+-- the bit is there and has a direction
+abbrev pub is_port_bit : Option NetBit → Bool
+is_port_bit (Some bit) = is_directed bit.2
+is_port_bit None = false
+
+-- the net, or the bit where there is no such net, is there and has a direction
+abbrev pub is_port_as : Option (ℕ × Net) → Option NetBit → Bool
+is_port_as (Some net) bit = is_directed net.1.role
+is_port_as None bit = is_port_bit bit
+
+-- the name is that of a net with a direction, or of a bit of one
+unfoldable pub is_port : Text → Nets → Bool
+is_port name nets = is_port_as (found name nets) (named_bit name nets)
+
+-- some net has the name of a bit of a bus: it was used as a net of its own before the bus was declared
+abbrev pub has_clash : Nets → Bool
+has_clash nets = list_any (λ e. is_some (named_bit e.0 nets)) nets

@@ -1,0 +1,404 @@
+//! One form of a netlist by what may come next.
+
+ghost use Rattle.std.specs.Prelude.{◌≡◌, ℕ, Some, None, [], ◌∷◌, true, MatchResult, IfOk, IfErr, Option};
+ghost use Rattle.text_forms.specs.Forms.{Form};
+ghost use Rattle.verilog_net.specs.Forms.{misfit, misfits, role_of, first_form, start_forms, between_forms};
+ghost use Rattle.verilog_net.specs.Forms.{module_name_forms, header_forms, listed_forms, body_forms};
+ghost use Rattle.verilog_net.specs.Forms.{left_bound_forms, right_bound_forms, declared_forms, opening_forms};
+ghost use Rattle.verilog_net.specs.Forms.{pins_forms, pin_forms, connection_forms, bit_given_forms};
+ghost use Rattle.verilog_net.specs.Forms.{connected_forms, closed_forms, forms_in, is_done};
+ghost use Rattle.verilog_net.specs.View.{token_of, said, whole_of, refusal_of, refusal_at, IsOther, Gives};
+
+use crate::context::Context;
+use crate::item::{FormRead, Item};
+use crate::netlist::PortRole;
+use crate::refusal::Refused;
+use crate::sort::Sort;
+use crate::term::{Term, Terms};
+use xt_model::Code;
+
+/// A form that was read, whose last token stands in this line.
+#[inline]
+fn done(item: Item<'_>, line: u32, next: Context) -> FormRead<'_>
+    ensures { whole_of result ≡ record { said = said item.entry; line = line; next = next } }
+{
+    FormRead { item, line, next }
+}
+
+/// The code of a token that does not fit.
+fn misfit(sort: Sort) -> Code
+    ensures { result ≡ misfit sort }
+{
+    match sort {
+        Sort::End => Code::V2,
+        Sort::Unsupported => Code::V3,
+        _ => Code::V1,
+    }
+}
+
+/// The refusal of a token that does not fit.
+pub fn refused(term: Term<'_>) -> Refused
+    ensures { refusal_of result ≡ record { line = term.entry.line; code = misfit term.entry.sort } }
+{
+    Refused {
+        line: term.line,
+        code: misfit(term.sort),
+    }
+}
+
+/// What the word of a declaration makes of the names behind it.
+fn role_of(word: &[u8]) -> PortRole
+    ensures { result ≡ role_of word.now }
+{
+    if word == b"input".as_slice() {
+        PortRole::Input
+    } else if word == b"output".as_slice() {
+        PortRole::Output
+    } else {
+        PortRole::Inner
+    }
+}
+
+/// The next token.
+#[inline]
+fn any<'a>(terms: &mut Terms<'a>) -> Result<Term<'a>, Refused>
+    ensures { MatchResult result (λ t. terms.old ≡ token_of t ∷ terms.new)
+        (λ r. (terms.old ≡ []) × (refusal_of r ≡ refusal_at [])) }
+{
+    terms.next_term().ok_or(Refused {
+        line: 1,
+        code: Code::V2,
+    })
+}
+
+/// The next token, which has to be of this sort.
+#[inline]
+fn expect<'a>(sort: Sort, terms: &mut Terms<'a>) -> Result<Term<'a>, Refused>
+    ensures found { IfOk result (λ t. (terms.old ≡ token_of t ∷ terms.new) × (t.sort ≡ sort)) }
+    ensures refused { IfErr result (λ r. refusal_of r ≡ refusal_at terms.old) }
+    ensures other { IfErr result (λ r. IsOther sort terms.old) }
+{
+    let term = any(terms)?;
+    if sort.same(term.sort) {
+        Ok(term)
+    } else {
+        Err(refused(term))
+    }
+}
+
+/// At the start of a text.
+fn at_start<'a>(terms: &mut Terms<'a>) -> Result<FormRead<'a>, Refused>
+    ensures { Gives (λ r. (whole_of r, terms.new)) result (first_form start_forms terms.old) }
+{
+    let first = any(terms)?;
+    match first.sort {
+        Sort::Module => Ok(done(Item::ModuleBegins, first.line, Context::ModuleName)),
+        Sort::Unsupported => Ok(done(Item::Refused(Code::V1), first.line, Context::Done)),
+        _ => Err(refused(first)),
+    }
+}
+
+/// Behind `endmodule`.
+fn between<'a>(terms: &mut Terms<'a>) -> Result<FormRead<'a>, Refused>
+    ensures { Gives (λ r. (whole_of r, terms.new)) result (first_form between_forms terms.old) }
+{
+    let first = any(terms)?;
+    match first.sort {
+        Sort::Module => Ok(done(Item::ModuleBegins, first.line, Context::ModuleName)),
+        Sort::End => Ok(done(Item::Nothing, first.line, Context::Done)),
+        Sort::Unsupported => Ok(done(Item::Refused(Code::V1), first.line, Context::Done)),
+        _ => Err(refused(first)),
+    }
+}
+
+/// The name of a module.
+fn module_name<'a>(terms: &mut Terms<'a>) -> Result<FormRead<'a>, Refused>
+    ensures { Gives (λ r. (whole_of r, terms.new)) result (first_form module_name_forms terms.old) }
+{
+    let name = expect(Sort::Name, terms)?;
+    Ok(done(Item::ModuleName(name.text), name.line, Context::Header))
+}
+
+/// Behind the name of a module.
+fn header<'a>(terms: &mut Terms<'a>) -> Result<FormRead<'a>, Refused>
+    ensures { Gives (λ r. (whole_of r, terms.new)) result (first_form header_forms terms.old) }
+{
+    let first = any(terms)?;
+    match first.sort {
+        Sort::Semicolon => Ok(done(Item::Nothing, first.line, Context::Body)),
+        Sort::LeftParen => {
+            let second = any(terms)?;
+            match second.sort {
+                Sort::Name => Ok(done(Item::Listed(second.text), second.line, Context::Listed)),
+                Sort::Direction => Ok(done(Item::Refused(Code::V3), second.line, Context::Done)),
+                _ => Err(refused(second)),
+            }
+        }
+        Sort::Direction => Ok(done(Item::Refused(Code::V3), first.line, Context::Done)),
+        _ => Err(refused(first)),
+    }
+}
+
+/// Behind a name of the header.
+fn listed<'a>(terms: &mut Terms<'a>) -> Result<FormRead<'a>, Refused>
+    ensures { Gives (λ r. (whole_of r, terms.new)) result (first_form listed_forms terms.old) }
+{
+    let first = any(terms)?;
+    match first.sort {
+        Sort::Comma => {
+            let second = any(terms)?;
+            match second.sort {
+                Sort::Name => Ok(done(Item::Listed(second.text), second.line, Context::Listed)),
+                Sort::Direction => Ok(done(Item::Refused(Code::V3), second.line, Context::Done)),
+                _ => Err(refused(second)),
+            }
+        }
+        Sort::RightParen => {
+            let second = any(terms)?;
+            match second.sort {
+                Sort::Semicolon => Ok(done(Item::Nothing, second.line, Context::Body)),
+                Sort::Direction => Ok(done(Item::Refused(Code::V3), second.line, Context::Done)),
+                _ => Err(refused(second)),
+            }
+        }
+        Sort::Direction => Ok(done(Item::Refused(Code::V3), first.line, Context::Done)),
+        _ => Err(refused(first)),
+    }
+}
+
+/// A statement, or the end of the module.
+fn in_body<'a>(terms: &mut Terms<'a>) -> Result<FormRead<'a>, Refused>
+    ensures { Gives (λ r. (whole_of r, terms.new)) result (first_form body_forms terms.old) }
+{
+    let first = any(terms)?;
+    match first.sort {
+        Sort::Direction | Sort::NetType => {
+            let role = role_of(first.text);
+            let second = any(terms)?;
+            match second.sort {
+                Sort::Name => Ok(done(
+                    Item::Scalar(role, second.text),
+                    second.line,
+                    Context::Declared,
+                )),
+                Sort::LeftBracket => {
+                    let number = expect(Sort::Number, terms)?;
+                    Ok(done(
+                        Item::Left(role, number.text),
+                        number.line,
+                        Context::LeftBound,
+                    ))
+                }
+                _ => Err(refused(second)),
+            }
+        }
+        Sort::Name => {
+            let name = expect(Sort::Name, terms)?;
+            let item = Item::Instance(first.text, name.text, name.line);
+            Ok(done(item, name.line, Context::Opening))
+        }
+        Sort::Endmodule => Ok(done(Item::ModuleEnds, first.line, Context::Between)),
+        _ => Err(refused(first)),
+    }
+}
+
+/// Behind the left bound of a range.
+fn left_bound<'a>(terms: &mut Terms<'a>) -> Result<FormRead<'a>, Refused>
+    ensures { Gives (λ r. (whole_of r, terms.new)) result (first_form left_bound_forms terms.old) }
+{
+    expect(Sort::Colon, terms)?;
+    let number = expect(Sort::Number, terms)?;
+    Ok(done(Item::Right(number.text), number.line, Context::RightBound))
+}
+
+/// Behind the right bound of a range.
+fn right_bound<'a>(terms: &mut Terms<'a>) -> Result<FormRead<'a>, Refused>
+    ensures { Gives (λ r. (whole_of r, terms.new)) result (first_form right_bound_forms terms.old) }
+{
+    expect(Sort::RightBracket, terms)?;
+    let name = expect(Sort::Name, terms)?;
+    Ok(done(Item::Further(name.text), name.line, Context::Declared))
+}
+
+/// Behind a declared name.
+fn declared<'a>(terms: &mut Terms<'a>) -> Result<FormRead<'a>, Refused>
+    ensures { Gives (λ r. (whole_of r, terms.new)) result (first_form declared_forms terms.old) }
+{
+    let first = any(terms)?;
+    match first.sort {
+        Sort::Comma => {
+            let name = expect(Sort::Name, terms)?;
+            Ok(done(Item::Further(name.text), name.line, Context::Declared))
+        }
+        Sort::Semicolon => Ok(done(Item::Nothing, first.line, Context::Body)),
+        _ => Err(refused(first)),
+    }
+}
+
+/// Behind the name of an instance.
+fn opening<'a>(terms: &mut Terms<'a>) -> Result<FormRead<'a>, Refused>
+    ensures { Gives (λ r. (whole_of r, terms.new)) result (first_form opening_forms terms.old) }
+{
+    let first = any(terms)?;
+    match first.sort {
+        Sort::LeftParen => Ok(done(Item::Nothing, first.line, Context::Pins)),
+        Sort::LeftBracket => Ok(done(Item::Refused(Code::V3), first.line, Context::Done)),
+        _ => Err(refused(first)),
+    }
+}
+
+/// Behind the `(` of an instance.
+fn pins<'a>(terms: &mut Terms<'a>) -> Result<FormRead<'a>, Refused>
+    ensures { Gives (λ r. (whole_of r, terms.new)) result (first_form pins_forms terms.old) }
+{
+    let first = any(terms)?;
+    match first.sort {
+        Sort::RightParen => Ok(done(Item::InstanceEnds, first.line, Context::Closed)),
+        Sort::Dot => {
+            let name = expect(Sort::Name, terms)?;
+            Ok(done(Item::Pin(name.text), name.line, Context::Pin))
+        }
+        Sort::Name | Sort::Constant | Sort::LeftBrace => {
+            Ok(done(Item::Refused(Code::V3), first.line, Context::Done))
+        }
+        _ => Err(refused(first)),
+    }
+}
+
+/// Behind the name of a pin.
+fn pin<'a>(terms: &mut Terms<'a>) -> Result<FormRead<'a>, Refused>
+    ensures { Gives (λ r. (whole_of r, terms.new)) result (first_form pin_forms terms.old) }
+{
+    let paren = expect(Sort::LeftParen, terms)?;
+    Ok(done(Item::Nothing, paren.line, Context::Connection))
+}
+
+/// Behind the `(` of a pin.
+fn connection<'a>(terms: &mut Terms<'a>) -> Result<FormRead<'a>, Refused>
+    ensures { Gives (λ r. (whole_of r, terms.new)) result (first_form connection_forms terms.old) }
+{
+    let first = any(terms)?;
+    match first.sort {
+        Sort::RightParen => Ok(done(Item::NoConnection, first.line, Context::Connected)),
+        Sort::Constant => {
+            let paren = expect(Sort::RightParen, terms)?;
+            Ok(done(Item::Constant, paren.line, Context::Connected))
+        }
+        Sort::Name => {
+            let second = any(terms)?;
+            match second.sort {
+                Sort::RightParen => Ok(done(
+                    Item::Net(first.text),
+                    second.line,
+                    Context::Connected,
+                )),
+                Sort::LeftBracket => {
+                    let number = expect(Sort::Number, terms)?;
+                    let last = any(terms)?;
+                    match last.sort {
+                        Sort::RightBracket => {
+                            let item = Item::Bit(first.text, number.text);
+                            Ok(done(item, last.line, Context::BitGiven))
+                        }
+                        Sort::Colon => Ok(done(Item::Refused(Code::V3), last.line, Context::Done)),
+                        _ => Err(refused(last)),
+                    }
+                }
+                _ => Err(refused(second)),
+            }
+        }
+        Sort::LeftBrace => Ok(done(Item::Refused(Code::V3), first.line, Context::Done)),
+        _ => Err(refused(first)),
+    }
+}
+
+/// Behind the `]` of a bit.
+fn bit_given<'a>(terms: &mut Terms<'a>) -> Result<FormRead<'a>, Refused>
+    ensures { Gives (λ r. (whole_of r, terms.new)) result (first_form bit_given_forms terms.old) }
+{
+    let paren = expect(Sort::RightParen, terms)?;
+    Ok(done(Item::Nothing, paren.line, Context::Connected))
+}
+
+/// Behind the `)` of a pin.
+fn connected<'a>(terms: &mut Terms<'a>) -> Result<FormRead<'a>, Refused>
+    ensures { Gives (λ r. (whole_of r, terms.new)) result (first_form connected_forms terms.old) }
+{
+    let first = any(terms)?;
+    match first.sort {
+        Sort::RightParen => Ok(done(Item::InstanceEnds, first.line, Context::Closed)),
+        Sort::Comma => {
+            let second = any(terms)?;
+            match second.sort {
+                Sort::Dot => {
+                    let name = expect(Sort::Name, terms)?;
+                    Ok(done(Item::Pin(name.text), name.line, Context::Pin))
+                }
+                Sort::Name | Sort::Constant | Sort::LeftBrace => {
+                    Ok(done(Item::Refused(Code::V3), second.line, Context::Done))
+                }
+                _ => Err(refused(second)),
+            }
+        }
+        _ => Err(refused(first)),
+    }
+}
+
+/// Behind the `)` of an instance.
+fn closed<'a>(terms: &mut Terms<'a>) -> Result<FormRead<'a>, Refused>
+    ensures { Gives (λ r. (whole_of r, terms.new)) result (first_form closed_forms terms.old) }
+{
+    let first = any(terms)?;
+    match first.sort {
+        Sort::Comma => {
+            let name = expect(Sort::Name, terms)?;
+            let item = Item::FurtherInstance(name.text, name.line);
+            Ok(done(item, name.line, Context::Opening))
+        }
+        Sort::Semicolon => Ok(done(Item::Nothing, first.line, Context::Body)),
+        _ => Err(refused(first)),
+    }
+}
+
+/// Behind the end of the text.
+fn at_end<'a>(terms: &mut Terms<'a>) -> Result<FormRead<'a>, Refused>
+    ensures { Gives (λ r. (whole_of r, terms.new)) result (first_form [] terms.old) }
+{
+    let first = any(terms)?;
+    Err(refused(first))
+}
+
+/// The next form.
+pub fn read_form<'a>(context: Context, terms: &mut Terms<'a>) -> Result<FormRead<'a>, Refused>
+    ensures { Gives (λ r. (whole_of r, terms.new)) result (first_form (forms_in context) terms.old) }
+{
+    match context {
+        Context::Start => at_start(terms),
+        Context::Between => between(terms),
+        Context::ModuleName => module_name(terms),
+        Context::Header => header(terms),
+        Context::Listed => listed(terms),
+        Context::Body => in_body(terms),
+        Context::LeftBound => left_bound(terms),
+        Context::RightBound => right_bound(terms),
+        Context::Declared => declared(terms),
+        Context::Opening => opening(terms),
+        Context::Pins => pins(terms),
+        Context::Pin => pin(terms),
+        Context::Connection => connection(terms),
+        Context::BitGiven => bit_given(terms),
+        Context::Connected => connected(terms),
+        Context::Closed => closed(terms),
+        Context::Done => at_end(terms),
+    }
+}
+
+/// Whether the text is at its end.
+pub fn is_done(context: Context) -> bool
+    ensures { result ≡ is_done context }
+{
+    match context {
+        Context::Done => true,
+        _ => false,
+    }
+}

@@ -1,0 +1,45 @@
+//! What a form says.
+
+use crate::context::Context;
+use crate::netlist::PortRole;
+use xt_model::Code;
+
+/// What a form says; names, numbers and constants by their bytes.
+#[derive(Clone, Copy)]
+pub enum Item<'a> {
+    Nothing,
+    Refused(Code),
+    /// `module`.
+    ModuleBegins,
+    ModuleName(&'a [u8]),
+    /// A name of the header.
+    Listed(&'a [u8]),
+    ModuleEnds,
+    /// A name that is declared without a range.
+    Scalar(PortRole, &'a [u8]),
+    /// The left bound of the range of names that are declared.
+    Left(PortRole, &'a [u8]),
+    /// The right bound of this range.
+    Right(&'a [u8]),
+    /// A further name, declared as the one before or with the range.
+    Further(&'a [u8]),
+    /// An instance: its cell, its name, and the line of its name.
+    Instance(&'a [u8], &'a [u8], u32),
+    /// A further instance of the same cell: its name, and the line of it.
+    FurtherInstance(&'a [u8], u32),
+    Pin(&'a [u8]),
+    NoConnection,
+    Constant,
+    Net(&'a [u8]),
+    /// A bit: the name of its bus and its number.
+    Bit(&'a [u8], &'a [u8]),
+    InstanceEnds,
+}
+
+/// A form that was read: what it says, the line of its last token, and what may come next.
+#[derive(Clone, Copy)]
+pub struct FormRead<'a> {
+    pub item: Item<'a>,
+    pub line: u32,
+    pub next: Context,
+}

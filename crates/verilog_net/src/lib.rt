@@ -1,0 +1,19 @@
+//! Structural Verilog (IEEE 1364): from the bytes of a netlist to its nets, ports and instances.
+#![tactic(auto)]
+
+mod context;
+mod forms;
+mod item;
+mod netlist;
+mod nets;
+mod port;
+mod read;
+mod refusal;
+mod sort;
+mod state;
+mod stop;
+mod term;
+
+pub use netlist::{Instance, Modules, Name, Net, Netlist, PortRole, Wire};
+pub use port::PortFound;
+pub use read::{read_modules, read_netlist};

@@ -1,0 +1,188 @@
+//! The nets of a module by their names.
+
+ghost use Rattle.std.specs.Prelude.{◌≡◌, ℕ, ◌+◌, ◌<◌, ◌≤◌, length, IfSome};
+ghost use Rattle.verilog_net.specs.Nets.{number_of, closed_from, closed_number, bit_from, has_bit, named_bit};
+ghost use Rattle.verilog_net.specs.Nets.{same_range, joined_role, is_directed, is_port, has_clash, most_bit};
+
+use crate::netlist::{Net, PortRole};
+use text_forms::NameTable;
+
+/// The greatest number of a bit.
+const MOST_BIT: u32 = 1_048_575;
+
+/// The number of a bit or a bound, unless it is too great.
+pub fn number_of(digits: &[u8]) -> Option<u32>
+    ensures value { result ≡ number_of digits.now }
+    ensures within { IfSome result (λ n. n ≤ most_bit) }
+{
+    let mut number: u32 = 0;
+    let mut rest = digits;
+    'digits: while let [digit, more @ ..] = rest {
+        if number > MOST_BIT {
+            return None;
+        }
+        number = number * 10 + digit.saturating_sub(b'0') as u32;
+        rest = more;
+    }
+    if number > MOST_BIT {
+        None
+    } else {
+        Some(number)
+    }
+}
+
+/// The number that goes on with these bytes, up to a `]` that ends them.
+fn closed_from(front: u32, bytes: &[u8]) -> Option<u32>
+    requires { front ≤ most_bit }
+    ensures { result ≡ closed_from front bytes.now }
+{
+    let mut number = front;
+    let mut rest = bytes;
+    'digits: while let [digit, more @ ..] = rest {
+        if number > MOST_BIT {
+            return None;
+        }
+        if !digit.is_ascii_digit() {
+            return if *digit == b']' && more.is_empty() {
+                Some(number)
+            } else {
+                None
+            };
+        }
+        number = number * 10 + digit.saturating_sub(b'0') as u32;
+        rest = more;
+    }
+    None
+}
+
+/// The number of a bit as its name has it.
+fn closed_number(bytes: &[u8]) -> Option<u32>
+    ensures { result ≡ closed_number bytes.now }
+{
+    match bytes {
+        [] => None,
+        [digit, more @ ..] => {
+            if *digit == b'0' {
+                if more.len() > 1 {
+                    None
+                } else {
+                    closed_from(0, more)
+                }
+            } else if digit.is_ascii_digit() {
+                closed_from(digit.saturating_sub(b'0') as u32, more)
+            } else {
+                None
+            }
+        }
+    }
+}
+
+/// Where the `[` of a bit's name stands, and the number of the bit.
+fn bit_place(name: &[u8]) -> Option<(usize, u32)>
+    ensures value { result ≡ bit_from 0 name.now }
+    ensures within { IfSome result (λ p. p.0 < length name.now) }
+{
+    let mut at: usize = 0;
+    let mut rest = name;
+    'bytes: while let [byte, more @ ..] = rest {
+        if *byte == b'[' {
+            if let Some(bit) = closed_number(more) {
+                return Some((at, bit));
+            }
+        }
+        at += 1;
+        rest = more;
+    }
+    None
+}
+
+/// Whether a bus has a bit.
+pub fn has_bit(range: (u32, u32), bit: u32) -> bool
+    ensures { result ≡ has_bit range bit }
+{
+    let (left, right) = range;
+    left <= bit && bit <= right || right <= bit && bit <= left
+}
+
+/// The bit that has this name: the number of its bus, its own number, and the role of the bus.
+#[tactic(auto, unfolding(crate::specs::Nets::named_bit))]
+pub fn named_bit(nets: &NameTable<Net>, name: &[u8]) -> Option<(u32, u32, PortRole)>
+    ensures { result ≡ named_bit name.now nets.now }
+{
+    let (at, bit) = bit_place(name)?;
+    let (number, net) = nets.find(&name[..at])?;
+    let range = net.range?;
+    if has_bit(range, bit) {
+        Some((number, bit, net.role))
+    } else {
+        None
+    }
+}
+
+/// Whether both are ranges with the same bounds, or none is a range.
+pub fn same_range(one: Option<(u32, u32)>, other: Option<(u32, u32)>) -> bool
+    ensures { result ≡ same_range one other }
+{
+    match (one, other) {
+        (None, None) => true,
+        (Some((left, right)), Some((other_left, other_right))) => left == other_left
+            && right == other_right,
+        _ => false,
+    }
+}
+
+impl PortRole {
+    /// What a net is that is declared as this and then as the other; it cannot have both directions.
+    pub fn joined(self, other: PortRole) -> Option<PortRole>
+        ensures { result ≡ joined_role self other }
+    {
+        match (self, other) {
+            (PortRole::Inner, role) => Some(role),
+            (PortRole::Input, PortRole::Output) => None,
+            (PortRole::Output, PortRole::Input) => None,
+            (role, _) => Some(role),
+        }
+    }
+
+    /// Whether the net has a direction.
+    pub fn is_directed(self) -> bool
+        ensures { result ≡ is_directed self }
+    {
+        match self {
+            PortRole::Inner => false,
+            _ => true,
+        }
+    }
+}
+
+/// Whether the name is that of a net with a direction, or of a bit of one.
+#[tactic(auto, unfolding(crate::specs::Nets::is_port))]
+pub fn is_port(nets: &NameTable<Net>, name: &[u8]) -> bool
+    ensures { result ≡ is_port name.now nets.now }
+{
+    if let Some((_, net)) = nets.find(name) {
+        return net.role.is_directed();
+    }
+    match named_bit(nets, name) {
+        Some((_, _, role)) => role.is_directed(),
+        None => false,
+    }
+}
+
+/// Whether some net has the name of a bit of a bus.
+pub fn has_clash(nets: &NameTable<Net>) -> bool
+    ensures { result ≡ has_clash nets.now }
+{
+    let count = nets.len();
+    let mut number: u32 = 0;
+    'nets: while number < count {
+        let Some((name, _)) = nets.get(number) else {
+            return false;
+        };
+        if named_bit(nets, name).is_some() {
+            return true;
+        }
+        number += 1;
+    }
+    false
+}

@@ -1,0 +1,124 @@
+//! From the bytes of a netlist to its modules.
+
+ghost use Rattle.std.specs.Prelude.{◌≡◌, ◌≤◌, length, false};
+ghost use Rattle.verilog_net.specs.Forms.{is_done};
+ghost use Rattle.verilog_net.specs.Meaning.{nothing};
+ghost use Rattle.verilog_net.specs.declared.context.Context.TheVariants.{Start};
+ghost use Rattle.verilog_net.specs.Reading.{rest_means, text_state, modules_in, modules_of, one_of, netlist_of_text};
+ghost use Rattle.verilog_net.specs.Reading.{Reads, Steps};
+
+use crate::context::Context;
+use crate::forms::{is_done, read_form, refused};
+use crate::netlist::{Modules, Netlist};
+use crate::state::Progress;
+use crate::stop::Stop;
+use crate::term::Terms;
+use std::alloc::Global;
+use xt_lex::{Code, LexFault, MOST_BYTES, Rules, TextFault, find_fault};
+use xt_model::Row;
+
+/// Reads one form and does what it says.
+fn step<'a>(
+    alloc: Global,
+    context: Context,
+    terms: &mut Terms<'a>,
+    state: &mut Progress<'a>,
+) -> Result<Context, TextFault>
+    requires { is_done context ≡ false }
+    ensures { Steps context terms.old state.old result terms.new state.new }
+{
+    let read = match read_form(context, terms) {
+        Ok(read) => read,
+        Err(refused) => {
+            return Err(TextFault::Refused {
+                line: refused.line,
+                code: refused.code,
+            });
+        }
+    };
+    match state.act(alloc, read.item) {
+        Ok(()) => Ok(read.next),
+        Err(Stop::Refused(code)) => Err(TextFault::Refused {
+            line: read.line,
+            code,
+        }),
+        Err(Stop::NoMemory) => Err(TextFault::NoMemory),
+    }
+}
+
+/// Reads a text without a fault of its tokens to its end.
+fn read_all<'a>(
+    alloc: Global,
+    single: bool,
+    terms: &mut Terms<'a>,
+) -> Result<Progress<'a>, TextFault>
+    ensures { Reads (λ s. s) result (rest_means Start terms.old (nothing single)) }
+{
+    let mut state = Progress::new(alloc, single);
+    let mut context = Context::Start;
+    'forms: while !is_done(context) {
+        context = step(alloc, context, terms, &mut state)?;
+    }
+    match terms.next_term() {
+        None => Ok(state),
+        Some(more) => {
+            let refused = refused(more);
+            Err(TextFault::Refused {
+                line: refused.line,
+                code: refused.code,
+            })
+        }
+    }
+}
+
+/// The modules of a text, where one alone is admitted or several are.
+#[tactic(auto, unfolding(crate::specs::Reading::text_state))]
+fn modules(alloc: Global, single: bool, bytes: &[u8]) -> Result<Vec<Netlist>, TextFault>
+    requires { length bytes.now ≤ MOST_BYTES }
+    ensures { Reads (λ ms. ms.items) result (modules_in (text_state single bytes.now)) }
+{
+    match find_fault(bytes, Rules::Verilog) {
+        Some(LexFault::Byte(line)) => {
+            return Err(TextFault::Refused {
+                line,
+                code: Code::V1,
+            });
+        }
+        Some(LexFault::Unended(line)) => {
+            return Err(TextFault::Refused {
+                line,
+                code: Code::V2,
+            });
+        }
+        Some(LexFault::NoMemory) => return Err(TextFault::NoMemory),
+        None => {}
+    }
+    let state = read_all(alloc, single, &mut Terms::new(bytes))?;
+    Ok(state.into_ended())
+}
+
+/// The modules of a structural Verilog text, in its order.
+pub fn read_modules(alloc: Global, bytes: &[u8]) -> Result<Modules, TextFault>
+    requires { length bytes.now ≤ MOST_BYTES }
+    ensures { Reads (λ m. m.list) result (modules_of bytes.now) }
+{
+    let list = modules(alloc, false, bytes)?;
+    Ok(Modules {
+        list: Row::from_vec(list),
+    })
+}
+
+/// The one module of a structural Verilog text.
+pub fn read_netlist(alloc: Global, bytes: &[u8]) -> Result<Netlist, TextFault>
+    requires { length bytes.now ≤ MOST_BYTES }
+    ensures { Reads (λ m. m) result (netlist_of_text bytes.now) }
+{
+    let mut list = modules(alloc, true, bytes)?;
+    if list.is_empty() {
+        return Err(TextFault::Refused {
+            line: 1,
+            code: Code::V2,
+        });
+    }
+    Ok(list.swap_remove(0))
+}

@@ -1,0 +1,379 @@
+//! What the forms of a netlist mean, one after another.
+
+ghost use Rattle.std.specs.Prelude.{◌≡◌, ℕ, map, Ok};
+ghost use Rattle.std.specs.List.{list_all};
+ghost use Rattle.verilog_net.specs.Nets.{is_port};
+ghost use Rattle.verilog_net.specs.Meaning.{nothing, begin_module, name_module, list_name, end_module, declare};
+ghost use Rattle.verilog_net.specs.Meaning.{declare_scalar, left_bound, right_bound, begin_further, begin_instance};
+ghost use Rattle.verilog_net.specs.Meaning.{begin_pin, connect, connect_name, connect_bit, end_instance, means};
+ghost use Rattle.verilog_net.specs.View.{said, Changes};
+
+use crate::item::Item;
+use crate::netlist::{Instance, Name, Net, Netlist, PortRole, Wire};
+use crate::nets::{has_bit, has_clash, is_port, named_bit, number_of, same_range};
+use crate::stop::Stop;
+use std::alloc::Global;
+use std::marker::Model;
+use std::mem;
+use text_forms::{NameTable, Names};
+use xt_model::{Code, Row};
+
+/// What the forms of a netlist said so far.
+#[derive(Drop)]
+pub struct Progress<'a> {
+    single: bool,
+    ended: Vec<Netlist>,
+    modules: Names<'a>,
+    current: &'a [u8],
+    header: Vec<&'a [u8]>,
+    nets: NameTable<Net>,
+    instance_names: Names<'a>,
+    instances: Vec<Instance>,
+    role: PortRole,
+    left: u32,
+    range: Option<(u32, u32)>,
+    cell: &'a [u8],
+    instance: &'a [u8],
+    line: u32,
+    pin_names: Names<'a>,
+    pins: Vec<(Name, Wire)>,
+    pin: &'a [u8],
+}
+
+impl<'a> Model for Progress<'a> {
+    ghost use Rattle.std.specs.Prelude.{map};
+    ghost use Rattle.verilog_net.specs.Meaning.{State};
+
+    ghost Value = { State };
+
+    ghost view = { λ s. record {
+      single = s.single;
+      ended = s.ended.items;
+      modules = s.modules;
+      current = s.current.now;
+      header = map (λ n. n.now) s.header.items;
+      nets = s.nets;
+      instance_names = s.instance_names;
+      instances = s.instances.items;
+      role = s.role;
+      left = s.left;
+      range = s.range;
+      cell = s.cell.now;
+      instance = s.instance.now;
+      line = s.line;
+      pin_names = s.pin_names;
+      pins = s.pins.items;
+      pin = s.pin.now;
+    } };
+}
+
+/// Whether each of the names is that of a port.
+fn are_ports(nets: &NameTable<Net>, names: &[&[u8]]) -> bool
+    ensures { result ≡ list_all (λ name. is_port name nets.now) (map (λ n. n.now) names.now) }
+{
+    let mut rest = names;
+    'names: while let [name, more @ ..] = rest {
+        if !is_port(nets, *name) {
+            return false;
+        }
+        rest = more;
+    }
+    true
+}
+
+impl<'a> Progress<'a> {
+    /// Nothing read. `single` says whether one module alone is admitted, and no whole bus as a connection.
+    pub fn new(alloc: Global, single: bool) -> Progress<'a>
+        ensures { result ≡ nothing single }
+    {
+        Progress {
+            single,
+            ended: Vec::new(alloc),
+            modules: Names::new(alloc),
+            current: b"",
+            header: Vec::new(alloc),
+            nets: NameTable::new(alloc),
+            instance_names: Names::new(alloc),
+            instances: Vec::new(alloc),
+            role: PortRole::Inner,
+            left: 0,
+            range: None,
+            cell: b"",
+            instance: b"",
+            line: 0,
+            pin_names: Names::new(alloc),
+            pins: Vec::new(alloc),
+            pin: b"",
+        }
+    }
+
+    /// A further module.
+    #[tactic(auto, unfolding(crate::specs::Meaning::begin_module))]
+    fn begin_module(&mut self) -> Result<(), Stop>
+        ensures { Changes result self.new (begin_module self.old) }
+    {
+        if self.single && !self.ended.is_empty() {
+            return Err(Stop::Refused(Code::V3));
+        }
+        Ok(())
+    }
+
+    /// The name of a module.
+    #[tactic(auto, unfolding(crate::specs::Meaning::name_module))]
+    fn name_module(&mut self, alloc: Global, name: &'a [u8]) -> Result<(), Stop>
+        ensures { Changes result self.new (name_module name.entry.now self.old) }
+    {
+        let (_, fresh) = self.modules.enter(name)?;
+        if !fresh {
+            return Err(Stop::Refused(Code::V5));
+        }
+        self.current = name;
+        self.header = Vec::new(alloc);
+        let _ = mem::replace(&mut self.instance_names, Names::new(alloc));
+        Ok(())
+    }
+
+    /// A name of the header.
+    fn list_name(&mut self, name: &'a [u8]) -> Result<(), Stop>
+        ensures { Changes result self.new (Ok (list_name name.entry.now self.old)) }
+    {
+        self.header.push(name)?;
+        Ok(())
+    }
+
+    /// The end of a module.
+    #[tactic(auto, unfolding(crate::specs::Meaning::end_module))]
+    fn end_module(&mut self, alloc: Global) -> Result<(), Stop>
+        ensures { Changes result self.new (end_module self.old) }
+    {
+        if has_clash(&self.nets) {
+            return Err(Stop::Refused(Code::V3));
+        }
+        if !are_ports(&self.nets, self.header.as_slice()) {
+            return Err(Stop::Refused(Code::V4));
+        }
+        let module = Name::copied(alloc, self.current)?;
+        let nets = mem::replace(&mut self.nets, NameTable::new(alloc));
+        let instances = mem::replace(&mut self.instances, Vec::new(alloc));
+        self.ended.push(Netlist {
+            module,
+            nets,
+            instances: Row::from_vec(instances),
+        })?;
+        Ok(())
+    }
+
+    /// Declares a name.
+    #[tactic(auto, unfolding(crate::specs::Meaning::declare))]
+    fn declare(&mut self, alloc: Global, name: &'a [u8]) -> Result<(), Stop>
+        ensures { Changes result self.new (declare name.entry.now self.old) }
+    {
+        let role = match self.nets.find(name) {
+            Some((_, net)) => {
+                let Some(role) = net.role.joined(self.role) else {
+                    return Err(Stop::Refused(Code::V3));
+                };
+                if !same_range(net.range, self.range) {
+                    return Err(Stop::Refused(Code::V3));
+                }
+                role
+            }
+            None => {
+                if named_bit(&self.nets, name).is_some() {
+                    return Err(Stop::Refused(Code::V3));
+                }
+                self.role
+            }
+        };
+        let net = Net {
+            range: self.range,
+            role,
+            declared: true,
+        };
+        self.nets.set(alloc, name, net)?;
+        Ok(())
+    }
+
+    /// Declares a name without a range.
+    fn declare_scalar(&mut self, alloc: Global, role: PortRole, name: &'a [u8]) -> Result<(), Stop>
+        ensures { Changes result self.new (declare_scalar role name.entry.now self.old) }
+    {
+        self.role = role;
+        self.range = None;
+        self.declare(alloc, name)
+    }
+
+    /// The left bound of a range.
+    #[tactic(auto, unfolding(crate::specs::Meaning::left_bound))]
+    fn left_bound(&mut self, role: PortRole, digits: &'a [u8]) -> Result<(), Stop>
+        ensures { Changes result self.new (left_bound role digits.entry.now self.old) }
+    {
+        let Some(left) = number_of(digits) else {
+            return Err(Stop::Refused(Code::V6));
+        };
+        self.role = role;
+        self.left = left;
+        Ok(())
+    }
+
+    /// The right bound of a range.
+    #[tactic(auto, unfolding(crate::specs::Meaning::right_bound))]
+    fn right_bound(&mut self, digits: &'a [u8]) -> Result<(), Stop>
+        ensures { Changes result self.new (right_bound digits.entry.now self.old) }
+    {
+        let Some(right) = number_of(digits) else {
+            return Err(Stop::Refused(Code::V6));
+        };
+        self.range = Some((self.left, right));
+        Ok(())
+    }
+
+    /// An instance of the same cell as the one before.
+    #[tactic(auto, unfolding(crate::specs::Meaning::begin_further))]
+    fn begin_further(&mut self, alloc: Global, name: &'a [u8], line: u32) -> Result<(), Stop>
+        ensures { Changes result self.new (begin_further name.entry.now line self.old) }
+    {
+        let (_, fresh) = self.instance_names.enter(name)?;
+        if !fresh {
+            return Err(Stop::Refused(Code::V5));
+        }
+        self.instance = name;
+        self.line = line;
+        let _ = mem::replace(&mut self.pin_names, Names::new(alloc));
+        Ok(())
+    }
+
+    /// An instance of a cell.
+    fn begin_instance(
+        &mut self,
+        alloc: Global,
+        cell: &'a [u8],
+        name: &'a [u8],
+        line: u32,
+    ) -> Result<(), Stop>
+        ensures { Changes result self.new (begin_instance cell.entry.now name.entry.now line self.old) }
+    {
+        self.cell = cell;
+        self.begin_further(alloc, name, line)
+    }
+
+    /// A pin of the instance.
+    #[tactic(auto, unfolding(crate::specs::Meaning::begin_pin))]
+    fn begin_pin(&mut self, name: &'a [u8]) -> Result<(), Stop>
+        ensures { Changes result self.new (begin_pin name.entry.now self.old) }
+    {
+        let (_, fresh) = self.pin_names.enter(name)?;
+        if !fresh {
+            return Err(Stop::Refused(Code::V5));
+        }
+        self.pin = name;
+        Ok(())
+    }
+
+    /// Connects the pin.
+    fn connect(&mut self, alloc: Global, wire: Wire) -> Result<(), Stop>
+        ensures { Changes result self.new (Ok (connect wire self.old)) }
+    {
+        let pin = Name::copied(alloc, self.pin)?;
+        self.pins.push((pin, wire))?;
+        Ok(())
+    }
+
+    /// Connects the pin to a name.
+    #[tactic(auto, unfolding(crate::specs::Meaning::connect_name))]
+    fn connect_name(&mut self, alloc: Global, name: &'a [u8]) -> Result<(), Stop>
+        ensures { Changes result self.new (connect_name name.entry.now self.old) }
+    {
+        if let Some((decl, net)) = self.nets.find(name) {
+            let range = net.range;
+            if range.is_none() {
+                return self.connect(alloc, Wire::Bit { decl, bit: 0 });
+            }
+            if self.single {
+                return Err(Stop::Refused(Code::V3));
+            }
+            return self.connect(alloc, Wire::Whole { decl });
+        }
+        if let Some((decl, bit, _)) = named_bit(&self.nets, name) {
+            return self.connect(alloc, Wire::Bit { decl, bit });
+        }
+        let decl = self.nets.len();
+        let net = Net {
+            range: None,
+            role: PortRole::Inner,
+            declared: false,
+        };
+        self.nets.set(alloc, name, net)?;
+        self.connect(alloc, Wire::Bit { decl, bit: 0 })
+    }
+
+    /// Connects the pin to a bit.
+    #[tactic(auto, unfolding(crate::specs::Meaning::connect_bit))]
+    fn connect_bit(&mut self, alloc: Global, name: &'a [u8], digits: &'a [u8]) -> Result<(), Stop>
+        ensures { Changes result self.new (connect_bit name.entry.now digits.entry.now self.old) }
+    {
+        let Some((decl, net)) = self.nets.find(name) else {
+            return Err(Stop::Refused(Code::V4));
+        };
+        if !net.declared {
+            return Err(Stop::Refused(Code::V4));
+        }
+        let (Some(range), Some(bit)) = (net.range, number_of(digits)) else {
+            return Err(Stop::Refused(Code::V6));
+        };
+        if !has_bit(range, bit) {
+            return Err(Stop::Refused(Code::V6));
+        }
+        self.connect(alloc, Wire::Bit { decl, bit })
+    }
+
+    /// The end of an instance.
+    fn end_instance(&mut self, alloc: Global) -> Result<(), Stop>
+        ensures { Changes result self.new (Ok (end_instance self.old)) }
+    {
+        let cell = Name::copied(alloc, self.cell)?;
+        let name = Name::copied(alloc, self.instance)?;
+        let pins = mem::replace(&mut self.pins, Vec::new(alloc));
+        self.instances.push(Instance {
+            cell,
+            name,
+            line: self.line,
+            pins: Row::from_vec(pins),
+        })?;
+        Ok(())
+    }
+
+    /// What a form means.
+    #[tactic(auto, unfolding(crate::specs::Meaning::means))]
+    pub fn act(&mut self, alloc: Global, item: Item<'a>) -> Result<(), Stop>
+        ensures { Changes result self.new (means (said item.entry) self.old) }
+    {
+        match item {
+            Item::Nothing => Ok(()),
+            Item::Refused(code) => Err(Stop::Refused(code)),
+            Item::ModuleBegins => self.begin_module(),
+            Item::ModuleName(name) => self.name_module(alloc, name),
+            Item::Listed(name) => self.list_name(name),
+            Item::ModuleEnds => self.end_module(alloc),
+            Item::Scalar(role, name) => self.declare_scalar(alloc, role, name),
+            Item::Left(role, digits) => self.left_bound(role, digits),
+            Item::Right(digits) => self.right_bound(digits),
+            Item::Further(name) => self.declare(alloc, name),
+            Item::Instance(cell, name, line) => self.begin_instance(alloc, cell, name, line),
+            Item::FurtherInstance(name, line) => self.begin_further(alloc, name, line),
+            Item::Pin(name) => self.begin_pin(name),
+            Item::NoConnection => self.connect(alloc, Wire::Open),
+            Item::Constant => self.connect(alloc, Wire::Constant),
+            Item::Net(name) => self.connect_name(alloc, name),
+            Item::Bit(bus, digits) => self.connect_bit(alloc, bus, digits),
+            Item::InstanceEnds => self.end_instance(alloc),
+        }
+    }
+
+    /// The modules that ended.
+    pub fn into_ended(self) -> Vec<Netlist>
+        ensures { result.items ≡ self.entry.ended }
+    {
+        self.ended
+    }
+}
