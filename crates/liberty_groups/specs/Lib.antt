@@ -1,0 +1,6 @@
+pub mod Sorts
+pub mod Grammar
+pub mod Trees
+pub mod Building
+pub mod View
+pub mod Library

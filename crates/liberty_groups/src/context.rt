@@ -1,0 +1,42 @@
+//! What may come next.
+
+ghost use Rattle.std.specs.Prelude.{◌≡◌};
+ghost use Rattle.liberty_groups.specs.Grammar.{is_end};
+
+/// What may come next in a library; the number is how many groups are open.
+#[derive(Clone, Copy, Debug, PartialEq, Eq)]
+pub enum Context {
+    /// The start of the text: `library (`.
+    Start,
+    /// Within the parentheses of the library.
+    LibraryArgs,
+    /// Behind the parentheses of the library.
+    LibraryNamed,
+    /// Where an item may begin.
+    Items(u32),
+    /// Within the parentheses of a group or of an attribute.
+    Args(u32),
+    /// Behind these parentheses.
+    Named(u32),
+    /// Behind the colon of an attribute.
+    FirstValue(u32),
+    /// Behind a value of such an attribute.
+    Values(u32),
+    /// Behind the library.
+    Behind,
+    /// Behind the text's end.
+    Done,
+}
+
+impl Context {
+    /// Whether the text is at its end.
+    #[inline]
+    pub fn is_end(self) -> bool
+        ensures { result ≡ is_end self }
+    {
+        match self {
+            Context::Done => true,
+            _ => false,
+        }
+    }
+}

@@ -1,0 +1,233 @@
+//! One form of a library by what may come next.
+
+ghost use Rattle.std.specs.Prelude.{◌≡◌, ℕ, ◌+◌, ◌≤◌, Some, [], ◌∷◌, length, MatchResult, IfOk};
+ghost use Rattle.liberty_groups.specs.Grammar.{misfit, start_forms, args_forms, library_forms, item_forms};
+ghost use Rattle.liberty_groups.specs.Grammar.{named_forms, first_value_forms, values_forms, behind_forms};
+ghost use Rattle.liberty_groups.specs.Grammar.{forms_in, first_form, after_group};
+ghost use Rattle.liberty_groups.specs.View.{token_of, whole_of, refusal_of, refusal_at, Reads};
+
+use crate::context::Context;
+use crate::item::{FormRead, Item, Misfit};
+use crate::sort::Sort;
+use crate::term::{Term, Terms};
+use xt_lex::MOST_BYTES;
+use xt_model::Code;
+
+/// The greatest number of groups that are open at one place.
+pub const MOST_OPEN: u32 = 64;
+
+/// A form that was read, whose last token stands in this line.
+#[inline]
+fn done(item: Item, line: u32, next: Context) -> FormRead
+    ensures { whole_of result ≡ record { said = item; line = line; next = next } }
+{
+    FormRead { item, line, next }
+}
+
+/// The code of a token that does not fit.
+#[inline]
+pub fn misfit(sort: Sort) -> Code
+    ensures { result ≡ misfit sort }
+{
+    match sort {
+        Sort::End => Code::L2,
+        _ => Code::L1,
+    }
+}
+
+/// The refusal of a token that does not fit.
+#[inline]
+fn refused(term: Term<'_>) -> Misfit
+    ensures { refusal_of result ≡ record { line = term.entry.line; code = misfit term.entry.sort } }
+{
+    Misfit {
+        line: term.line,
+        code: misfit(term.sort),
+    }
+}
+
+/// The next token.
+#[inline]
+fn any<'a>(terms: &mut Terms<'a>) -> Result<Term<'a>, Misfit>
+    ensures next { MatchResult result (λ t. terms.old ≡ token_of t ∷ terms.new)
+        (λ r. (terms.old ≡ []) × (refusal_of r ≡ refusal_at [])) }
+    ensures within { IfOk result (λ t. t.from + length t.text.now ≤ MOST_BYTES) }
+{
+    match terms.next_term() {
+        Some(term) => Ok(term),
+        None => Err(Misfit {
+            line: 1,
+            code: Code::L2,
+        }),
+    }
+}
+
+/// At the start of a text.
+fn at_start(terms: &mut Terms<'_>) -> Result<FormRead, Misfit>
+    ensures { Reads (λ r. (whole_of r, terms.new)) result (first_form start_forms terms.old) }
+{
+    let first = any(terms)?;
+    match first.sort {
+        Sort::Library => {
+            let second = any(terms)?;
+            match second.sort {
+                Sort::LeftParen => Ok(done(
+                    Item::Named(first.span(), first.line),
+                    second.line,
+                    Context::LibraryArgs,
+                )),
+                _ => Err(refused(second)),
+            }
+        }
+        _ => Err(refused(first)),
+    }
+}
+
+/// Within parentheses, behind which `next` comes.
+fn in_args(here: Context, next: Context, terms: &mut Terms<'_>) -> Result<FormRead, Misfit>
+    ensures { Reads (λ r. (whole_of r, terms.new)) result (first_form (args_forms here next) terms.old) }
+{
+    let first = any(terms)?;
+    match first.sort {
+        Sort::Library | Sort::Word | Sort::Text => {
+            Ok(done(Item::Value(first.span()), first.line, here))
+        }
+        Sort::Comma | Sort::Colon => Ok(done(Item::Nothing, first.line, here)),
+        Sort::RightParen => Ok(done(Item::Nothing, first.line, next)),
+        _ => Err(refused(first)),
+    }
+}
+
+/// Behind the parentheses of the library.
+fn at_library(terms: &mut Terms<'_>) -> Result<FormRead, Misfit>
+    ensures { Reads (λ r. (whole_of r, terms.new)) result (first_form library_forms terms.old) }
+{
+    let first = any(terms)?;
+    match first.sort {
+        Sort::LeftBrace => Ok(done(Item::Opens, first.line, Context::Items(1))),
+        _ => Err(refused(first)),
+    }
+}
+
+/// What may come behind the end of a group.
+#[inline]
+fn after_group(depth: u32) -> Context
+    ensures { result ≡ after_group depth }
+{
+    if 1 < depth {
+        Context::Items(depth - 1)
+    } else {
+        Context::Behind
+    }
+}
+
+/// An item from its first token on.
+fn item_from(first: Term<'_>, depth: u32, terms: &mut Terms<'_>) -> Result<FormRead, Misfit>
+    requires { first.from + length first.text.now ≤ MOST_BYTES }
+    ensures { Reads (λ r. (whole_of r, terms.new)) result
+        (first_form (item_forms depth) (token_of first.entry ∷ terms.old)) }
+{
+    match first.sort {
+        Sort::Semicolon => Ok(done(Item::Ends, first.line, Context::Items(depth))),
+        Sort::RightBrace => Ok(done(Item::Closes, first.line, after_group(depth))),
+        Sort::Library | Sort::Word => {
+            let second = any(terms)?;
+            let named = Item::Named(first.span(), first.line);
+            match second.sort {
+                Sort::Colon => Ok(done(named, second.line, Context::FirstValue(depth))),
+                Sort::LeftParen => Ok(done(named, second.line, Context::Args(depth))),
+                _ => Err(refused(second)),
+            }
+        }
+        _ => Err(refused(first)),
+    }
+}
+
+/// Where an item may begin.
+fn at_item(depth: u32, terms: &mut Terms<'_>) -> Result<FormRead, Misfit>
+    ensures { Reads (λ r. (whole_of r, terms.new)) result (first_form (item_forms depth) terms.old) }
+{
+    let first = any(terms)?;
+    item_from(first, depth, terms)
+}
+
+/// Behind the parentheses of a group or of an attribute.
+fn at_named(depth: u32, terms: &mut Terms<'_>) -> Result<FormRead, Misfit>
+    ensures { Reads (λ r. (whole_of r, terms.new)) result (first_form (named_forms depth) terms.old) }
+{
+    let first = any(terms)?;
+    match first.sort {
+        Sort::LeftBrace => {
+            if depth < MOST_OPEN {
+                Ok(done(Item::Opens, first.line, Context::Items(depth + 1)))
+            } else {
+                Ok(done(Item::TooDeep, first.line, Context::Done))
+            }
+        }
+        _ => item_from(first, depth, terms),
+    }
+}
+
+/// Behind the colon of an attribute.
+fn at_first_value(depth: u32, terms: &mut Terms<'_>) -> Result<FormRead, Misfit>
+    ensures { Reads (λ r. (whole_of r, terms.new)) result (first_form (first_value_forms depth) terms.old) }
+{
+    let first = any(terms)?;
+    match first.sort {
+        Sort::Library | Sort::Word | Sort::Text => Ok(done(
+            Item::Value(first.span()),
+            first.line,
+            Context::Values(depth),
+        )),
+        _ => Err(refused(first)),
+    }
+}
+
+/// Behind a value of such an attribute.
+fn in_values(depth: u32, terms: &mut Terms<'_>) -> Result<FormRead, Misfit>
+    ensures { Reads (λ r. (whole_of r, terms.new)) result (first_form (values_forms depth) terms.old) }
+{
+    let first = any(terms)?;
+    match first.sort {
+        Sort::Library | Sort::Word | Sort::Text => Ok(done(
+            Item::Value(first.span()),
+            first.line,
+            Context::Values(depth),
+        )),
+        Sort::Semicolon => Ok(done(Item::Ends, first.line, Context::Items(depth))),
+        _ => Err(refused(first)),
+    }
+}
+
+/// Behind the library.
+fn behind(terms: &mut Terms<'_>) -> Result<FormRead, Misfit>
+    ensures { Reads (λ r. (whole_of r, terms.new)) result (first_form behind_forms terms.old) }
+{
+    let first = any(terms)?;
+    match first.sort {
+        Sort::Semicolon => Ok(done(Item::Nothing, first.line, Context::Behind)),
+        Sort::End => Ok(done(Item::Nothing, first.line, Context::Done)),
+        _ => Err(refused(first)),
+    }
+}
+
+/// The next form; behind the text's end no token fits.
+pub fn form(context: Context, terms: &mut Terms<'_>) -> Result<FormRead, Misfit>
+    ensures { Reads (λ r. (whole_of r, terms.new)) result (first_form (forms_in context) terms.old) }
+{
+    match context {
+        Context::Start => at_start(terms),
+        Context::LibraryArgs => in_args(Context::LibraryArgs, Context::LibraryNamed, terms),
+        Context::LibraryNamed => at_library(terms),
+        Context::Items(depth) => at_item(depth, terms),
+        Context::Args(depth) => in_args(Context::Args(depth), Context::Named(depth), terms),
+        Context::Named(depth) => at_named(depth, terms),
+        Context::FirstValue(depth) => at_first_value(depth, terms),
+        Context::Values(depth) => in_values(depth, terms),
+        Context::Behind => behind(terms),
+        Context::Done => {
+            let first = any(terms)?;
+            Err(refused(first))
+        }
+    }
+}

@@ -1,0 +1,20 @@
+//! The groups of a Liberty text (Liberty reference manual): a library, its groups within groups, and their attributes.
+#![tactic(auto)]
+
+mod building;
+mod context;
+mod forms;
+mod group;
+mod item;
+mod reading;
+mod sort;
+mod span;
+mod term;
+
+pub use forms::MOST_OPEN;
+pub use group::{Attribute, Group};
+pub use reading::read_groups;
+pub use span::Span;
+
+#[cfg(test)]
+mod tests;
