@@ -1,0 +1,14 @@
+pub mod Places
+pub mod Sight
+pub mod Loads
+pub mod Moves
+pub mod Stages
+pub mod LoadStep
+pub mod DrawStep
+pub mod Running
+pub mod Ends
+pub mod Kept
+pub mod Numbered
+pub mod Actions
+pub mod Picks
+pub mod Turns

@@ -1,0 +1,25 @@
+use Rattle.std.proofs.Common.{◌∙◌}
+use Rattle.chaos_core.proofs.Stages.{drawn_there, drawn_steps, room_stays}
+use Rattle.chaos_core.proofs.DrawStep.{draw_whole, draw_fits}
+use Rattle.chaos_core.proofs.steps.draw_step.Goals as goal
+
+pub of-requires : goal.of-requires
+of-requires g c = drawn_there c.args.design.now c.args.lists.now c.order.result.now c.draw-number.result c.requires.lists c.order.ensures.value (rw c.nets.ensures.value at c.if-number-nets.false)
+
+pub stage_with-worker-requires-clause-whole : goal.stage_with-worker-requires-clause-whole
+stage_with-worker-requires-clause-whole g c =
+    draw_whole (g.B.Board.knows c.args.board.now) (g.B.Board.knows c.draw-number.new.self) c.args.lists.now c.draw-number.result c.args.design.now c.order.result.now _ _ c.requires.design c.requires.lists
+    c.order.ensures.value (rw c.nets.ensures.value at c.if-number-nets.false) c.of.ensures (c.as_slice.ensures.value ∙ c.clear.ensures.items) c.draw-number.ensures.draws c.draw-number.ensures.seen
+
+pub returns-clause-fits : goal.returns-clause-fits
+returns-clause-fits g c = record {
+  room = room_stays c.args.lists.now _ _ c.clear.ensures.capacity c.requires.fits.room;
+  task = draw_fits (g.B.Board.knows c.args.board.now) (g.B.Board.knows c.draw-number.new.self) c.args.lists.now c.draw-number.result c.args.design.now c.order.result.now _ _ _ _ c.requires.design c.requires.lists
+      c.order.ensures.value (rw c.nets.ensures.value at c.if-number-nets.false) c.of.ensures c.as_slice.ensures.value c.clear.ensures.items c.draw-number.ensures.draws c.draw-number.ensures.seen
+      c.stage_with-worker.ensures.range c.stage_with-worker.ensures.task;
+}
+
+pub returns-clause-step : goal.returns-clause-step
+returns-clause-step g c = λ order o.
+    drawn_steps c.args.design.now c.args.lists.now order c.order.result.now (g.B.Board.knows c.args.board.now) (g.B.Board.knows c.draw-number.new.self) c.draw-number.result _ _ _ _ o c.order.ensures.value
+    (rw c.nets.ensures.value at c.if-number-nets.false) c.of.ensures (c.as_slice.ensures.value ∙ c.clear.ensures.items) c.clear.ensures.items c.draw-number.ensures.draws c.stage_with-worker.ensures.task

@@ -1,0 +1,7 @@
+pub mod Boards
+pub mod Tasks
+pub mod Steps
+pub mod Views
+pub mod Runs
+pub mod Memories
+pub mod Machine

@@ -1,0 +1,112 @@
+//! Words in memory, for workers that take turns on one thread.
+
+ghost use Rattle.std.specs.Prelude.{◌≡◌, ◌<◌, ◌≤◌, ◌*◌, List, length, IfOk, OnOk, ◌++◌};
+ghost use Rattle.xt_model.specs.Quads.{IsInRange, IsPairInRange};
+ghost use Rattle.xt_model.specs.declared.quad.Pair.{Pair};
+ghost use Rattle.xt_meaning.specs.Barrier.{IsFittingStart};
+ghost use Rattle.xt_meaning.specs.Words.{numbers_of, quad_numbers};
+ghost use Rattle.chaos_core.specs.Memories.{IsKept, knowledge_of};
+
+use crate::board::Board;
+use crate::words::push_numbers;
+use std::alloc::{AllocError, Global};
+use std::marker::Model;
+use std::snapshot::Snapshot;
+use xt_model::{Design, Direction, Windows};
+
+/// A board whose words nobody else can move. Its design and its start take no bytes.
+#[derive(Drop)]
+pub struct MemoryBoard {
+    words: Vec<u64>,
+    next: u64,
+    way: Direction,
+    design: Snapshot<Design>,
+    start: Snapshot<Windows>,
+}
+
+impl Model for MemoryBoard {
+    ghost use Rattle.chaos_core.specs.Memories.{Memory, IsKept};
+
+    ghost Value = { Memory };
+
+    ghost view = { λ b. record {
+      setting = record { design = b.design.value; way = b.way; start = b.start.value };
+      words = b.words.items;
+      next = b.next;
+    } };
+
+    ghost invariant = { λ b. IsKept (record {
+      setting = record { design = b.design.value; way = b.way; start = b.start.value };
+      words = b.words.items;
+      next = b.next;
+    }) };
+}
+
+impl MemoryBoard {
+    /// The words of these windows, with nothing drawn.
+    pub fn new(
+        alloc: Global,
+        design: &Design,
+        direction: Direction,
+        start: &Windows,
+    ) -> Result<MemoryBoard, AllocError>
+        requires { IsFittingStart direction design.now start.now }
+        ensures { IfOk result (λ board. board ≡ record {
+          setting = record { design = design.now; way = direction; start = start.now };
+          words = numbers_of start.now;
+          next = 0;
+        }) }
+    {
+        let _nets = design.nets();
+        let mut words = Vec::new(alloc);
+        push_numbers(&mut words, start.pairs())?;
+        Ok(MemoryBoard {
+            words,
+            next: 0,
+            way: direction,
+            design: Snapshot::of(design),
+            start: Snapshot::of(start),
+        })
+    }
+
+    /// The number in each word.
+    pub fn words(&self) -> &[u64]
+        ensures value { result.now ≡ self.now.words }
+        ensures kept { IsKept self.now }
+    {
+        self.words.as_slice()
+    }
+
+    /// Begins the numbers that are drawn anew.
+    pub fn restart(&mut self)
+        ensures { self.new ≡ record self.old { next = 0 } }
+    {
+        self.next = 0;
+    }
+}
+
+impl Board for MemoryBoard {
+    ghost knows = { λ board. knowledge_of board };
+
+    fn load(&mut self, word: usize) -> u64 {
+        self.words[word]
+    }
+
+    fn lower(&mut self, word: usize, value: u64) -> u64 {
+        let before = self.words[word];
+        self.words[word] = before.min(value);
+        before
+    }
+
+    fn raise(&mut self, word: usize, value: u64) -> u64 {
+        let before = self.words[word];
+        self.words[word] = before.max(value);
+        before
+    }
+
+    fn draw(&mut self) -> u64 {
+        let number = self.next;
+        self.next += 1;
+        number
+    }
+}

@@ -1,0 +1,67 @@
+//! The words of windows.
+
+ghost use Rattle.std.specs.Prelude.{◌≡◌, ◌<◌, ◌++◌, OnOk};
+ghost use Rattle.std.specs.List.{All};
+ghost use Rattle.xt_model.specs.Quads.{IsBound, IsPairInRange};
+ghost use Rattle.xt_meaning.specs.Words.{number_for, numbers_of};
+ghost use Rattle.chaos_core.specs.Tasks.{bound_at};
+ghost use Rattle.chaos_core.specs.Memories.{pair_numbers};
+
+use std::alloc::AllocError;
+use xt_model::Pair;
+
+/// The number that stands for a bound in a word.
+fn number_of(bound: i64) -> u64
+    requires { IsBound bound }
+    ensures { result ≡ number_for bound }
+{
+    (i128::from(bound) + 4_611_686_018_427_387_904) as u64
+}
+
+/// The bound in one of the eight words of a net: rise before fall, and in each the least and the greatest time and
+/// the least and the greatest slew.
+fn bound_of(pair: &Pair, place: u32) -> i64
+    requires place { place < 8 }
+    requires range { IsPairInRange pair.now }
+    ensures value { result ≡ bound_at pair.now place }
+    ensures range { IsBound result }
+{
+    let quad = if place < 4 { pair.rise } else { pair.fall };
+    match place % 4 {
+        0 => quad.tlo,
+        1 => quad.thi,
+        2 => quad.slo,
+        _ => quad.shi,
+    }
+}
+
+/// The number that stands for the bound in one of the eight words of a net.
+pub(crate) fn number_in(pair: &Pair, place: u32) -> u64
+    requires place { place < 8 }
+    requires range { IsPairInRange pair.now }
+    ensures { result ≡ number_for (bound_at pair.now place) }
+{
+    number_of(bound_of(pair, place))
+}
+
+/// Appends the numbers of the eight words of a net.
+fn push_pair(words: &mut Vec<u64>, pair: &Pair) -> Result<(), AllocError>
+    requires { IsPairInRange pair.now }
+    ensures { OnOk result (words.new.items ≡ words.old.items ++ pair_numbers pair.now) }
+{
+    for place in 0..8 {
+        words.push(number_in(pair, place))?;
+    }
+    Ok(())
+}
+
+/// Appends the numbers of windows, net by net.
+pub(crate) fn push_numbers(words: &mut Vec<u64>, pairs: &[Pair]) -> Result<(), AllocError>
+    requires { All IsPairInRange pairs.now }
+    ensures { OnOk result (words.new.items ≡ words.old.items ++ numbers_of pairs.now) }
+{
+    for pair in pairs {
+        push_pair(words, pair)?;
+    }
+    Ok(())
+}

@@ -1,0 +1,61 @@
+ghost use Rattle.std.specs.Prelude.{◌≡◌, ℕ, ◌*◌, ◌≤◌, length, vec_capacity, IfOk};
+ghost use Rattle.net_eval.specs.ReadLists.{reads_of};
+ghost use Rattle.chaos_core.specs.Tasks.{task_of, idle};
+
+use net_eval::ReadLists;
+use std::alloc::{AllocError, Global};
+use xt_model::Pair;
+
+/// What a worker is at: it loads the words of the read list of a net, or publishes the windows of a net, of which
+/// so many words are published.
+#[derive(Clone, Copy, Debug)]
+pub enum Stage {
+    Idle,
+    Loading(u32),
+    Publishing(u32, Pair, u32),
+    Finished,
+}
+
+/// What one step of a worker did: it drew a number, loaded a word or published one, or it is done.
+#[derive(Clone, Copy, Debug, PartialEq, Eq)]
+pub enum Moved {
+    Drew(u64),
+    Loaded(usize),
+    Published(usize),
+    Done,
+}
+
+/// One of those who evaluate the nets of a design over shared words, with room for the words of the longest read
+/// list.
+#[derive(Debug, Drop)]
+pub struct Worker {
+    pub(crate) stage: Stage,
+    pub(crate) loaded: Vec<u64>,
+}
+
+impl Worker {
+    /// An idle worker for these read lists.
+    pub fn new(alloc: Global, lists: &ReadLists) -> Result<Worker, AllocError>
+        ensures idle { IfOk result (λ worker. task_of worker ≡ idle) }
+        ensures room { IfOk result (λ worker. (net : ℕ)
+            → 8 * length (reads_of lists.now net) ≤ vec_capacity worker.loaded) }
+    {
+        let Some(room) = lists.longest().checked_mul(8) else {
+            return Err(AllocError);
+        };
+        let loaded = Vec::with_capacity(alloc, room)?;
+        Ok(Worker {
+            stage: Stage::Idle,
+            loaded,
+        })
+    }
+
+    /// Makes it idle again.
+    pub fn reset(&mut self)
+        ensures idle { task_of self.new ≡ idle }
+        ensures room { vec_capacity self.new.loaded ≡ vec_capacity self.old.loaded }
+    {
+        self.stage = Stage::Idle;
+        self.loaded.clear();
+    }
+}
