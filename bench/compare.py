@@ -97,8 +97,15 @@ def random_design(rng):
         given = QUIET if arcs[n] else tuple(random_quad(rng, unit, slew_end) for _ in BOTH)
         kind = rng.choice("iiiw") if not arcs[n] else rng.choice("iwwwwwww")
         nets.append(Net(names[n], kind, rng.randint(0, loads_end), given, couplings[n], sinks[n], arcs[n]))
-    period = rng.choice([None, None, 1, 999, plain.MOST_ENTRY, rng.randint(1, 10**7)])
-    return Design(period, tables, nets)
+    return Design(random_period(rng, unit), tables, nets)
+
+
+def random_period(rng, unit):
+    """No period, or one: often so short that windows meet some periods apart."""
+    if rng.random() < 0.5:
+        return None
+    short = rng.randint(1, 2 * unit), rng.randint(1, 8 * unit), rng.randint(unit, 20 * unit)
+    return rng.choice([*short, *short, 1, 999, rng.randint(1, 10**7), plain.MOST_ENTRY])
 
 
 def random_rivals(rng):
@@ -128,7 +135,7 @@ def random_rivals(rng):
                     arcs = [Arc(n - size, 0, e, e, rng.choice([0, 0, 1]), 2)]
                 nets.append(Net(f"g{group}.{stage}.{k}", "iw"[stage > 0], rng.choice([0, 100]), tuple(given),
                                 couplings, sinks, arcs))
-    return Design(None, tables, nets)
+    return Design(random_period(rng, unit), tables, nets)
 
 
 def random_couplings(rng, rank, cap_end):
@@ -527,7 +534,7 @@ def as_bytes(told):
 
 def inner_extremes(design, windows):
     """Whether some arc reads a table whose extreme in the box is at no corner of the box."""
-    meets = plain.overlap_in(windows)
+    meets = plain.overlap_in(design, windows)
     for n, net in enumerate(design.nets):
         for arc in net.arcs:
             if plain.live(windows[arc.source][arc.input]):
@@ -551,7 +558,7 @@ def laws(rng, design, verdict):
         windows = list(start)
         while plain.operator(design, windows) != windows:
             for n in rng.sample(range(len(windows)), len(windows)):
-                windows[n] = plain.evaluate(design, windows, plain.overlap_in(windows), n)
+                windows[n] = plain.evaluate(design, windows, plain.overlap_in(design, windows), n)
         assert windows == goal
     plain.look_at_all_points = True
     assert plain.operator(design, verdict.low) == verdict.low

@@ -6,7 +6,8 @@
     plain.py selftest [N]    compares the short cuts taken here with plain counting, N times
 
 Times are whole femtoseconds, capacitances whole attofarads, and a wire's products whole
-milliohm attofarads. There are whole numbers only, and each division is an exact floor.
+milliohm attofarads; the three Miller numbers of a design count in quarters. There are whole
+numbers only, and each division is an exact floor.
 An edge is 0 where it rises and 1 where it falls. An assignment is a list with one entry
 per net, which is a pair of quads: that of the rising edge and that of the falling one.
 """
@@ -22,7 +23,7 @@ Coupling = namedtuple("Coupling", "to cap")
 Sink = namedtuple("Sink", "name base coefs")
 Arc = namedtuple("Arc", "source sink input output delay slew")
 Net = namedtuple("Net", "name kind load given couplings sinks arcs")
-Design = namedtuple("Design", "period tables nets")
+Design = namedtuple("Design", "period tables nets miller", defaults=[(0, 4, 8)])
 Verdict = namedtuple("Verdict", "design envelope passed low high")
 
 EDGES = ("rise", "fall")
@@ -249,39 +250,46 @@ def active_range(quad):
     half = -(-quad.shi // 2)
     return quad.tlo - half, quad.thi + half
 
-def overlap(quad, other):
-    """Whether two nets may be switching at one moment; what never switches meets nothing."""
+def overlap(quad, other, period):
+    """Whether two nets may be switching at one moment, the second as often as the clock comes
+    again; what never switches meets nothing."""
     if not (live(quad) and live(other)):
         return False
     (a0, a1), (b0, b1) = active_range(quad), active_range(other)
-    return a0 <= b1 and b0 <= a1
+    # Of all moves by whole periods after which the second still starts in time, the latest
+    # has it end last. Without a period it is not moved.
+    move = 0 if period is None else (a1 - b0) // period * period
+    return a0 <= b1 + move and b0 + move <= a1
 
-def overlap_in(windows):
+def overlap_in(design, windows):
     """The overlap answers of an assignment: does edge e of net n meet edge f of net a?"""
-    return lambda n, e, a, f: overlap(windows[n][e], windows[a][f])
+    return lambda n, e, a, f: overlap(windows[n][e], windows[a][f], design.period)
 
 def all_overlap(n, e, a, f):
     """The overlap answers of the worst case, in which everything meets everything."""
     return True
 
 def miller_factors(design, meets, n, e):
-    """The least and the greatest factor per coupling: along undoes it, against doubles it."""
+    """The least and the greatest factor per coupling in quarters: low where both may switch
+    the same way, high where they may switch against each other, else the middle one."""
+    low, mid, high = design.miller
     couplings = design.nets[n].couplings
-    least = [0 if meets(n, e, coupling.to, e) else 1 for coupling in couplings]
-    greatest = [2 if meets(n, e, coupling.to, 1 - e) else 1 for coupling in couplings]
+    least = [low if meets(n, e, coupling.to, e) else mid for coupling in couplings]
+    greatest = [high if meets(n, e, coupling.to, 1 - e) else mid for coupling in couplings]
     return least, greatest
 
 def load_range(design, meets, n, e):
     """The least and the greatest capacitance that the driver of a net sees."""
     net = design.nets[n]
     sides = miller_factors(design, meets, n, e)
-    return [net.load + sum(m * c.cap for m, c in zip(side, net.couplings)) for side in sides]
+    return [net.load + sum(m * c.cap for m, c in zip(side, net.couplings)) // 4 for side in sides]
 
 def wire_range(design, meets, n, e, sink):
     """The least and the greatest Elmore delay from a net's driver to one of its sinks."""
     _, base, coefs = design.nets[n].sinks[sink]
     sides = miller_factors(design, meets, n, e)
-    return [(base + sum(m * coef for m, coef in zip(side, coefs))) // 10**6 for side in sides]
+    sums = [4 * base + sum(m * coef for m, coef in zip(side, coefs)) for side in sides]
+    return [quarters // (4 * 10**6) for quarters in sums]
 
 def slew_growth(wire):
     """By how much a wire of that delay slows an edge down."""
@@ -316,7 +324,7 @@ def evaluate(design, windows, meets, n):
 
 def operator(design, windows):
     """The window operator: all nets at once, from one and the same assignment."""
-    meets = overlap_in(windows)
+    meets = overlap_in(design, windows)
     return [evaluate(design, windows, meets, n) for n in range(len(design.nets))]
 
 def fixpoint(design, windows):
@@ -375,19 +383,20 @@ def coupled_pairs(nets):
     """How many pairs of nets are coupled, from whichever side."""
     return len({frozenset((n, c.to)) for n, net in enumerate(nets) for c in net.couplings})
 
-def guilt_mark(low, high, n, e, a, f):
+def guilt_mark(design, low, high, n, e, a, f):
     """How certain it is that two edges meet: in the least windows, in the greatest alone, never."""
-    if overlap_in(low)(n, e, a, f):
+    if overlap_in(design, low)(n, e, a, f):
         return "sure"
-    return "possible" if overlap_in(high)(n, e, a, f) else "no"
+    return "possible" if overlap_in(design, high)(n, e, a, f) else "no"
 
-def guilty_lines(nets, low, high):
+def guilty_lines(design, low, high):
     """The couplings that may change a victim's timing, by net, edge and coupling."""
+    nets = design.nets
     for n, net in enumerate(nets):
         for e in BOTH:
             for coupling in net.couplings:
-                fast = guilt_mark(low, high, n, e, coupling.to, e)
-                slow = guilt_mark(low, high, n, e, coupling.to, 1 - e)
+                fast = guilt_mark(design, low, high, n, e, coupling.to, e)
+                slow = guilt_mark(design, low, high, n, e, coupling.to, 1 - e)
                 if (fast, slow) != ("no", "no"):
                     who = net.name, EDGES[e], nets[coupling.to].name, thousandths(coupling.cap)
                     yield line("guilty", *who, "fast", fast, "slow", slow)
@@ -412,7 +421,7 @@ def report(design, low, high, kind="all"):
         if net.kind == "i" and not any(map(live, net.given)):
             text.append(line("unconstrained", net.name))
     if kind == "all":
-        text.extend(guilty_lines(nets, low, high))
+        text.extend(guilty_lines(design, low, high))
     return "".join(text) + line("end")
 
 def judge(data):
@@ -493,7 +502,10 @@ def selftest(times):
                 for t in (rng.randint(0, 12), rng.randint(0, 12)))
         wide = [q.shi + q.shi % 2 if live(q) else -99 for q in (a, b)]
         moments = [{*range(2 * q.tlo - w, 2 * q.thi + w + 1)} for q, w in zip((a, b), wide)]
-        assert overlap(a, b) == bool(moments[0] & moments[1]), (a, b)
+        assert overlap(a, b, None) == bool(moments[0] & moments[1]), (a, b)
+        period = rng.randint(1, 15)
+        phases = [{moment % (2 * period) for moment in one} for one in moments]
+        assert overlap(a, b, period) == bool(phases[0] & phases[1]), (a, b, period)
     print(f"selftest: {times} tables agree, {inner} with an extreme at no corner of the box")
 
 def main(words):
