@@ -1,7 +1,7 @@
 use super::*;
 use std::alloc::{AllocError, Global};
 use std::test::*;
-use xt_model::{Code, Edge, Miller, Quad};
+use xt_model::{Code, Edge, Quad};
 
 const EMPTY: &[u8] = b"xtalk-design 1\n\
 counts 0 0 0\n\
@@ -192,31 +192,4 @@ fn refuses_checks(rt: HostRuntime) {
             })
         )
     );
-}
-
-#[test]
-fn writes_what_was_read(rt: HostRuntime) -> Result<(), Fail> {
-    let many = many_sources(rt.alloc())?;
-    for text in &[EMPTY, ONE, CROSS, LOAD_PAIR, LARGEST, many.as_slice()] {
-        let design = read_linked(rt.alloc(), text)?;
-        let written = write_linked(rt.alloc(), &design)?;
-        assert_eq!(rt; written.as_slice(), *text);
-    }
-    Ok(())
-}
-
-/// The same text in version 2, with Miller numbers of its own.
-const OTHER_MILLER: &[u8] = b"xtalk-design 2\n\
-counts 0 0 0\n\
-period none\n\
-miller 0 4 12\n\
-end\n";
-
-#[test]
-fn writes_miller_numbers(rt: HostRuntime) -> Result<(), Fail> {
-    let miller = Miller::new(0, 4, 12).ok_or("three that rise")?;
-    let design = read_linked(rt.alloc(), EMPTY)?.with_miller(miller);
-    let written = write_linked(rt.alloc(), &design)?;
-    assert_eq!(rt; written.as_slice(), OTHER_MILLER);
-    Ok(())
 }
