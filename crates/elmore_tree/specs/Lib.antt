@@ -1,0 +1,8 @@
+pub mod Trees
+pub mod Paths
+pub mod Sums
+pub mod Forms
+pub mod Walks
+pub mod Orders
+pub mod Gathering
+pub mod Quarters

@@ -1,0 +1,57 @@
+//! Which nodes are joined to the root, and which have to be.
+
+ghost use Rattle.std.specs.Prelude.{◌≡◌, ℕ, ◌<◌, ◌≤◌, length, IfOk, MatchOption};
+ghost use Rattle.std.specs.List.{All};
+ghost use Rattle.elmore_tree.specs.Trees.{is_needed};
+ghost use Rattle.elmore_tree.specs.Paths.{is_in, resistors_in};
+ghost use Rattle.elmore_tree.specs.Gathering.{IsFirstUnreached, IsAllReached};
+
+use crate::part::Resistor;
+use crate::tree::Tree;
+use std::alloc::{AllocError, Global};
+
+/// How many resistors have their ends at marked nodes; both ends are marked or neither is.
+pub fn resistors_in(resistors: &[Resistor], reached: &[bool]) -> usize
+    requires { All (λ r. r.a < length reached.now) resistors.now }
+    ensures { result ≡ resistors_in reached.now resistors.now }
+{
+    let mut count = 0;
+    for resistor in resistors {
+        if reached[resistor.a as usize] {
+            count += 1;
+        }
+    }
+    count
+}
+
+/// A mark for each node that has a sink, a tap or capacitance to ground above 0.
+pub fn needed_nodes(alloc: Global, tree: &Tree) -> Result<Vec<bool>, AllocError>
+    ensures count { IfOk result (λ needed. length needed.items ≡ tree.now.nodes) }
+    ensures each { IfOk result (λ needed. (k : ℕ) → is_in needed.items k ≡ is_needed tree.now k) }
+{
+    let mut needed = Vec::new(alloc);
+    for ground in tree.ground() {
+        needed.push(*ground > 0)?;
+    }
+    for sink in tree.sinks() {
+        needed[*sink as usize] = true;
+    }
+    for tap in tree.taps() {
+        needed[tap.node as usize] = true;
+    }
+    Ok(needed)
+}
+
+/// The least node that is needed and not reached.
+pub fn first_unreached(needed: &[bool], reached: &[bool]) -> Option<u32>
+    requires few { length needed.now ≤ 65536 }
+    requires count { length reached.now ≡ length needed.now }
+    ensures { MatchOption result (IsAllReached needed.now reached.now) (IsFirstUnreached needed.now reached.now) }
+{
+    for node in 0..needed.len() {
+        if needed[node] && !reached[node] {
+            return Some(node as u32);
+        }
+    }
+    None
+}
