@@ -1,5 +1,5 @@
 -- The first limit that is passed.
-use Rattle.std.specs.Prelude.{◌≡◌, ℕ, ℤ, List, [], ◌∷◌, ◌++◌, Option, Some, None, Result, Ok, Err}
+use Rattle.std.specs.Prelude.{◌≡◌, ℕ, ℤ, List, [], ◌∷◌, ◌++◌, map, Option, Some, None, Result, Ok, Err}
 use Rattle.xt_model.specs.declared.quad.Quad.{Quad}
 use Rattle.xt_model.specs.declared.quad.Pair.{Pair}
 use Rattle.xt_model.specs.declared.net.Net.{Net}
@@ -7,6 +7,7 @@ use Rattle.xt_model.specs.Miller.{MillerNumbers}
 use Rattle.xt_model.specs.Parts.{Parts}
 use Rattle.xt_model.specs.Levels.{IsOrder}
 use Rattle.xt_meaning.specs.Envelope.{IsWidest, Test, TimeAt, SlewAt, quad_tests, first_passed}
+use Rattle.miller_bits.specs.Victims.{VictimEdge}
 use Rattle.envelope.specs.declared.fault.What.{What}
 use Rattle.envelope.specs.declared.fault.What.TheVariants.{Time, Slew}
 use Rattle.envelope.specs.declared.fault.Excess.{Excess}
@@ -48,3 +49,7 @@ pub record IsFirstPassed (d : Parts) (n : ℕ) (what : What) (value : ℤ) : Typ
 abbrev pub IsFaultOfEnvelope : Parts → EnvelopeFault → Type 0
 IsFaultOfEnvelope d (Limit net what value) = IsFirstPassed d net.0 what value
 IsFaultOfEnvelope d NoMemory = Unit {0}
+
+-- every coupling of a net counts by the highest factor at most
+abbrev pub AreHighest : VictimEdge → Type 0
+AreHighest v = v.greatest ≡ map (λ k. v.miller.high) v.net.couplings

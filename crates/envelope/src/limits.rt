@@ -1,17 +1,17 @@
 //! The limits on the times and slews of a net: of its driver, and of each sink behind its slowest wire.
 
-ghost use Rattle.std.specs.Prelude.{◌≡◌, ◌<◌, ◌^◌, [], ◌∷◌, length, Some, pos, ◌≤ℤ◌};
+ghost use Rattle.std.specs.Prelude.{◌≡◌, ◌<◌, ◌≤◌, ◌^◌, [], ◌∷◌, length, pos, ◌≤ℤ◌};
 ghost use Rattle.std.specs.List.{slice_get};
 ghost use Rattle.xt_model.specs.Quads.{IsInRange, IsPairInRange};
 ghost use Rattle.xt_meaning.specs.Wires.{slew_growth};
 ghost use Rattle.xt_meaning.specs.Envelope.{TimeAt, SlewAt, first_over};
-ghost use Rattle.xt_meaning.specs.Envelope.{greatest_wire, sink_tests, all_sink_tests, quad_tests};
-ghost use Rattle.envelope.specs.Firsts.{passed_test, driver_tests, pair_tests};
+ghost use Rattle.xt_meaning.specs.Envelope.{sink_tests, all_sink_tests, quad_tests};
+ghost use Rattle.envelope.specs.Firsts.{passed_test, driver_tests, pair_tests, AreHighest};
 
 use crate::fault::{Excess, What};
-use miller_bits::{Overlaps, wire_range_by};
+use miller_bits::{Overlaps, Victim};
 use xt_model::limits::{MOST_SLEW, MOST_TIME};
-use xt_model::{Design, Edge, Net, NetId, Pair, Quad, Windows};
+use xt_model::{Design, Edge, NetId, Pair, Quad, Windows};
 
 /// Tests a time of a net.
 fn test_time(net: NetId, value: i128) -> Result<(), Excess>
@@ -63,88 +63,46 @@ fn slew_growth(wire: i128) -> i128
     (11 * wire).div_euclid(5)
 }
 
-/// The delay of the wire to a sink with every coupling at its highest factor.
-fn greatest_wire(
-    design: &Design,
-    windows: &Windows,
-    net: NetId,
-    edge: Edge,
-    driven: &Net,
-    sink: usize,
-) -> i128
-    requires count { length windows.now ≡ length design.now.nets }
-    requires there { slice_get design.now.nets net.0 ≡ Some driven.now }
-    requires sink { sink < length driven.now.sinks }
-    ensures value { result ≡ greatest_wire design.now.miller driven.now sink }
-    ensures low { pos 0 ≤ℤ result }
-    ensures high { result ≤ℤ pos (2 ^ 105) }
+/// Tests the latest arrival at a sink behind its slowest wire, and the greatest slew there.
+fn test_sink(victim: &Victim<Windows>, quad: &Quad, sink: usize) -> Result<(), Excess>
+    requires highest { AreHighest victim.now }
+    requires sink { sink < length victim.now.net.sinks }
+    requires range { IsInRange quad.now }
+    ensures { let v = victim.now in
+        passed_test result ≡ first_over (sink_tests v.miller v.number v.net quad.now sink) }
 {
-    let _nets = design.nets();
-    let range = wire_range_by(design, Overlaps::All, windows, net, edge, sink);
-    range.1
+    let (_, wire) = victim.wire_range(sink);
+    test_time(victim.number(), i128::from(quad.thi) + wire)?;
+    test_slew(victim.number(), i128::from(quad.shi) + slew_growth(wire))
 }
 
-/// Tests the latest arrival at a sink, and the greatest slew there.
-fn test_sink(
-    design: &Design,
-    windows: &Windows,
-    net: NetId,
-    edge: Edge,
-    quad: &Quad,
-    driven: &Net,
-    sink: usize,
-) -> Result<(), Excess>
-    requires count { length windows.now ≡ length design.now.nets }
-    requires there { slice_get design.now.nets net.0 ≡ Some driven.now }
-    requires sink { sink < length driven.now.sinks }
+/// Tests the sinks of a net, so many, in order.
+fn test_sinks(victim: &Victim<Windows>, quad: &Quad, sinks: usize) -> Result<(), Excess>
+    requires highest { AreHighest victim.now }
+    requires sinks { sinks ≤ length victim.now.net.sinks }
     requires range { IsInRange quad.now }
-    ensures { passed_test result ≡ first_over (sink_tests design.now.miller net.0 driven.now quad.now sink) }
+    ensures { let v = victim.now in
+        passed_test result ≡ first_over (all_sink_tests v.miller v.number v.net quad.now sinks) }
 {
-    let wire = greatest_wire(design, windows, net, edge, driven, sink);
-    test_time(net, i128::from(quad.thi) + wire)?;
-    test_slew(net, i128::from(quad.shi) + slew_growth(wire))
-}
-
-/// Tests the sinks of a net in order.
-fn test_sinks(
-    design: &Design,
-    windows: &Windows,
-    net: NetId,
-    edge: Edge,
-    quad: &Quad,
-    driven: &Net,
-) -> Result<(), Excess>
-    requires count { length windows.now ≡ length design.now.nets }
-    requires there { slice_get design.now.nets net.0 ≡ Some driven.now }
-    requires range { IsInRange quad.now }
-    ensures { let tests = all_sink_tests design.now.miller net.0 driven.now quad.now (length driven.now.sinks) in
-        passed_test result ≡ first_over tests }
-{
-    for sink in 0..driven.sinks.len() {
-        test_sink(design, windows, net, edge, quad, driven, sink)?;
+    for sink in 0..sinks {
+        test_sink(victim, quad, sink)?;
     }
     Ok(())
 }
 
-/// Tests a window of a net, where it is live.
-fn test_quad(
-    design: &Design,
-    windows: &Windows,
-    net: NetId,
-    edge: Edge,
-    quad: &Quad,
-    driven: &Net,
-) -> Result<(), Excess>
-    requires count { length windows.now ≡ length design.now.nets }
-    requires there { slice_get design.now.nets net.0 ≡ Some driven.now }
+/// Tests a window of a net with so many sinks, where it is live.
+fn test_quad(victim: &Victim<Windows>, quad: &Quad, sinks: usize) -> Result<(), Excess>
+    requires highest { AreHighest victim.now }
+    requires sinks { sinks ≡ length victim.now.net.sinks }
     requires range { IsInRange quad.now }
-    ensures { passed_test result ≡ first_over (quad_tests design.now.miller net.0 driven.now quad.now) }
+    ensures { let v = victim.now in
+        passed_test result ≡ first_over (quad_tests v.miller v.number v.net quad.now) }
 {
     if !quad.live() {
         return Ok(());
     }
-    test_driver(net, quad)?;
-    test_sinks(design, windows, net, edge, quad, driven)
+    test_driver(victim.number(), quad)?;
+    test_sinks(victim, quad, sinks)
 }
 
 /// Tests the two windows of a net: the first of their quantities that passes its limit, if one does. Linear in
@@ -161,7 +119,9 @@ pub(crate) fn test_pair(
     ensures { let driven = slice_get design.now.nets net.0 in
         passed_test result ≡ first_over (pair_tests design.now.miller net.0 driven pair.now) }
 {
-    let driven = design.net(net.0 as usize);
-    test_quad(design, windows, net, Edge::Rise, &pair.rise, driven)?;
-    test_quad(design, windows, net, Edge::Fall, &pair.fall, driven)
+    let sinks = design.net(net.0 as usize).sinks.len();
+    let rise = Victim::new(design, Overlaps::All, windows, net, Edge::Rise);
+    test_quad(&rise, &pair.rise, sinks)?;
+    let fall = Victim::new(design, Overlaps::All, windows, net, Edge::Fall);
+    test_quad(&fall, &pair.fall, sinks)
 }

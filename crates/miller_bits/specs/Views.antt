@@ -1,11 +1,12 @@
 -- What a view of words has to hold for a net, and what it answers.
-use Rattle.std.specs.Prelude.{ℕ, ◌<◌, ℤ, Option, Some, None, IfSome}
+use Rattle.std.specs.Prelude.{ℕ, ◌<◌, ℤ, Bool, if◌then◌else◌, Option, Some, None, IfSome}
 use Rattle.std.specs.List.{slice_get}
 use Rattle.miller_bits.specs.declared.overlaps.Overlaps.{Overlaps}
 use Rattle.miller_bits.specs.declared.overlaps.Overlaps.TheVariants.{OfWindows, All}
 use Rattle.xt_model.specs.declared.edge.Edge.{Edge}
 use Rattle.xt_model.specs.declared.net.Coupling.{Coupling}
 use Rattle.xt_model.specs.declared.net.Net.{Net}
+use Rattle.xt_model.specs.Miller.{MillerNumbers}
 use Rattle.xt_model.specs.Parts.{Parts}
 use Rattle.xt_model.specs.Assign.{word_number, quads_of}
 use Rattle.xt_meaning.specs.Overlap.{Answers, all_overlap, overlap_answers}
@@ -38,3 +39,11 @@ answers_by All d f = all_overlap
 abbrev pub coupling_at : Option Net → ℕ → Option Coupling
 coupling_at None i = None
 coupling_at (Some net) i = slice_get net.couplings i
+
+-- the least factor of a coupling, by whether the aggressor can switch the same way at the same time
+abbrev pub least_by : MillerNumbers → Bool → ℕ
+least_by m b = if b then m.low else m.mid
+
+-- the greatest, by whether it can switch the other way
+abbrev pub greatest_by : MillerNumbers → Bool → ℕ
+greatest_by m b = if b then m.high else m.mid

@@ -1,20 +1,19 @@
 //! By which factors the coupling capacitors of a net count (Miller 1920), in quarters.
 
-ghost use Rattle.std.specs.Prelude.{◌≡◌, ◌<◌, ◌≤◌, length, IfSome, IsSome, if◌then◌else◌};
+ghost use Rattle.std.specs.Prelude.{◌≡◌, ◌<◌, ◌≤◌, length, IfSome, IsSome};
 ghost use Rattle.std.specs.List.{slice_get};
 ghost use Rattle.xt_model.specs.Assign.{quads_of};
 ghost use Rattle.xt_model.specs.Limits.{most_factor};
-ghost use Rattle.xt_model.specs.Quads.{IsInRange};
-ghost use Rattle.xt_meaning.specs.Overlap.{least_factor, greatest_factor, IsRealPeriod};
-ghost use Rattle.miller_bits.specs.Views.{HasEdge, HasNet, answers_of, answers_by, coupling_at};
+ghost use Rattle.xt_model.specs.Quads.{IsInRange, other_edge};
+ghost use Rattle.xt_meaning.specs.Overlap.{overlaps, least_factor, greatest_factor, IsRealPeriod};
+ghost use Rattle.miller_bits.specs.Views.{HasEdge, HasNet, answers_of, coupling_at, least_by, greatest_by};
 
 use crate::active::overlap;
-use crate::overlaps::Overlaps;
-use xt_model::{Bounds, Coupling, Design, Edge, Miller, NetId, Quad, window};
+use xt_model::{Bounds, Design, Edge, Miller, NetId, Quad, window};
 
 /// The least factor, by whether the aggressor can switch the same way at the same time.
 fn least_factor(miller: Miller, overlaps: bool) -> u8
-    ensures value { result ≡ (if overlaps then miller.low else miller.mid) }
+    ensures value { result ≡ least_by miller overlaps }
     ensures few { result ≤ most_factor }
 {
     if overlaps { miller.low() } else { miller.mid() }
@@ -22,7 +21,7 @@ fn least_factor(miller: Miller, overlaps: bool) -> u8
 
 /// The greatest factor, by whether the aggressor can switch the other way at the same time.
 fn greatest_factor(miller: Miller, overlaps: bool) -> u8
-    ensures value { result ≡ (if overlaps then miller.high else miller.mid) }
+    ensures value { result ≡ greatest_by miller overlaps }
     ensures few { result ≤ most_factor }
 {
     if overlaps {
@@ -40,61 +39,37 @@ fn period(design: &Design) -> Option<i64>
     design.period()
 }
 
-/// Whether the window of an edge of a net, which is `own`, and that of an edge of an aggressor count as
-/// overlapping.
-fn is_overlap<V: Bounds>(
-    design: &Design,
-    overlaps: Overlaps,
-    view: &V,
-    net: NetId,
-    edge: Edge,
-    own: &Quad,
-    aggressor: NetId,
-    other: Edge,
-) -> bool
-    requires own { own.now ≡ quads_of (V.bound_of view.now) net.0 edge }
-    requires range { IsInRange own.now }
-    requires words { HasNet (V.has view.now) aggressor.0 }
-    ensures { result ≡ answers_by overlaps design.now (V.bound_of view.now) net.0 edge aggressor.0 other }
-{
-    match overlaps {
-        Overlaps::OfWindows => overlap(own, &window(view, aggressor, other), period(design)),
-        Overlaps::All => true,
-    }
-}
-
-/// The least and the greatest factor of a coupling of an edge of a net, whose window is `own`.
-pub(crate) fn coupling_factors<V: Bounds>(
-    design: &Design,
-    overlaps: Overlaps,
-    view: &V,
-    net: NetId,
-    edge: Edge,
-    own: &Quad,
-    coupling: &Coupling,
-) -> (u8, u8)
-    requires own { own.now ≡ quads_of (V.bound_of view.now) net.0 edge }
-    requires range { IsInRange own.now }
-    requires words { HasNet (V.has view.now) coupling.now.to.0 }
-    ensures least { let b = answers_by overlaps design.now (V.bound_of view.now) in
-        result.0 ≡ least_factor design.now.miller b net.0 edge coupling.now }
-    ensures greatest { let b = answers_by overlaps design.now (V.bound_of view.now) in
-        result.1 ≡ greatest_factor design.now.miller b net.0 edge coupling.now }
+/// The factors of a coupling whose aggressor can switch either way at any time.
+pub(crate) fn widest_factors(miller: Miller) -> (u8, u8)
+    ensures least { result.0 ≡ miller.low }
+    ensures greatest { result.1 ≡ miller.high }
     ensures few_least { result.0 ≤ most_factor }
     ensures few_greatest { result.1 ≤ most_factor }
 {
+    (least_factor(miller, true), greatest_factor(miller, true))
+}
+
+/// The factors of a coupling to an aggressor, of an edge with this window.
+pub(crate) fn factors_of<V: Bounds>(
+    design: &Design,
+    own: &Quad,
+    edge: Edge,
+    view: &V,
+    aggressor: NetId,
+) -> (u8, u8)
+    requires range { IsInRange own.now }
+    requires words { HasNet (V.has view.now) aggressor.0 }
+    ensures least { let other = quads_of (V.bound_of view.now) aggressor.0 edge in
+        result.0 ≡ least_by design.now.miller (overlaps design.now.period own.now other) }
+    ensures greatest { let other = quads_of (V.bound_of view.now) aggressor.0 (other_edge edge) in
+        result.1 ≡ greatest_by design.now.miller (overlaps design.now.period own.now other) }
+    ensures few_least { result.0 ≤ most_factor }
+    ensures few_greatest { result.1 ≤ most_factor }
+{
+    let period = period(design);
+    let same_way = overlap(own, &window(view, aggressor, edge), period);
+    let other_way = overlap(own, &window(view, aggressor, edge.other()), period);
     let miller = design.miller();
-    let same_way = is_overlap(design, overlaps, view, net, edge, own, coupling.to, edge);
-    let other_way = is_overlap(
-        design,
-        overlaps,
-        view,
-        net,
-        edge,
-        own,
-        coupling.to,
-        edge.other(),
-    );
     (
         least_factor(miller, same_way),
         greatest_factor(miller, other_way),
@@ -128,13 +103,6 @@ pub fn factors<V: Bounds>(
 {
     let victim = design.net(net.0 as usize);
     let own = window(view, net, edge);
-    coupling_factors(
-        design,
-        Overlaps::OfWindows,
-        view,
-        net,
-        edge,
-        &own,
-        &victim.couplings.as_slice()[coupling],
-    )
+    let aggressor = victim.couplings.as_slice()[coupling].to;
+    factors_of(design, &own, edge, view, aggressor)
 }

@@ -7,10 +7,12 @@ mod active;
 mod factor;
 mod load;
 mod overlaps;
+mod victim;
 mod wire;
 
 pub use active::overlap;
 pub use factor::factors;
-pub use load::{load_range, load_range_by};
+pub use load::load_range;
 pub use overlaps::Overlaps;
-pub use wire::{wire_range, wire_range_by};
+pub use victim::Victim;
+pub use wire::wire_range;

@@ -1,19 +1,15 @@
 ghost use Rattle.std.specs.Prelude.{◌≡◌, ◌<◌, ◌≤◌, ◌^◌, length, IfSome, pos, ◌+ℤ◌, ◌≤ℤ◌, ◌*ℤ◌};
 ghost use Rattle.std.specs.Int.{int_div_euclid};
 ghost use Rattle.std.specs.List.{slice_get};
-ghost use Rattle.xt_model.specs.Assign.{quads_of};
 ghost use Rattle.xt_model.specs.Limits.{most_factor};
-ghost use Rattle.xt_model.specs.Quads.{IsInRange};
-ghost use Rattle.xt_model.specs.Sound.{IsCap, IsSoundNet};
-ghost use Rattle.xt_meaning.specs.Overlap.{least_factors, greatest_factors};
+ghost use Rattle.xt_model.specs.Sound.{IsCap};
 ghost use Rattle.xt_meaning.specs.Operator.{load_range};
-ghost use Rattle.xt_meaning.specs.Reads.{HoldsOfEnds};
-ghost use Rattle.xt_meaning.specs.Wires.{cap_sum};
-ghost use Rattle.miller_bits.specs.Views.{HasNet, HasVictim, answers_of, answers_by};
+ghost use Rattle.xt_meaning.specs.Wires.{cap_sum, load_of};
+ghost use Rattle.miller_bits.specs.Views.{HasVictim, answers_of};
 
-use crate::factor::coupling_factors;
 use crate::overlaps::Overlaps;
-use xt_model::{Bounds, Design, Edge, Net, NetId, Quad, window};
+use crate::victim::Victim;
+use xt_model::{Bounds, Design, Edge, NetId};
 
 /// A capacitance in aF, times a factor in quarters.
 fn scaled(factor: u8, cap: i64) -> i64
@@ -26,27 +22,10 @@ fn scaled(factor: u8, cap: i64) -> i64
     i64::from(factor) * cap
 }
 
-/// Of each coupling of a net its least and its greatest factor times its capacitance, summed, in quarters of an
-/// aF. `own` is the window of the net at the edge.
-fn cap_sums<V: Bounds>(
-    design: &Design,
-    overlaps: Overlaps,
-    view: &V,
-    net: NetId,
-    edge: Edge,
-    own: &Quad,
-    victim: &Net,
-) -> (i64, i64)
-    requires own { own.now ≡ quads_of (V.bound_of view.now) net.0 edge }
-    requires range { IsInRange own.now }
-    requires sound { IsSoundNet design.now net.0 victim.now }
-    requires words { HoldsOfEnds (HasNet (V.has view.now)) victim.now.couplings }
-    ensures least { let b = answers_by overlaps design.now (V.bound_of view.now) in
-        let ks = victim.now.couplings in
-        result.0 ≡ cap_sum (least_factors design.now.miller b net.0 edge ks) ks }
-    ensures greatest { let b = answers_by overlaps design.now (V.bound_of view.now) in
-        let ks = victim.now.couplings in
-        result.1 ≡ cap_sum (greatest_factors design.now.miller b net.0 edge ks) ks }
+/// Of each coupling its least and its greatest factor times its capacitance, summed, in quarters of an aF.
+fn cap_sums<V: Bounds>(victim: &Victim<V>) -> (i64, i64)
+    ensures least { result.0 ≡ cap_sum victim.now.least victim.now.net.couplings }
+    ensures greatest { result.1 ≡ cap_sum victim.now.greatest victim.now.net.couplings }
     ensures least_natural { pos 0 ≤ℤ result.0 }
     ensures least_small { result.0 ≤ℤ pos (2 ^ 50) }
     ensures greatest_natural { pos 0 ≤ℤ result.1 }
@@ -54,8 +33,8 @@ fn cap_sums<V: Bounds>(
 {
     let mut least = 0;
     let mut greatest = 0;
-    for coupling in victim.couplings.as_slice() {
-        let (low, high) = coupling_factors(design, overlaps, view, net, edge, own, coupling);
+    for (index, coupling) in victim.net.couplings.as_slice().iter().enumerate() {
+        let (low, high) = victim.factors(index);
         least += scaled(low, coupling.cap);
         greatest += scaled(high, coupling.cap);
     }
@@ -72,34 +51,18 @@ fn with_quarters(load: i64, quarters: i64) -> i64
     load + quarters.div_euclid(4)
 }
 
-/// The least and the greatest load of a net in aF at an edge: its load to ground, and of each coupling its
-/// least and its greatest factor times its capacitance, by the overlaps that count. The quarters are summed
-/// before they are rounded down. Linear in the couplings.
-pub fn load_range_by<V: Bounds>(
-    design: &Design,
-    overlaps: Overlaps,
-    view: &V,
-    net: NetId,
-    edge: Edge,
-) -> (i64, i64)
-    requires net { net.0 < length design.now.nets }
-    requires words { HasVictim (V.has view.now) design.now net.0 edge }
-    ensures least { let b = answers_by overlaps design.now (V.bound_of view.now) in
-        IfSome
-        (slice_get design.now.nets net.0)
-        (λ n. result.0 ≡ (load_range design.now.miller b net.0 edge n).least) }
-    ensures greatest { let b = answers_by overlaps design.now (V.bound_of view.now) in
-        IfSome
-        (slice_get design.now.nets net.0)
-        (λ n. result.1 ≡ (load_range design.now.miller b net.0 edge n).most) }
-{
-    let victim = design.net(net.0 as usize);
-    let own = window(view, net, edge);
-    let (least, greatest) = cap_sums(design, overlaps, view, net, edge, &own, victim);
-    (
-        with_quarters(victim.load, least),
-        with_quarters(victim.load, greatest),
-    )
+impl<'a, V: Bounds> Victim<'a, V> {
+    /// Its least and its greatest load in aF: the net's load to ground, and of each coupling its least and its
+    /// greatest factor times its capacitance. The quarters are summed before they are rounded down. Linear in the
+    /// couplings.
+    pub fn load_range(&self) -> (i64, i64)
+        ensures least { result.0 ≡ load_of self.now.least self.now.net }
+        ensures greatest { result.1 ≡ load_of self.now.greatest self.now.net }
+    {
+        let (least, greatest) = cap_sums(self);
+        let load = self.net.load;
+        (with_quarters(load, least), with_quarters(load, greatest))
+    }
 }
 
 /// The least and the greatest load of a net in aF at an edge: its load to ground, and of each coupling its
@@ -116,5 +79,5 @@ pub fn load_range<V: Bounds>(design: &Design, view: &V, net: NetId, edge: Edge) 
         (slice_get design.now.nets net.0)
         (λ n. result.1 ≡ (load_range design.now.miller b net.0 edge n).most) }
 {
-    load_range_by(design, Overlaps::OfWindows, view, net, edge)
+    Victim::new(design, Overlaps::OfWindows, view, net, edge).load_range()
 }

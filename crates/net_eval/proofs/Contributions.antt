@@ -16,13 +16,13 @@ use Rattle.xt_model.specs.Tables.{TableParts, IsTableNumber}
 use Rattle.xt_model.specs.Parts.{Parts}
 use Rattle.xt_model.specs.Miller.{IsMiller}
 use Rattle.xt_model.specs.Sound.{IsSoundNet, IsSoundCoupling, IsSoundSink, IsProduct, IsSlew, IsTime}
-use Rattle.xt_model.specs.Assign.{Assignment}
 use Rattle.xt_meaning.specs.Lookup.{Box, table_value, slew_value, least_over, greatest_over}
 use Rattle.xt_meaning.specs.Wires.{slew_growth}
 use Rattle.xt_meaning.specs.Overlap.{Answers}
 use Rattle.xt_meaning.specs.Operator.{Range, contribution_by, load_range}
 use Rattle.xt_meaning.proofs.Ranges.{least_over-slew_value, greatest_over-slew_value}
 use Rattle.net_eval.specs.Arcs.{with_arc_at}
+use Rattle.net_eval.specs.Scenes.{Scene}
 use Rattle.xt_meaning.proofs.Growth.{IsWired, IsNatural, HasNaturalCap, HasNaturalCoefs, slew_growth_mono, load_range_ordered}
 
 pub slew_least : (t : TableParts) (b : Box) (stored x read low : ℤ) → stored ≡ x → x ≡ int_max (pos 0) read → read ≡ low → low ≡ least_over (table_value t) b → stored ≡ least_over (slew_value t) b
@@ -99,9 +99,9 @@ pub table_at : (xs ts : List TableParts) (i : ℕ) (x : TableParts) → xs ≡ t
 table_at xs ts i x same i_in is = slice_get_read ts (length ts) i x refl i_in (rw same at is)
 
 -- the join over all arcs, with the range of the load
-pub join_is : (d : Parts) (b : Answers) (W : Assignment) (e : Edge) (l : Range) (c0 c1 : ℤ) (xs arcs : List TimingArc) (i : ℕ) (q : Quad) → c0 ≡ l.least → c1 ≡ l.most → xs ≡ arcs → length xs ≤ i
-    → q ≡ fold (with_arc_at d b W e (record { least = c0; most = c1 })) bottom (take i xs) → q ≡ fold (with_arc_at d b W e l) bottom arcs
-join_is d b W e l c0 c1 xs arcs i q h k same past is =
+pub join_is : (s : Scene) (e : Edge) (l : Range) (c0 c1 : ℤ) (xs arcs : List TimingArc) (i : ℕ) (q : Quad) → c0 ≡ l.least → c1 ≡ l.most → xs ≡ arcs → length xs ≤ i
+    → q ≡ fold (with_arc_at s e (record { least = c0; most = c1 })) bottom (take i xs) → q ≡ fold (with_arc_at s e l) bottom arcs
+join_is s e l c0 c1 xs arcs i q h k same past is =
     let all : take i xs ≡ xs = take_all i xs past in
     let r : ◌≡◌ {A = Range} (record { least = c0; most = c1 }) l = rw (h, k) refl in
     rw (all, same, r) at is

@@ -15,9 +15,8 @@ use Rattle.xt_model.specs.declared.net.NetId.{NetId}
 use Rattle.xt_model.specs.declared.net.TimingArc.{TimingArc}
 use Rattle.xt_model.specs.declared.net.Net.{Net}
 use Rattle.xt_model.specs.Parts.{Parts}
-use Rattle.xt_model.specs.Sound.{IsSound, IsSoundNet, IsSoundArc}
+use Rattle.xt_model.specs.Sound.{IsSoundNet, IsSoundArc}
 use Rattle.xt_meaning.specs.Reads.{IsAround, LooksAt, IsReadList}
-use Rattle.miller_bits.proofs.Sums.{found}
 use Rattle.net_eval.specs.ReadLists.{ids, reads_of, AreReadLists, around, HasGained, HasLooked}
 use Rattle.net_eval.proofs.Steady.{has_sink}
 
@@ -135,10 +134,9 @@ list_is d n net numbers sorted reads there h moved up is =
     })
 
 -- the input of an arc is there
-pub input_there : (d : Parts) (n : ℕ) (net : Net) (arcs : List TimingArc) (i : ℕ) (x : TimingArc) → IsSound d → slice_get d.nets n ≡ Some net → arcs ≡ net.arcs → i < length arcs
+pub input_there : (d : Parts) (n : ℕ) (net : Net) (arcs : List TimingArc) (i : ℕ) (x : TimingArc) → IsSoundNet d n net → arcs ≡ net.arcs → i < length arcs
     → (get_or arcs i x).from.0 < length d.nets
-input_there d n net arcs i x s there same h =
-    let sound = found (IsSoundNet d n) (slice_get d.nets n) net there (s.nets n) in
+input_there d n net arcs i x sound same h =
     let P : List TimingArc → Type 0 = λ xs. All (IsSoundArc d) xs in
     let all = subst P (sym same) sound.arcs in
     let a = get_or arcs i x in

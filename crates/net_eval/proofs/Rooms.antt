@@ -25,7 +25,8 @@ use Rattle.xt_meaning.proofs.Room.{wire_delay_natural}
 use Rattle.xt_meaning.proofs.Limits.{room_at}
 use Rattle.miller_bits.specs.Views.{HasNet}
 use Rattle.miller_bits.proofs.Sums.{found}
-use Rattle.net_eval.specs.Room.{ReadsWithinEnvelope, FitsWire, FitsAtInput, ReadsFitBy, IsReady}
+use Rattle.net_eval.specs.Room.{ReadsWithinEnvelope, FitsWire, FitsAtInput, ReadsFitBy}
+use Rattle.net_eval.specs.Scenes.{Scene, IsReadyNet}
 use Rattle.net_eval.proofs.Contributions.{sound_wired}
 
 -- a window with room at every sink fits the wire to each
@@ -62,15 +63,21 @@ reads_fit d b W n s within = record { inputs = each (slice_get d.nets n) (s.nets
   each (Some net) sound inputs = λ k x h live.
       fits_at d within.top W b (get_or net.arcs k x) (slice_get d.nets (get_or net.arcs k x).from.0) s within.envelope within.accepted refl (sound.arcs k x h).sink (inputs k x h) live
 
--- each arc of a net is ready
-pub ready_arcs : (has : ℕ → Type 0) (d : Parts) (b : Answers) (W : Assignment) (n : ℕ) (net : Net) → IsSound d → slice_get d.nets n ≡ Some net → HoldsOfReads (HasNet has) d n → ReadsFitBy d b W n
-    → All (IsReady has d b W) net.arcs
-ready_arcs has d b W n net s there reads fit =
-    let sound = found (IsSoundNet d n) (slice_get d.nets n) net there (s.nets n) in
-    let looks = found (λ net. All (HoldsOfArcReads (HasNet has) d n net) net.arcs) (slice_get d.nets n) net there reads.arcs in
-    let inputs = found (λ net. All (FitsAtInput d b W) net.arcs) (slice_get d.nets n) net there fit.inputs in
-    λ k x h. record {
-      sound = sound.arcs k x h;
-      words = record { own = (looks k x h).from (get_or net.arcs k x).input; aggressors = (looks k x h).from_aggressors };
-      room = inputs k x h;
+-- a net whose input windows fit can be evaluated
+pub ready_net : (has : ℕ → Type 0) (s : Scene) (n : ℕ) (net : Net) → IsSound s.design → slice_get s.design.nets n ≡ Some net → HoldsOfReads (HasNet has) s.design n
+    → ReadsFitBy s.design s.answers s.windows n → IsReadyNet has s n net
+ready_net has s n net whole there reads fit =
+    let sound = found (IsSoundNet s.design n) (slice_get s.design.nets n) net there (whole.nets n) in
+    let looks = found (λ net. All (HoldsOfArcReads (HasNet has) s.design n net) net.arcs) (slice_get s.design.nets n) net there reads.arcs in
+    let inputs = found (λ net. All (FitsAtInput s.design s.answers s.windows) net.arcs) (slice_get s.design.nets n) net there fit.inputs in
+    record {
+      there = there;
+      sound = sound;
+      miller = whole.miller;
+      words = reads;
+      arcs = λ k x h. record {
+        sound = sound.arcs k x h;
+        words = record { own = (looks k x h).from (get_or net.arcs k x).input; aggressors = (looks k x h).from_aggressors };
+        room = inputs k x h;
+      };
     }

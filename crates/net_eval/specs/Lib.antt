@@ -1,4 +1,5 @@
 pub mod Room
+pub mod Scenes
 pub mod Arcs
 pub mod Closing
 pub mod ReadLists

@@ -6,12 +6,11 @@ use Rattle.xt_model.specs.declared.quad.Pair.{Pair}
 use Rattle.xt_model.specs.declared.net.TimingArc.{TimingArc}
 use Rattle.xt_model.specs.Quads.{IsLive, IsWithin}
 use Rattle.xt_model.specs.Parts.{Parts}
-use Rattle.xt_model.specs.Sound.{IsConstraint, IsSoundArc}
+use Rattle.xt_model.specs.Sound.{IsConstraint}
 use Rattle.xt_model.specs.Assign.{Assignment, assigned}
 use Rattle.xt_meaning.specs.Overlap.{Answers, all_overlap}
 use Rattle.xt_meaning.specs.Operator.{Range, wire_range}
 use Rattle.xt_meaning.specs.Envelope.{IsEnvelope, IsAccepted}
-use Rattle.miller_bits.specs.Views.{HasVictim}
 
 -- the windows at the inputs of the arcs of net number n lie within an envelope that keeps the limits
 pub record ReadsWithinEnvelope (d : Parts) (W : Assignment) (n : ℕ) : Type 0 where
@@ -42,10 +41,3 @@ pub record ReadsFitBy (d : Parts) (b : Answers) (W : Assignment) (n : ℕ) : Typ
 -- the same where everything overlaps
 abbrev pub ReadsFit : Parts → Assignment → ℕ → Type 0
 ReadsFit d W n = ReadsFitBy d all_overlap W n
-
--- an arc whose references lead somewhere, whose words are there, and whose input window, where it is live, fits
--- the wire before the arc
-pub record IsReady (has : ℕ → Type 0) (d : Parts) (b : Answers) (W : Assignment) (a : TimingArc) : Type 0 where
-  pub sound : IsSoundArc d a
-  pub words : HasVictim has d a.from.0 a.input
-  pub room : FitsAtInput d b W a

@@ -1,22 +1,19 @@
 //! What one timing arc contributes to the window of the net that it drives.
 
-ghost use Rattle.std.specs.Prelude.{◌≡◌, ◌≤ℤ◌};
-ghost use Rattle.std.specs.List.{slice_get};
-ghost use Rattle.xt_model.specs.Assign.{quads_of};
-ghost use Rattle.xt_model.specs.Quads.{IsInRange, same_edge};
-ghost use Rattle.xt_model.specs.Sound.{IsSoundArc, HasSink};
-ghost use Rattle.xt_meaning.specs.Operator.{Range, contribution_by, wire_range};
-ghost use Rattle.miller_bits.specs.Views.{HasVictim, answers_by};
-ghost use Rattle.net_eval.specs.Room.{FitsWire, IsReady};
-ghost use Rattle.net_eval.specs.Arcs.{with_arc_at};
+ghost use Rattle.std.specs.Prelude.{◌≡◌, ◌<◌, ◌≤ℤ◌, length};
+ghost use Rattle.xt_model.specs.Quads.{IsInRange, IsLive, same_edge};
+ghost use Rattle.xt_model.specs.Sound.{IsSoundArc};
+ghost use Rattle.xt_meaning.specs.Operator.{Range, contribution_by};
+ghost use Rattle.net_eval.specs.Arcs.{joined, wire_of};
+ghost use Rattle.net_eval.specs.Room.{FitsWire};
 
 use crate::ranges::{arrival, slew_behind, slew_range};
-use miller_bits::{Overlaps, wire_range_by};
+use miller_bits::Victim;
 use table_box::range;
-use xt_model::{Bounds, Design, Edge, Quad, TimingArc, window};
+use xt_model::{Bounds, Design, Edge, Quad, TimingArc};
 
 /// Whether two edges are the same.
-fn same_edge(a: Edge, b: Edge) -> bool
+pub(crate) fn same_edge(a: Edge, b: Edge) -> bool
     ensures { result ≡ same_edge a b }
 {
     match (a, b) {
@@ -25,32 +22,13 @@ fn same_edge(a: Edge, b: Edge) -> bool
     }
 }
 
-/// The least and the greatest delay of the wire before an arc, whose input window is `input`.
-fn wire_before<V: Bounds>(
-    design: &Design,
-    overlaps: Overlaps,
-    view: &V,
-    arc: &TimingArc,
-    input: &Quad,
-) -> (i64, i64)
-    requires sink { HasSink design.now arc.now.from.0 arc.now.sink }
-    requires words { HasVictim (V.has view.now) design.now arc.now.from.0 arc.now.input }
-    requires fits { let b = answers_by overlaps design.now (V.bound_of view.now) in
-        let from = slice_get design.now.nets arc.now.from.0 in
-        FitsWire input.now (wire_range design.now.miller b arc.now.from.0 arc.now.input arc.now.sink from) }
-    ensures { let b = answers_by overlaps design.now (V.bound_of view.now) in
-        let from = slice_get design.now.nets arc.now.from.0 in
-        record { least = result.0; most = result.1 }
-        ≡ wire_range design.now.miller b arc.now.from.0 arc.now.input arc.now.sink from }
+/// The least and the greatest delay of the wire before an arc, from the edge of a net to one of its sinks.
+fn wire_before<V: Bounds>(input: &Victim<V>, sink: usize) -> (i64, i64)
+    requires sink { sink < length input.now.net.sinks }
+    requires fits { FitsWire input.now.window (wire_of input.now sink) }
+    ensures { record { least = result.0; most = result.1 } ≡ wire_of input.now sink }
 {
-    let (least, most) = wire_range_by(
-        design,
-        overlaps,
-        view,
-        arc.from,
-        arc.input,
-        arc.sink as usize,
-    );
+    let (least, most) = input.wire_range(sink);
     (least as i64, most as i64)
 }
 
@@ -96,33 +74,27 @@ fn contribution(
     }
 }
 
-/// A window, joined with what an arc contributes to an edge of the net that it drives, whose range of loads
-/// is `load`. An arc contributes to its output edge, where its input can switch.
+/// A window, joined with what an arc contributes, where its input can switch, to a net whose range of loads is `load`.
 pub(crate) fn with_arc<V: Bounds>(
     design: &Design,
-    overlaps: Overlaps,
-    view: &V,
     arc: &TimingArc,
-    edge: Edge,
+    input: &Victim<V>,
     load: (i64, i64),
     quad: Quad,
 ) -> Quad
-    requires ready { let b = answers_by overlaps design.now (V.bound_of view.now) in
-        IsReady (V.has view.now) design.now b (quads_of (V.bound_of view.now)) arc.now }
+    requires sound { IsSoundArc design.now arc.now }
+    requires sink { arc.now.sink < length input.now.net.sinks }
+    requires fits { IsLive input.now.window → FitsWire input.now.window (wire_of input.now arc.now.sink) }
     requires load { load.0 ≤ℤ load.1 }
     requires range { IsInRange quad }
-    ensures value { let b = answers_by overlaps design.now (V.bound_of view.now) in
-        let behind : Range = record { least = load.0; most = load.1 } in
-        result ≡ with_arc_at design.now b (quads_of (V.bound_of view.now)) edge behind quad arc.now }
+    ensures value { let behind : Range = record { least = load.0; most = load.1 } in
+        result ≡ joined design.now behind quad arc.now input.now.window (wire_of input.now arc.now.sink) }
     ensures range { IsInRange result }
 {
-    if !same_edge(arc.output, edge) {
+    let window = input.window();
+    if !window.live() {
         return quad;
     }
-    let input = window(view, arc.from, arc.input);
-    if !input.live() {
-        return quad;
-    }
-    let wire = wire_before(design, overlaps, view, arc, &input);
-    quad.join(&contribution(design, arc, &input, wire, load))
+    let wire = wire_before(input, arc.sink as usize);
+    quad.join(&contribution(design, arc, &window, wire, load))
 }

@@ -7,7 +7,8 @@ ghost use Rattle.xt_meaning.specs.Operator.{step};
 ghost use Rattle.xt_meaning.specs.Barrier.{IsWithinEnvelope};
 ghost use Rattle.net_eval.specs.Closing.{IsSteadyAt};
 
-use crate::operator::eval;
+use crate::evaluation::Evaluation;
+use miller_bits::Overlaps;
 use xt_model::{Design, NetId, Pair, Windows};
 
 /// Whether the two windows of two pairs are the same.
@@ -24,11 +25,14 @@ fn is_steady(design: &Design, windows: &Windows, net: u32) -> bool
     requires net { net < length design.now.nets }
     ensures { IsTrue result ↔ IsSteadyAt design.now windows.now net }
 {
-    let _nets = design.nets();
-    same(
-        &eval(design, NetId(net), windows),
-        &windows.pair(net as usize),
-    )
+    let evaluation = Evaluation {
+        design,
+        overlaps: Overlaps::OfWindows,
+        view: windows,
+        number: NetId(net),
+        net: design.net(net as usize),
+    };
+    same(&evaluation.pair(), &windows.pair(net as usize))
 }
 
 /// Whether the operator gives the windows back at each net from number `from` to before number `to`.

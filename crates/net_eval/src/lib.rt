@@ -4,6 +4,7 @@
 
 mod arc;
 mod closing;
+mod evaluation;
 mod operator;
 mod ranges;
 mod reads;

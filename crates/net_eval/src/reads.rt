@@ -2,6 +2,7 @@
 
 ghost use Rattle.std.specs.Prelude.{◌≡◌, ℕ, ◌++◌, ◌<◌, ◌≤◌, length, Some, IfOk, OnOk};
 ghost use Rattle.std.specs.List.{slice_get};
+ghost use Rattle.xt_model.specs.Sound.{IsSoundNet};
 ghost use Rattle.xt_meaning.specs.Reads.{IsReadList};
 ghost use Rattle.net_eval.specs.ReadLists.{AreReadLists, HasGained, HasLooked, around, ids, reads_of};
 
@@ -78,10 +79,10 @@ fn push_input(numbers: &mut Vec<u32>, design: &Design, arc: &TimingArc) -> Resul
 /// and with repeats.
 fn looked_at(alloc: Global, design: &Design, own: u32, net: &Net) -> Result<Vec<u32>, AllocError>
     requires there { slice_get design.now.nets own ≡ Some net.now }
+    requires sound { IsSoundNet design.now own net.now }
     ensures { IfOk result (λ numbers. HasLooked design.now own net.now numbers.items (length net.now.arcs)) }
 {
     let mut numbers = Vec::new(alloc);
-    let _nets = design.nets();
     if net.arcs.len() == 0 {
         return Ok(numbers);
     }
@@ -103,12 +104,12 @@ fn nets_of(alloc: Global, numbers: &[u32]) -> Result<Vec<NetId>, AllocError>
     Ok(nets)
 }
 
-/// The read list of net number `own`, which is `net`.
-fn read_list(alloc: Global, design: &Design, own: u32, net: &Net) -> Result<Row<NetId>, AllocError>
-    requires there { slice_get design.now.nets own ≡ Some net.now }
+/// The read list of net number `own`.
+fn read_list(alloc: Global, design: &Design, own: u32) -> Result<Row<NetId>, AllocError>
+    requires { own < length design.now.nets }
     ensures { IfOk result (λ reads. IsReadList design.now own (ids reads)) }
 {
-    let mut numbers = looked_at(alloc, design, own, net)?;
+    let mut numbers = looked_at(alloc, design, own, design.net(own as usize))?;
     numbers.sort_unstable();
     numbers.dedup();
     let nets = nets_of(alloc, numbers.as_slice())?;
@@ -121,8 +122,8 @@ pub fn read_lists(alloc: Global, design: &Design) -> Result<ReadLists, AllocErro
     ensures { IfOk result (λ lists. AreReadLists design.now lists) }
 {
     let mut lists = Vec::new(alloc);
-    for (own, net) in design.nets().iter().enumerate() {
-        lists.push(read_list(alloc, design, own as u32, net)?)?;
+    for own in 0..design.nets().len() as u32 {
+        lists.push(read_list(alloc, design, own)?)?;
     }
     Ok(ReadLists {
         lists: Row::from_vec(lists),

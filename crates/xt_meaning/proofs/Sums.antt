@@ -36,7 +36,7 @@ products_most (m ∷ ms) (c ∷ cs) h p =
     omega (arith, ints, x, y)
 
 -- a net has no more couplings than all nets together may have
-few_couplings : (d : Parts) (n : ℕ) (net : Net) → IsSound d → slice_get d.nets n ≡ Some net → length net.couplings ≤ most_couplings
+pub few_couplings : (d : Parts) (n : ℕ) (net : Net) → IsSound d → slice_get d.nets n ≡ Some net → length net.couplings ≤ most_couplings
 few_couplings d n net s there =
     let inside = slice_get_within d.nets n net there in
     let is : get_or d.nets n net ≡ net = get_or_from_slice_get d.nets n net net there in
@@ -56,14 +56,14 @@ wires_have_room d n net s ms sound there has h =
     record { least = omega (arith, ints, low, p.base.least); most = omega (arith, ints, high, count, p.base.most) }
 
 -- ---- capacitors
-coupling_sum_natural : (ks : List Coupling) → All HasNaturalCap ks → IsNatural (coupling_sum ks)
+pub coupling_sum_natural : (ks : List Coupling) → All HasNaturalCap ks → IsNatural (coupling_sum ks)
 coupling_sum_natural [] h = omega (arith, ints)
 coupling_sum_natural (k ∷ ks) h =
     let x : pos 0 ≤ℤ k.cap = All-head HasNaturalCap k ks h in
     let y : pos 0 ≤ℤ coupling_sum ks = coupling_sum_natural ks (All-tail HasNaturalCap k ks h) in
     omega (arith, ints, x, y)
 
-scaled_cap : (m : ℕ) (c : ℤ) → IsFactor m → IsNatural c → (pos m *ℤ c) ≤ℤ (pos 12 *ℤ c)
+pub scaled_cap : (m : ℕ) (c : ℤ) → IsFactor m → IsNatural c → (pos m *ℤ c) ≤ℤ (pos 12 *ℤ c)
 scaled_cap m (pos n) h p = let k : m * n ≤ 12 * n = mul-le-mul_right n h in omega (arith, ints)
 scaled_cap m (negsuc n) h p = absurd (omega (arith, ints))
 
@@ -75,7 +75,7 @@ caps_most (m ∷ ms) (k ∷ ks) h p =
     let y = caps_most ms ks (All-tail IsFactor m ms h) (All-tail HasNaturalCap k ks p) in
     omega (arith, ints, x, y)
 
-natural_couplings : (d : Parts) (n : ℕ) (net : Net) → IsSoundNet d n net → All HasNaturalCap net.couplings
+pub natural_couplings : (d : Parts) (n : ℕ) (net : Net) → IsSoundNet d n net → All HasNaturalCap net.couplings
 natural_couplings d n net k = All-weaker (IsSoundCoupling d n) HasNaturalCap (λ c h. h.cap.least) net.couplings k.couplings
 
 pub caps_have_room : (d : Parts) (n : ℕ) (net : Net) (ms : List ℕ) → IsSound d → slice_get d.nets n ≡ Some net → All IsFactor ms

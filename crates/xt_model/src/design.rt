@@ -166,6 +166,7 @@ impl Design {
         requires { number < length self.now.nets }
         ensures there { slice_get self.now.nets number ≡ Some result.now }
         ensures sound { IsSoundNet self.now number result.now }
+        ensures whole { IsSound self.now }
     {
         &self.parts.nets.as_slice()[number]
     }

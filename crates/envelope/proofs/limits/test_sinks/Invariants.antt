@@ -5,4 +5,4 @@ use Rattle.envelope.specs.Firsts.{}
 use Rattle.envelope.proofs.limits.test_sinks.Given as goal
 
 abbrev pub invariant-loop-sink : goal.invariant-loop-sink
-invariant-loop-sink l = None ≡ first_over (all_sink_tests l.design.miller l.net.0 l.driven l.quad l.sink)
+invariant-loop-sink l = None ≡ first_over (all_sink_tests l.victim.miller l.victim.number l.victim.net l.quad l.sink)

@@ -1,11 +1,16 @@
+use Rattle.std.proofs.Common.{ap}
 use Rattle.net_eval.proofs.Steady.{windows_read, windows_within, steady_iff}
+use Rattle.net_eval.proofs.Rooms.{reads_fit, ready_net}
 use Rattle.net_eval.proofs.closing.is_steady.Goals as goal
 
-pub eval-requires-clause-words : goal.eval-requires-clause-words
-eval-requires-clause-words c = windows_read c.args.design.now c.args.windows.now c.args.net c.requires.count c.nets-nets.ensures.sound c.requires.net
-
-pub eval-requires-clause-room : goal.eval-requires-clause-room
-eval-requires-clause-room c = windows_within c.args.design.now c.args.windows.now c.args.net c.requires.within
+pub invariant_of-evaluation : goal.invariant_of-evaluation
+invariant_of-evaluation c =
+    let d = c.args.design.now in
+    let v = c.args.windows.now in
+    ready_net _ _ c.args.net c.net.result.now c.net.ensures.whole c.net.ensures.there (windows_read d v c.args.net c.requires.count c.net.ensures.whole c.requires.net)
+    (reads_fit d _ _ c.args.net c.net.ensures.whole (windows_within d v c.args.net c.requires.within))
 
 pub returns : goal.returns
-returns c = steady_iff c.args.design.now c.args.windows.now c.args.net c.pair.result c.eval.result _ c.nets-nets.ensures.sound c.pair.ensures.value c.eval.ensures.rise c.eval.ensures.fall c.same.ensures
+returns c =
+    steady_iff c.args.design.now c.args.windows.now c.args.net c.pair-2.result c.pair.result _ c.net.ensures.whole c.pair-2.ensures.value
+    (ap (λ p. p.rise) c.pair.ensures.value) (ap (λ p. p.fall) c.pair.ensures.value) c.same.ensures
