@@ -3,8 +3,8 @@
 
     compare.py PROGRAM [COUNT] [SEED]
 
-Each text goes through `PROGRAM solve FILE` and through the judge; standard output, standard
-error and status have to be the same. A text on which they differ is kept and named, and the
+Each text goes through `PROGRAM solve FILE`, some with `--miller`, and through the judge; standard
+output, standard error and status have to be the same. A text on which they differ is kept and named, and the
 status is then 1.
 """
 
@@ -106,6 +106,13 @@ def random_period(rng, unit):
         return None
     short = rng.randint(1, 2 * unit), rng.randint(1, 8 * unit), rng.randint(unit, 20 * unit)
     return rng.choice([*short, *short, 1, 999, rng.randint(1, 10**7), plain.MOST_ENTRY])
+
+
+def random_miller(rng):
+    """Three numbers of quarters that rise, often the classical ones."""
+    if rng.random() < 0.5:
+        return plain.CLASSICAL
+    return tuple(sorted(rng.randint(0, plain.MOST_QUARTERS) for _ in range(3)))
 
 
 def random_rivals(rng):
@@ -237,8 +244,11 @@ def with_bad_part(rng, design):
     nets, tables = list(design.nets), list(design.tables)
     n = rng.randrange(len(nets))
     net, size = nets[n], len(nets)
-    way = rng.randrange(12)
-    if way == 0 and net.arcs:
+    way = rng.randrange(13)
+    if way == 12:
+        numbers = rng.choice([(0, 4, 13), (5, 4, 8), (0, 9, 8), (-1, 4, 8), (13, 13, 13), (0, 256, 8)])
+        design = design._replace(miller=numbers)
+    elif way == 0 and net.arcs:
         sinks = net.sinks or [Sink("loop", 0, [0] * len(net.couplings))]
         fed = [m for m in range(size) if nets[m].arcs]
         m = rng.choice(fed)
@@ -340,6 +350,7 @@ def with_bad_text(rng, text):
 def random_text(rng):
     """The bytes of one random file."""
     design = random_rivals(rng) if rng.random() < 0.3 else random_design(rng)
+    design = design._replace(miller=random_miller(rng))
     way = rng.random()
     if way < 0.14:
         design = moved_to_time_limit(rng, design)
@@ -474,6 +485,8 @@ def edge_designs():
                    source("q", fall=Quad(fall, fall, 0, 0), sinks=[plain_sink])]
         victims = [Net("ab"[n], "w", 0, QUIET, [Coupling(3 - n, 1000)], [], [Arc(n, 0, n, n, 0, 1)]) for n in BOTH]
         yield f"coupled drivers, {fall} apart", Design(None, [slope, flat], feeders + victims)
+        for miller in ((0, 4, 12), (4, 4, 4), (2, 4, 6), (0, 0, 0), (12, 12, 12), (1, 3, 7), (0, 4, 13), (5, 4, 8), (0, 9, 8)):
+            yield f"coupled drivers, {fall} apart, by {miller}", Design(None, [slope, flat], feeders + victims, miller)
 
 
 def edge_texts():
@@ -492,6 +505,14 @@ def edge_texts():
                (b"0 0 0 0\n", b"0 0 0 -1\n"), (b"period none", b"period 0"), (b"period none", b"period"),
                (b"period none", b"period none none"), (b"rise 1000", b"fall 1000"), (b"net a", b"net \xe9"),
                (b"xtalk", b"\xef\xbb\xbfxtalk"), (b"net", b"Net")]
+    second = b"xtalk-design 2\ncounts 0 1 0\nperiod none\nmiller "
+    first = text[:text.index(b"net")]
+    changes += [(first, second + numbers + b"\n") for numbers in
+                (b"0 4 12", b"0 4 8", b"0 0 0", b"12 12 12", b"0 4 13", b"5 4 8", b"0 9 8", b"00 4 12", b"0 4", b"0 4 12 12",
+                 b"-0 4 12", b"+0 4 12", b"0 4  12", b"0,4,12", b"0 4 268", b"0 4 4294967308", b"", b"0 4 12 ")]
+    changes += [(b"design 1", b"design 3"), (b"design 1", b"design 02"), (b"design 1", b"design"),
+                (b"period none\n", b"period none\nmiller 0 4 8\n"), (b"period none\n", b"period none\nmiller 0 4 12\n"),
+                (first, b"xtalk-design 2\ncounts 0 1 0\nmiller 0 4 12\nperiod none\n")]
     for old, new in [(b"", b"")] + changes:
         yield f"one net with {new!r} for {old!r}", text.replace(old, new) if old else text
     yield "no bytes", b""
@@ -505,13 +526,24 @@ def random_words(rng, folder):
         out.write(plain.linked(Design(None, [], [source(rise=Quad(1, 2, 3, 4))])).encode())
     numbers = ["1", "64", "65", "0", "007", "-1", "+1", "", "1 ", "0x1", "1.0", "0" * 19 + "2", "0" * 20 + "2", "٣"]
     kinds = ["all", "checks", "check", "ALL", "", "-all", "noise"]
+    millers = ["0,4,8", "0,4,12", "4,04,004", "0,4,13", "4,0,8", "0,4", "0,4,8,9", ",4,8", "0,,8", "0,4,", "0, 4,8", "-1,4,8",
+               "0,+4,8", "0;4;8", "0" * 19 + "1,4,8", "0" * 20 + "1,4,8", "", "1,2,18446744073709551617", "4,4,4"]
     pieces = [[file]] * 8 + [[""], ["-"], ["--"], ["-w", "2"], ["--work=2"], ["--workers"], ["--kind"], ["all"]]
     pieces += [["--workers", n] for n in numbers] + [[f"--workers={n}"] for n in numbers]
     pieces += [["--kind", k] for k in kinds] + [[f"--kind={k}"] for k in kinds]
+    pieces += [["--miller", m] for m in millers] + [[f"--miller={m}"] for m in millers]
     for _ in range(400):
         parts = [rng.choice(pieces) for _ in range(rng.choice([0, 1, 1, 2, 2, 3]))]
         parts.insert(rng.randint(0, len(parts)), [file] if rng.random() < 0.8 else [])
         yield [rng.choice(["solve"] * 19 + ["sol"]), *(word for part in parts for word in part)]
+
+
+def random_option(rng):
+    """The option for other Miller numbers with its value, or none; and what it asks for."""
+    if rng.random() < 0.7:
+        return [], None
+    miller = random_miller(rng)
+    return ["--miller", ",".join(map(str, miller))], miller
 
 
 # ---- Comparing ------------------------------------------------------------------------
@@ -626,11 +658,12 @@ def main(words):
             file = os.path.join(folder, f"random-{seed}-{number}.xt")
         with open(file, "wb") as out:
             out.write(text)
-        verdict = plain.judge(text)
+        options, miller = random_option(random.Random(f"{seed} {what}"))
+        verdict = plain.judge(text, miller)
         if verdict.low is not None and what.startswith("random") and number % 10 == 0:
             laws(random.Random(number), verdict.design, verdict)
         note(counts, verdict)
-        hold(what, ["solve", file], plain.answer(file, verdict), file)
+        hold(what, ["solve", file, *options], plain.answer(file, verdict), file)
     print(f"{len(texts)} edges and {count} random texts with seed {seed}")
     for status, times in sorted(statuses.items()):
         print(f"status {status}: {times}")

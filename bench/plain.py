@@ -23,7 +23,8 @@ Coupling = namedtuple("Coupling", "to cap")
 Sink = namedtuple("Sink", "name base coefs")
 Arc = namedtuple("Arc", "source sink input output delay slew")
 Net = namedtuple("Net", "name kind load given couplings sinks arcs")
-Design = namedtuple("Design", "period tables nets miller", defaults=[(0, 4, 8)])
+CLASSICAL = (0, 4, 8)
+Design = namedtuple("Design", "period tables nets miller", defaults=[CLASSICAL])
 Verdict = namedtuple("Verdict", "design envelope passed low high")
 
 EDGES = ("rise", "fall")
@@ -36,6 +37,7 @@ MOST_BYTES, MOST_NAME, MOST_GRID, SMALL_BOX = 2**28, 2049, 64, 20_000
 MOST_NETS, MOST_TABLES, MOST_COUPLINGS = 2**18, 2**18, 2**20
 MOST_COEFS, MOST_ARCS, MOST_READS = 2**24, 2**22, 2**27
 MOST_TIME, MOST_SLEW, MOST_CAP, MOST_WIRE, MOST_ENTRY = 2**46, 2**40, 2**46, 2**102, 2**40
+MOST_QUARTERS = 12
 
 look_at_all_points = False
 
@@ -45,8 +47,10 @@ def line(*fields):
 
 def linked(design):
     """The text of a design: every design has exactly one."""
-    text = [line("xtalk-design", 1), line("counts", len(design.tables), len(design.nets), 0)]
+    version = 1 if design.miller == CLASSICAL else 2
+    text = [line("xtalk-design", version), line("counts", len(design.tables), len(design.nets), 0)]
     text.append(line("period", "none" if design.period is None else design.period))
+    text.extend(miller_lines(design))
     for table in design.tables:
         text.append(line("table", len(table.slews), len(table.loads)))
         text.append(line("slews", *table.slews))
@@ -65,6 +69,10 @@ def linked(design):
             edges = EDGES[arc.input], EDGES[arc.output]
             text.append(line("arc", arc.source, arc.sink, *edges, arc.delay, arc.slew))
     return "".join(text) + line("end")
+
+def miller_lines(design):
+    """The line of the Miller numbers, which the classical ones do not have."""
+    return [] if design.miller == CLASSICAL else [line("miller", *design.miller)]
 
 def guess(text):
     """The only design that the text can be of; ValueError or IndexError where none can be."""
@@ -87,9 +95,10 @@ def guess(text):
         tlo, thi, slo, shi = map(int, rest)
         return Quad(tlo, thi, slo, shi)
 
-    fields("xtalk-design")
+    (version,) = fields("xtalk-design")
     tables_count, nets_count, _ = numbers("counts")
     (period,) = fields("period")
+    low, mid, high = CLASSICAL if version == "1" else numbers("miller")
     tables, nets = [], []
     for _ in range(tables_count):
         row_count, _ = numbers("table")
@@ -111,7 +120,7 @@ def guess(text):
             ends = EDGES.index(before), EDGES.index(after)
             arcs.append(Arc(int(feeder), int(sink), *ends, int(delay), int(slew)))
         nets.append(Net(name, kind, int(load), given, couplings, sinks, arcs))
-    return Design(None if period == "none" else int(period), tables, nets)
+    return Design(None if period == "none" else int(period), tables, nets, (low, mid, high))
 
 def read_linked(data):
     """The design whose linked text these bytes are, or None where there is no such design."""
@@ -180,11 +189,17 @@ def levels(nets):
                 known.append(reader)
     return level if len(known) == len(nets) else None
 
+def sound_miller(numbers):
+    """Whether three numbers of quarters rise up to three whole capacitors."""
+    low, mid, high = numbers
+    return 0 <= low <= mid <= high <= MOST_QUARTERS
+
 def sound(design):
     """Whether the parts of a design fit together and none of them is more than is taken."""
     nets = design.nets
     return (
-        (design.period is None or 1 <= design.period <= MOST_ENTRY)
+        sound_miller(design.miller)
+        and (design.period is None or 1 <= design.period <= MOST_ENTRY)
         and len(design.tables) <= MOST_TABLES
         and len(nets) <= MOST_NETS
         and all(map(sound_table, design.tables))
@@ -410,6 +425,7 @@ def report(design, low, high, kind="all"):
     text.append(line("nets", len(nets), "couplings", entries, "pairs", pairs, "levels", depth,
                      "bound", (4 * pairs + 1) * depth))
     text.append(line("period", "none" if period is None else thousandths(period)))
+    text.extend(miller_lines(design))
     for n, net in enumerate(nets):
         for e in BOTH if kind == "all" else ():
             if live(low[n][e]):
@@ -424,11 +440,13 @@ def report(design, low, high, kind="all"):
         text.extend(guilty_lines(design, low, high))
     return "".join(text) + line("end")
 
-def judge(data):
-    """The verdict on the bytes of a file: the design and its windows, as far as one comes."""
+def judge(data, miller=None):
+    """The verdict on the bytes of a file: the design, by other Miller numbers where some are
+    given, and its windows, as far as one comes."""
     design = read_linked(data)
     if design is None:
         return Verdict(None, None, None, None, None)
+    design = design if miller is None else design._replace(miller=miller)
     top = envelope(design)
     passed = first_past_limit(design, top)
     if passed:
@@ -445,12 +463,13 @@ def answer(file, verdict, kind="all"):
     return 0, report(verdict.design, verdict.low, verdict.high, kind), ""
 
 def job(words):
-    """The file and the kind of report that a command line asks for, or None."""
+    """The file, the kind of report and the Miller numbers, if any, that a command line asks
+    for, or None."""
     files, said, rest = [], {}, list(words[1:])
     while rest:
         word = rest.pop(0)
         name, equals, value = word.partition("=")
-        if name not in ("--workers", "--kind"):
+        if name not in ("--workers", "--kind", "--miller"):
             files.append(word)
             continue
         value = value if equals else rest.pop(0) if rest else ""
@@ -458,10 +477,21 @@ def job(words):
             return None
         said[name] = value
     workers, kind = said.get("--workers", "1"), said.get("--kind", "all")
-    digits = 1 <= len(workers) <= 20 and all("0" <= letter <= "9" for letter in workers)
     if words[:1] != ["solve"] or len(files) != 1 or not plain_word(files[0]):
         return None
-    return (files[0], kind) if digits and 1 <= int(workers) <= 64 and kind in ("all", "checks") else None
+    if not is_number(workers) or not 1 <= int(workers) <= 64 or kind not in ("all", "checks"):
+        return None
+    if "--miller" not in said:
+        return files[0], kind, None
+    pieces = said["--miller"].split(",")
+    if len(pieces) != 3 or not all(map(is_number, pieces)):
+        return None
+    miller = tuple(map(int, pieces))
+    return (files[0], kind, miller) if sound_miller(miller) else None
+
+def is_number(text):
+    """Whether a text is one to twenty decimal digits."""
+    return 1 <= len(text) <= 20 and all("0" <= letter <= "9" for letter in text)
 
 def plain_word(word):
     """Whether a word can be a file or a value."""
@@ -472,7 +502,7 @@ def outcome(words):
     asked = job(words)
     if asked is None:
         return 2, "", "xtalk: bad command line\n"
-    name, kind = asked
+    name, kind, miller = asked
     try:
         with open(name, "rb") as file:
             data = file.read(MOST_BYTES + 1)
@@ -480,7 +510,7 @@ def outcome(words):
         return 6, "", f"read fault: {name}\n"
     if len(data) > MOST_BYTES:
         return 5, "", line("limit:", "file", name, MOST_BYTES + 1)
-    return answer(name, judge(data), kind)
+    return answer(name, judge(data, miller), kind)
 
 def selftest(times):
     """Compares what is computed by a short cut with what plain counting gives."""

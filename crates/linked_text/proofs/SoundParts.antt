@@ -102,5 +102,6 @@ sound_fit d h linkable = record {
   net_count = omega (arith, h.limits.nets);
   tables = h.tables;
   nets = nets_fit d h (few_sinks d h);
+  miller = h.miller;
   linkable = linkable;
 }

@@ -10,6 +10,7 @@ use Rattle.xt_model.specs.Quads.{bottom, IsLive}
 use Rattle.xt_model.specs.Names.{IsName}
 use Rattle.xt_model.specs.Tables.{IsTable}
 use Rattle.xt_model.specs.Sound.{LeavesGiven}
+use Rattle.xt_model.specs.Miller.{IsMiller}
 use Rattle.xt_model.specs.Parts.{Parts}
 use Rattle.linked_text.specs.Linked.{IsLinkable}
 
@@ -67,4 +68,5 @@ pub record Fits (d : Parts) : Type 0 where
   pub net_count : length d.nets < 2 ^ 32
   pub tables : All IsTable d.tables
   pub nets : All FitsNet d.nets
+  pub miller : IsMiller d.miller
   pub linkable : IsLinkable d

@@ -1,5 +1,5 @@
 -- The linked text of a design: every number of it in base units, one fact a line.
-use Rattle.std.specs.Prelude.{◌≡◌, ℕ, zero, suc, ℤ, Bool, ◌==◌, ◌&&◌, if◌then◌else◌, Option, Some, None}
+use Rattle.std.specs.Prelude.{◌≡◌, ℕ, zero, suc, ℤ, Bool, true, false, if◌then◌else◌, Option, Some, None}
 use Rattle.std.specs.Prelude.{List, [], ◌∷◌, ◌++◌, length, map, take, drop, codes}
 use Rattle.std.specs.Fmt.{decimal, signed_decimal}
 use Rattle.std.specs.List.{flat_map}
@@ -14,21 +14,20 @@ use Rattle.xt_model.specs.declared.net.Net.{Net}
 use Rattle.xt_model.specs.declared.check.CheckPoint.{CheckPoint}
 use Rattle.xt_model.specs.declared.check.CheckPoint.TheVariants.{Flop, Port}
 use Rattle.xt_model.specs.Quads.{is_live}
-use Rattle.xt_model.specs.Miller.{MillerNumbers, classical}
+use Rattle.xt_model.specs.Miller.{MillerNumbers}
+pub use Rattle.xt_model.specs.Miller.{is_classical}
 use Rattle.xt_model.specs.Parts.{Parts}
 use Rattle.xt_model.specs.Sound.{IsSound}
 use Rattle.xt_model.specs.Levels.{AreLevels}
 use Rattle.text_lines.specs.Lines.{Line, text_of, edge_word}
 
-abbrev pub is_classical : MillerNumbers → Bool
-is_classical m = m.low == 0 && (m.mid == 4 && m.high == 8)
-
 -- version 1 has the classical Miller numbers, version 2 all others
-abbrev pub version_field : MillerNumbers → List ℕ
-version_field m = if is_classical m then codes "1" else codes "2"
+abbrev pub version_word : Bool → List ℕ
+version_word true = codes "1"
+version_word false = codes "2"
 
 abbrev pub head_line : MillerNumbers → Line
-head_line m = codes "xtalk-design" ∷ version_field m ∷ []
+head_line m = codes "xtalk-design" ∷ version_word (is_classical m) ∷ []
 
 -- how many tables, nets and checks there are
 abbrev pub counts_line : Parts → Line
@@ -125,10 +124,9 @@ linked d =
     ∷ (miller_lines d.miller ++ (flat_map table_lines d.tables ++ (map net_line d.nets
     ++ (flat_map net_lines d.nets ++ (map check_line d.checks ++ ((codes "end" ∷ []) ∷ []))))))
 
--- what a linked text can say: it has no checks yet, and couplings count by the classical factors
+-- what is read as yet: a design without checks
 pub record IsLinkable (d : Parts) : Type 0 where
   pub no_checks : d.checks ≡ []
-  pub classical : d.miller ≡ classical
 
 -- no design whose arcs make no loop is spelled so
 abbrev pub IsOfNoDesign : List ℕ → Type 0

@@ -1,5 +1,5 @@
 -- Reading the lines of a linked text, from left to right.
-use Rattle.std.specs.Prelude.{ℕ, zero, suc, ◌+◌, ◌^◌, nat_le, ◌==◌, ℤ, Bool, true, false, ◌&&◌, if◌then◌else◌}
+use Rattle.std.specs.Prelude.{ℕ, zero, suc, ◌+◌, ◌^◌, nat_le, ◌==◌, ℤ, Bool, true, false, not, ◌&&◌, if◌then◌else◌}
 use Rattle.std.specs.Prelude.{List, [], ◌∷◌, ◌++◌, length, codes, Option, Some, None}
 use Rattle.std.specs.Str.{bytes_eq}
 use Rattle.xt_model.specs.declared.edge.Edge.{Edge}
@@ -12,8 +12,10 @@ use Rattle.xt_model.specs.declared.net.SinkPin.{SinkPin}
 use Rattle.xt_model.specs.declared.net.TimingArc.{TimingArc}
 use Rattle.xt_model.specs.declared.net.Net.{Net}
 use Rattle.xt_model.specs.Quads.{bottom, is_live}
-use Rattle.xt_model.specs.Parts.{Parts, classical_parts}
+use Rattle.xt_model.specs.Miller.{MillerNumbers, classical}
+use Rattle.xt_model.specs.Parts.{Parts}
 use Rattle.linked_text.specs.declared.head.NetHead.{NetHead}
+use Rattle.linked_text.specs.Linked.{is_classical}
 use Rattle.text_lines.specs.Steps.{◌>>=◌, or_else}
 use Rattle.linked_text.specs.Fields.{word_at, cut_at, number_at}
 use Rattle.linked_text.specs.Fields.{signed_of, signed_at, name_at, is_rising}
@@ -193,16 +195,42 @@ period_at bytes = do
   if bytes_eq field.0 (codes "none") then Some (None, field.1)
       else (signed_of (2 ^ 63) field.0 >>= λ t. Some (Some t, field.1))
 
+-- whether the version is that of the classical Miller numbers
+unfoldable pub version_at : List ℕ → Option (Bool × List ℕ)
+version_at bytes = do
+  rest ← word_at (codes "xtalk-design ") bytes
+  or_else (word_at (codes "1" ++ 10 ∷ []) rest >>= λ after. Some (true, after))
+      (word_at (codes "2" ++ 10 ∷ []) rest >>= λ after. Some (false, after))
+
+-- numbers that rise, up to three whole capacitors, and are not the classical ones
+abbrev pub is_other_miller : MillerNumbers → Bool
+is_other_miller m = nat_le m.low m.mid && (nat_le m.mid m.high && (nat_le m.high 12 && not (is_classical m)))
+
+-- the Miller numbers of a text of that version
+unfoldable pub miller_at : Bool → List ℕ → Option (MillerNumbers × List ℕ)
+miller_at true bytes = Some (classical, bytes)
+miller_at false bytes = do
+  rest ← word_at (codes "miller ") bytes
+  low ← number_at 32 rest
+  mid ← number_at 32 low.1
+  high ← number_at 10 mid.1
+  let m : MillerNumbers = record { low = low.0; mid = mid.0; high = high.0 } in
+      if is_other_miller m then Some (m, high.1) else None
+
 -- the parts of which all of the bytes are the text
 unfoldable pub parts_at : List ℕ → Option Parts
 parts_at bytes = do
-  start ← word_at (codes "xtalk-design 1" ++ 10 ∷ codes "counts ") bytes
+  version ← version_at bytes
+  start ← word_at (codes "counts ") version.1
   table_count ← number_at 32 start
   net_count ← number_at 32 table_count.1
   middle ← word_at (codes "0" ++ 10 ∷ codes "period ") net_count.1
   period ← period_at middle
-  tables ← many_at (λ after. table_at) table_count.0 period.1
+  miller ← miller_at version.0 period.1
+  tables ← many_at (λ after. table_at) table_count.0 miller.1
   heads ← many_at (λ after. head_at) net_count.0 tables.1
   nets ← each_at net_at heads.0 heads.1
   after ← word_at (codes "end" ++ 10 ∷ []) nets.1
-  if length after == 0 then Some (classical_parts period.0 tables.0 nets.0 []) else None
+  let d : Parts =
+      record { period = period.0; tables = tables.0; nets = nets.0; checks = []; miller = miller.0 } in
+      if length after == 0 then Some d else None

@@ -1,7 +1,7 @@
 use super::*;
 use std::alloc::{AllocError, Global};
 use std::test::*;
-use xt_model::{Code, Edge, Quad};
+use xt_model::{Code, Edge, Miller, Quad};
 
 const EMPTY: &[u8] = b"xtalk-design 1\n\
 counts 0 0 0\n\
@@ -96,7 +96,9 @@ sink a 5070602400912917605986812821504\n\
 end\n";
 
 /// Texts that differ from a linked text in one place each.
-const WRONG: [&[u8]; 10] = [
+const WRONG: [&[u8]; 12] = [
+    b"xtalk-design 2\ncounts 0 0 0\nperiod none\nend\n",
+    b"xtalk-design 2\ncounts 0 0 0\nperiod none\nmiller 0 4 8\nend\n",
     b"xtalk-design 1\ncounts 0 0 0\nperiod none\ndone\n",
     b"xtalk-design 1\ncounts 0 0 0\nperiod none\nend",
     b"xtalk-design 1\ncounts 0 0 0\nperiod none\nend\nend\n",
@@ -192,4 +194,58 @@ fn refuses_checks(rt: HostRuntime) {
             })
         )
     );
+}
+
+/// Whether a design that is read from a text is written as that text.
+fn is_written_again(alloc: Global, text: &[u8]) -> Result<bool, Fail> {
+    let design = read_linked(alloc, text)?;
+    let written = write_linked(alloc, &design)?;
+    Ok(written.as_slice() == text)
+}
+
+#[test]
+fn writes_what_was_read(rt: HostRuntime) -> Result<(), Fail> {
+    assert!(rt; is_written_again(rt.alloc(), EMPTY)?);
+    assert!(rt; is_written_again(rt.alloc(), ONE)?);
+    assert!(rt; is_written_again(rt.alloc(), CROSS)?);
+    assert!(rt; is_written_again(rt.alloc(), LOAD_PAIR)?);
+    assert!(rt; is_written_again(rt.alloc(), LARGEST)?);
+    assert!(rt; is_written_again(rt.alloc(), OTHER_MILLER)?);
+    Ok(())
+}
+
+#[test]
+fn writes_many_sources(rt: HostRuntime) -> Result<(), Fail> {
+    let many = many_sources(rt.alloc())?;
+    assert!(rt; is_written_again(rt.alloc(), &many)?);
+    Ok(())
+}
+
+/// A text of version 2, which has Miller numbers of its own.
+const OTHER_MILLER: &[u8] = b"xtalk-design 2\n\
+counts 0 0 0\n\
+period none\n\
+miller 0 4 12\n\
+end\n";
+
+/// The text of no nets with these Miller numbers.
+fn empty_with(alloc: Global, miller: Miller) -> Result<Vec<u8>, Fail> {
+    let design = read_linked(alloc, EMPTY)?.with_miller(miller);
+    Ok(write_linked(alloc, &design)?)
+}
+
+#[test]
+fn writes_miller_numbers(rt: HostRuntime) -> Result<(), Fail> {
+    let miller = Miller::new(0, 4, 12).ok_or("three that rise")?;
+    let text = empty_with(rt.alloc(), miller)?;
+    assert_eq!(rt; text.as_slice(), OTHER_MILLER);
+    Ok(())
+}
+
+#[test]
+fn reads_miller_numbers(rt: HostRuntime) -> Result<(), Fail> {
+    let design = read_linked(rt.alloc(), OTHER_MILLER)?;
+    let miller = design.miller();
+    assert_eq!(rt; (miller.low(), miller.mid(), miller.high()), (0, 4, 12));
+    Ok(())
 }

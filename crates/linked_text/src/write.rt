@@ -2,7 +2,7 @@
 
 ghost use Rattle.std.specs.Prelude.{◌≡◌, ◌++◌, OnOk, IfOk};
 ghost use Rattle.text_lines.specs.Lines.{line_text, text_of};
-ghost use Rattle.linked_text.specs.Linked.{head_line, counts_line, period_line, is_classical, linked, miller_lines};
+ghost use Rattle.linked_text.specs.Linked.{head_line, counts_line, period_line, linked, miller_lines};
 
 use crate::text::{push_number, push_word, write_each};
 use crate::write_check::CheckWriter;
@@ -11,20 +11,13 @@ use crate::write_table::TableWriter;
 use std::alloc::{AllocError, Global};
 use xt_model::{Design, Miller, NoMemory};
 
-/// Whether these are the factors that a text without a line of Miller numbers means.
-fn is_classical(miller: &Miller) -> bool
-    ensures { result ≡ is_classical miller.now }
-{
-    miller.low() == 0 && miller.mid() == 4 && miller.high() == 8
-}
-
 /// Appends the name and the version of the format.
 #[tactic(auto, unfolding(crate::specs::Writing::field))]
 fn push_head(out: &mut Vec<u8>, miller: &Miller) -> Result<(), AllocError>
     ensures { OnOk result (out.new.items ≡ out.old.items ++ line_text (head_line miller.now)) }
 {
     push_word(out, b"xtalk-design", b' ')?;
-    if is_classical(miller) {
+    if miller.is_classical() {
         return push_word(out, b"1", b'\n');
     }
     push_word(out, b"2", b'\n')
@@ -57,7 +50,7 @@ fn push_period(out: &mut Vec<u8>, design: &Design) -> Result<(), AllocError>
 fn push_miller(out: &mut Vec<u8>, miller: &Miller) -> Result<(), AllocError>
     ensures { OnOk result (out.new.items ≡ out.old.items ++ text_of (miller_lines miller.now)) }
 {
-    if is_classical(miller) {
+    if miller.is_classical() {
         return Ok(());
     }
     push_word(out, b"miller", b' ')?;

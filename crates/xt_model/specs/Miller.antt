@@ -1,5 +1,5 @@
 -- The factors by which a coupling capacitor counts, in quarters.
-use Rattle.std.specs.Prelude.{ℕ, ◌≤◌}
+use Rattle.std.specs.Prelude.{ℕ, ◌≤◌, ◌==◌, Bool, ◌&&◌}
 use Rattle.xt_model.specs.Limits.{most_factor}
 
 -- where the aggressor switches the same way at the same time, where it stands still, and where it switches
@@ -18,3 +18,7 @@ pub record IsMiller (m : MillerNumbers) : Type 0 where
 -- the classical factors 0, 1 and 2
 abbrev pub classical : MillerNumbers
 classical = record { low = 0; mid = 4; high = 8 }
+
+-- whether these are the classical factors
+abbrev pub is_classical : MillerNumbers → Bool
+is_classical m = m.low == 0 && (m.mid == 4 && m.high == 8)

@@ -89,7 +89,9 @@ impl Design {
 
     /// The same design with its couplings counted by other factors.
     pub fn with_miller(self, miller: Miller) -> Design
-        ensures { result ≡ record self { miller = miller } }
+        ensures value { result ≡ record self { miller = miller } }
+        ensures sound { IsSound result }
+        ensures levelled { AreLevelled result.nets }
     {
         let Design {
             parts,

@@ -24,7 +24,7 @@ impl Model for Miller {
 
 impl Miller {
     ghost use Rattle.std.specs.Prelude.{◌≡◌, MatchOption};
-    ghost use Rattle.xt_model.specs.Miller.{MillerNumbers, IsMiller, classical};
+    ghost use Rattle.xt_model.specs.Miller.{MillerNumbers, IsMiller, classical, is_classical};
 
     /// The three factors in quarters, or none where they fall or the last is above 12.
     pub fn new(low: u8, mid: u8, high: u8) -> Option<Miller>
@@ -49,6 +49,13 @@ impl Miller {
             mid: 4,
             high: 8,
         }
+    }
+
+    /// Whether these are the classical factors, which a text does not have to name.
+    pub fn is_classical(&self) -> bool
+        ensures { result ≡ is_classical self.now }
+    {
+        self.low == 0 && self.mid == 4 && self.high == 8
     }
 
     /// The factor where the aggressor switches the same way at the same time, in quarters.
