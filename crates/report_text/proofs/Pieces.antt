@@ -1,6 +1,7 @@
 -- The pieces of a report make up its text.
 use Rattle.std.proofs.Common.{◌≡◌, ℕ, ◌+◌, ◌<◌, ◌≤◌, Bool, true, false, List, [], ◌∷◌, ◌++◌, length, take, drop, get_or, Fits, w32, arith, map, codes, refl, sym, ap, ◌∙◌, append_assoc, Option, Some}
 use Rattle.std.specs.Prelude.{if◌then◌else◌, IsSome}
+use Rattle.std.specs.Fmt.{decimal}
 use Rattle.std.specs.List.{slice_get, filter, sum_by}
 use Rattle.std.proofs.lemmas.Grind.{flat_map-append}
 use Rattle.std.proofs.lemmas.List.Elements.{filter-append}
@@ -14,12 +15,13 @@ use Rattle.xt_model.specs.declared.net.NetId.{NetId}
 use Rattle.xt_model.specs.declared.net.Coupling.{Coupling}
 use Rattle.xt_model.specs.declared.net.Net.{Net}
 use Rattle.xt_model.specs.Quads.{is_live}
+use Rattle.xt_model.specs.Miller.{MillerNumbers, is_classical}
 use Rattle.xt_model.specs.Parts.{Parts}
 use Rattle.xt_model.specs.Sound.{IsSound}
 use Rattle.text_lines.specs.Lines.{Line, line_text, text_of, edge_word}
 use Rattle.report_text.specs.declared.guilt.Guilt.{Guilt}
 use Rattle.report_text.specs.Guilt.{is_guilty, entry_of, edge_entries, net_entries}
-use Rattle.report_text.specs.Report.{window_line, window_lines, is_unconstrained, unconstrained_lines, guilty_line, coupling_of, name_or_nothing}
+use Rattle.report_text.specs.Report.{window_line, window_lines, is_unconstrained, unconstrained_lines, guilty_line, coupling_of, miller_lines, name_or_nothing}
 use Rattle.report_text.specs.Fields.{field, quad_text}
 use Rattle.report_text.specs.Pieces.{windows_text, unconstrained_text, entry_text, guilty_text, edge_text}
 use Rattle.report_text.proofs.Lines.{turn, turns_end, some_within}
@@ -143,11 +145,15 @@ number_fits d n net ks i sound there same within =
     let this : f (get_or d.nets n net) ≡ f net = ap f (get_or_from_slice_get d.nets n net net there) in
     omega (arith, most, this, sound.limits.couplings, ap length same, within)
 
+-- the line of Miller numbers that are not the classical ones
+pub miller_line : (m : MillerNumbers) → is_classical m ≡ false → text_of (miller_lines m) ≡ codes "miller" ++ 32 ∷ (decimal m.low ++ 32 ∷ (decimal m.mid ++ 32 ∷ (decimal m.high ++ 10 ∷ [])))
+miller_line m other = rw other (simp append_assoc)
+
 -- all lines, piece by piece
-pub report_pieces : (o p q r s t u v : List ℕ) (title size clock : Line) (windows unconstrained guilty : List Line)
-    → p ≡ o ++ line_text title → q ≡ p ++ line_text size → r ≡ q ++ line_text clock → s ≡ r ++ text_of windows → t ≡ s ++ text_of unconstrained
+pub report_pieces : (o p q r m s t u v : List ℕ) (title size clock : Line) (miller windows unconstrained guilty : List Line)
+    → p ≡ o ++ line_text title → q ≡ p ++ line_text size → r ≡ q ++ line_text clock → m ≡ r ++ text_of miller → s ≡ m ++ text_of windows → t ≡ s ++ text_of unconstrained
     → u ≡ t ++ text_of guilty → v ≡ u ++ field (codes "end") 10
-    → v ≡ o ++ text_of (title ∷ size ∷ clock ∷ (windows ++ (unconstrained ++ (guilty ++ ((codes "end" ∷ []) ∷ [])))))
+    → v ≡ o ++ text_of (title ∷ size ∷ clock ∷ (miller ++ (windows ++ (unconstrained ++ (guilty ++ ((codes "end" ∷ []) ∷ []))))))
 unfolding field
-report_pieces o p q r s t u v title size clock windows unconstrained guilty e1 e2 e3 e4 e5 e6 e7 =
-    rw (e7, e6, e5, e4, e3, e2, e1) (simp (flat_map-append, append_assoc))
+report_pieces o p q r m s t u v title size clock miller windows unconstrained guilty e1 e2 e3 e4 e5 e6 e7 e8 =
+    rw (e8, e7, e6, e5, e4, e3, e2, e1) (simp (flat_map-append, append_assoc))

@@ -1,8 +1,10 @@
--- The reports of two small designs, written out by hand.
-use Rattle.std.specs.Prelude.{◌≡◌, refl, ℕ, false, List, [], ◌∷◌, ◌++◌, codes, pos}
+-- The reports of two small designs, one of them with other Miller numbers too, written out by hand.
+use Rattle.std.specs.Prelude.{◌≡◌, refl, ℕ, true, false, List, [], ◌∷◌, ◌++◌, codes, pos}
 use Rattle.std.specs.Fmt.{digits}
 use Rattle.std.specs.List.{flat_map}
-use Rattle.xt_model.proofs.WorkedDesigns.{cross, cross_windows, load_pair, pair_low, pair_high}
+use Rattle.xt_model.specs.declared.quad.Pair.{Pair}
+use Rattle.xt_model.specs.Parts.{Parts}
+use Rattle.xt_model.proofs.WorkedDesigns.{cross, cross_windows, load_pair, pair_low, pair_high, pair_windows, quad}
 use Rattle.xt_number.specs.Thousandths.{thousandths}
 use Rattle.text_lines.specs.Lines.{text_of}
 use Rattle.report_text.specs.Report.{report}
@@ -46,3 +48,39 @@ pair_report : text_of (report false (load_pair (pos 100)) 1 2 pair_low pair_high
     (codes "end") ∷ [])
 unfolding thousandths digits
 pair_report = refl
+
+-- the same pair, where a coupling counts three whole capacitors while its aggressor switches the other way: the load is
+-- then 3,000 aF and the delay 1,400 fs, in place of 1,000 aF and 1,000 fs
+abbrev thrice : Parts
+thrice = record (load_pair (pos 100)) { miller = record { low = 0; mid = 4; high = 12 } }
+
+abbrev thrice_high : List Pair
+thrice_high = pair_windows (pos 100) (quad (pos 1000) (pos 1400) (pos 0) (pos 0)) (quad (pos 1100) (pos 1500) (pos 0) (pos 0))
+
+thrice_report : text_of (report false thrice 1 2 pair_low thrice_high) ≡ lines (
+    (codes "xtalk 1") ∷
+    (codes "nets 4 couplings 2 pairs 1 levels 2 bound 10") ∷
+    (codes "period none") ∷
+    (codes "miller 0 4 12") ∷
+    (codes "net p rise least 0.000 0.000 0.000 0.000 greatest 0.000 0.000 0.000 0.000") ∷
+    (codes "net p fall quiet") ∷
+    (codes "net q rise quiet") ∷
+    (codes "net q fall least 0.100 0.100 0.000 0.000 greatest 0.100 0.100 0.000 0.000") ∷
+    (codes "net a rise least 1.000 1.000 0.000 0.000 greatest 1.000 1.400 0.000 0.000") ∷
+    (codes "net a fall quiet") ∷
+    (codes "net b rise quiet") ∷
+    (codes "net b fall least 1.100 1.100 0.000 0.000 greatest 1.100 1.500 0.000 0.000") ∷
+    (codes "guilty a rise b 1.000 fast no slow possible") ∷
+    (codes "guilty b fall a 1.000 fast no slow possible") ∷
+    (codes "end") ∷ [])
+unfolding thousandths digits
+thrice_report = refl
+
+thrice_checks : text_of (report true thrice 1 2 pair_low thrice_high) ≡ lines (
+    (codes "xtalk 1") ∷
+    (codes "nets 4 couplings 2 pairs 1 levels 2 bound 10") ∷
+    (codes "period none") ∷
+    (codes "miller 0 4 12") ∷
+    (codes "end") ∷ [])
+unfolding thousandths digits
+thrice_checks = refl

@@ -12,6 +12,7 @@ use Rattle.xt_model.specs.declared.quad.Pair.{Pair}
 use Rattle.xt_model.specs.declared.net.Coupling.{Coupling}
 use Rattle.xt_model.specs.declared.net.Net.{Net}
 use Rattle.xt_model.specs.Quads.{is_live}
+use Rattle.xt_model.specs.Miller.{MillerNumbers, is_classical}
 use Rattle.xt_model.specs.Parts.{Parts}
 use Rattle.xt_model.specs.Levels.{IsDepth, IsPairCount, bound_of}
 use Rattle.xt_model.specs.Assign.{assigned}
@@ -40,6 +41,11 @@ period_word (Some t) = thousandths t
 
 abbrev pub clock_line : Parts → Line
 clock_line d = codes "period" ∷ period_word d.period ∷ []
+
+-- the Miller numbers in quarters; the classical ones have no line
+abbrev pub miller_lines : MillerNumbers → List Line
+miller_lines m =
+    if is_classical m then [] else (codes "miller" ∷ decimal m.low ∷ decimal m.mid ∷ decimal m.high ∷ []) ∷ []
 
 abbrev pub quad_fields : Quad → Line
 quad_fields q = thousandths q.tlo ∷ thousandths q.thi ∷ thousandths q.slo ∷ thousandths q.shi ∷ []
@@ -104,9 +110,10 @@ unless_checks checks lines = if checks then [] else lines
 abbrev pub report : Bool → Parts → ℕ → ℕ → List Pair → List Pair → List Line
 report checks d pairs depth low high =
     title_line ∷ size_line d pairs depth ∷ clock_line d
-    ∷ (unless_checks checks (window_lines low high 0 d.nets)
+    ∷ (miller_lines d.miller
+    ++ (unless_checks checks (window_lines low high 0 d.nets)
     ++ (unconstrained_lines d.nets
-    ++ (unless_checks checks (map (guilty_line d) (guilty d low high)) ++ ((codes "end" ∷ []) ∷ []))))
+    ++ (unless_checks checks (map (guilty_line d) (guilty d low high)) ++ ((codes "end" ∷ []) ∷ [])))))
 
 -- the text is the report of the design's least and greatest fixpoint, whole or of the checks alone
 pub record IsReport (checks : Bool) (d : Parts) (text : List ℕ) : Type 0 where

@@ -8,7 +8,7 @@ ghost use Rattle.report_text.specs.Kinds.{of_checks};
 use crate::fields::push_word;
 use crate::guilty::push_guilty;
 use crate::kind::ReportKind;
-use crate::size::{push_clock, push_size, push_title};
+use crate::size::{push_clock, push_miller, push_size, push_title};
 use crate::unconstrained::push_unconstrained;
 use crate::windows::push_windows;
 use std::alloc::{AllocError, Global};
@@ -73,6 +73,7 @@ fn push_report(
     push_title(out)?;
     push_size(out, design, pairs, levels)?;
     push_clock(out, design)?;
+    push_miller(out, &design.miller())?;
     push_windows_of(out, kind, design, low, high)?;
     push_unconstrained(out, design.nets())?;
     push_guilty_of(out, kind, design, low, high)?;
