@@ -1,12 +1,13 @@
 -- Where the contents of the files are known, the words and the files mean one outcome.
 use Rattle.std.proofs.Common.{◌≡◌, ◌⊎◌, ℕ, ◌<◌, ◌≤◌, List, length, Option, Some, None, IfSome, refl, sym, ◌∙◌, subst, inl, inr, arith, true≢false}
 use Rattle.std.specs.Prelude.{IsSome, MatchOption}
+use Rattle.xt_model.specs.Miller.{IsMiller}
 use Rattle.xt_model.specs.Parts.{Parts}
 use Rattle.xt_model.specs.Sound.{IsSound}
 use Rattle.linked_text.proofs.Refusals.{texts_differ}
 use Rattle.report_text.specs.declared.kind.ReportKind.{ReportKind}
 use Rattle.xtalk_top.specs.Words.{Text, job_of}
-use Rattle.xtalk_top.specs.Outcome.{Contents, Outcome, prints, refuses, unread, FileMeans, LinkedMeans, DesignMeans, IsDesignText, most_bytes}
+use Rattle.xtalk_top.specs.Outcome.{Contents, Outcome, prints, refuses, unread, FileMeans, LinkedMeans, DesignMeans, IsDesignText, counted_by, most_bytes}
 use Rattle.xtalk_top.specs.Solve.{SolveMeans}
 use Rattle.xtalk_top.specs.Call.{JobMeans, Means, AreKnown, IsStop, status_of}
 use Rattle.xtalk_top.specs.declared.words.Job.{Job}
@@ -17,6 +18,7 @@ use Rattle.xtalk_top.specs.declared.refusal.Refusal.TheVariants.{Words}
 use Rattle.xtalk_top.specs.declared.refusal.Stop.{Stop}
 use Rattle.xtalk_top.specs.declared.refusal.Stop.TheVariants.{Refused, Unread, NoMemory}
 use Rattle.xtalk_top.specs.declared.refusal.Failure.TheVariants.{NoText}
+use Rattle.xtalk_top.proofs.Given.{HasRising, counted_sound, job_rises}
 use Rattle.xtalk_top.proofs.Within.{within_or_passed}
 
 -- both print, or both refuse with one status; a file that cannot be read stands beside any outcome
@@ -81,18 +83,18 @@ one_of_file file content Leads known one o p (inr (inr a)) (inr (inl b)) = absur
 one_of_file file content Leads known one o p (inr (inr a)) (inr (inr b)) =
     one a.0 o p a.3 (subst (λ bytes. Leads bytes p) (one_content (content file) a.0 b.0 known a.1 b.1) b.3)
 
-pub one_of_solve : (job : SolveJob) (content : Contents) → ((f : Text) → SolveMeans job content (unread f) → IsSome (content f)) → LeavesOne (SolveMeans job content)
-one_of_solve job content known =
-    one_of_file job.file content (λ bytes o. LinkedMeans job.file bytes (λ d. DesignMeans job.kind d o) o) (known job.file (inl refl)) (λ bytes.
-    one_of_linked job.file bytes (λ d. DesignMeans job.kind d) (λ d t. one_of_design job.kind d t.sound))
+pub one_of_solve : (job : SolveJob) (content : Contents) → IfSome job.miller IsMiller → ((f : Text) → SolveMeans job content (unread f) → IsSome (content f)) → LeavesOne (SolveMeans job content)
+one_of_solve job content rising known =
+    one_of_file job.file content (λ bytes o. LinkedMeans job.file bytes (λ d. DesignMeans job.kind (counted_by job.miller d) o) o) (known job.file (inl refl)) (λ bytes.
+    one_of_linked job.file bytes (λ d. DesignMeans job.kind (counted_by job.miller d)) (λ d t. one_of_design job.kind (counted_by job.miller d) (counted_sound job.miller d rising t.sound)))
 
 pub one_outcome : (words : List Text) (content : Contents) → AreKnown words content → LeavesOne (Means words content)
-one_outcome words content known = go (job_of words) known
+one_outcome words content known = go (job_of words) (job_rises words) known
   where
-    go : (j : Option Job) → ((f : Text) → MatchOption j (unread f ≡ refuses Words) (λ job. JobMeans job content (unread f)) → IsSome (content f))
+    go : (j : Option Job) → IfSome j HasRising → ((f : Text) → MatchOption j (unread f ≡ refuses Words) (λ job. JobMeans job content (unread f)) → IsSome (content f))
         → LeavesOne (λ o. MatchOption j (o ≡ refuses Words) (λ job. JobMeans job content o))
-    go None known o p a b = agree_as o p _ _ a b refl
-    go (Some (Solve job)) known o p a b = one_of_solve job content known o p a b
+    go None rising known o p a b = agree_as o p _ _ a b refl
+    go (Some (Solve job)) rising known o p a b = one_of_solve job content rising known o p a b
 
 -- ---- the status of a call without a text
 

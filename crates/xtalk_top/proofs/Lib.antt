@@ -11,4 +11,5 @@ pub mod Builds
 pub mod Cuts
 pub mod Digits
 pub mod Accepted
-pub mod Jobs
+pub mod Given
+mod Jobs

@@ -1,10 +1,11 @@
 -- What a call comes to, and the steps that its commands share: a file, a linked text, a design.
-use Rattle.std.specs.Prelude.{◌≡◌, ℕ, ◌<◌, ◌≤◌, ◌⊎◌, List, length, Option, Some, IfSome}
+use Rattle.std.specs.Prelude.{◌≡◌, ℕ, ◌<◌, ◌≤◌, ◌⊎◌, List, length, Option, Some, None, IfSome}
 use Rattle.xt_model.specs.declared.quad.Pair.{Pair}
 use Rattle.xt_model.specs.declared.code.Code.TheVariants.{X9}
 use Rattle.xt_model.specs.declared.net.Net.{Net}
 use Rattle.std.specs.List.{slice_get}
 use Rattle.xt_model.specs.Assign.{assigned}
+use Rattle.xt_model.specs.Miller.{MillerNumbers}
 use Rattle.xt_model.specs.Parts.{Parts}
 use Rattle.xt_model.specs.Sound.{IsSound}
 use Rattle.xt_model.specs.Levels.{AreLevels}
@@ -54,7 +55,7 @@ FileMeans file content Leads outcome =
 -- ---- a linked text
 
 -- the bytes are the linked text of this design, which is sound and has levels, and which is taken as yet: one without
--- checks, whose couplings count by the classical factors
+-- checks
 pub record IsDesignText (bytes : Text) (d : Parts) : Type 0 where
   pub levels : List ℕ
   pub sound : IsSound d
@@ -70,6 +71,11 @@ LinkedMeans file bytes Leads outcome =
     ⊎ ((d : Parts) × IsDesignText bytes d × Leads d)
 
 -- ---- a design
+
+-- a design whose couplings count by these Miller numbers, where there are any, in place of its own
+abbrev pub counted_by : Option MillerNumbers → Parts → Parts
+counted_by None d = d
+counted_by (Some m) d = record d { miller = m }
 
 -- in the envelope, where everything overlaps, this is the first limit that is passed
 pub record IsPassed (d : Parts) (passed : PassedLimit) : Type 0 where

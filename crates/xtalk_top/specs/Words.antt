@@ -1,12 +1,15 @@
 -- The commands, what may stand behind the word of each, and the job that the words ask for.
-use Rattle.std.specs.Prelude.{ℕ, false, if◌then◌else◌, List, [], ◌∷◌, codes}
+use Rattle.std.specs.Prelude.{ℕ, nat_le, false, ◌&&◌, if◌then◌else◌, List, [], ◌∷◌, codes}
 use Rattle.std.specs.Prelude.{Option, Some, None, option_and_then, unwrap_or}
 use Rattle.std.specs.Str.{bytes_eq}
+use Rattle.xt_model.specs.Limits.{most_factor}
+use Rattle.xt_model.specs.Miller.{MillerNumbers}
 use Rattle.report_text.specs.declared.kind.ReportKind.{ReportKind}
 use Rattle.report_text.specs.declared.kind.ReportKind.TheVariants.{All, Checks}
 pub use Rattle.xtalk_top.specs.Forms.{bytes_of}
 pub use Rattle.xtalk_top.specs.Grammar.{Text}
-use Rattle.xtalk_top.specs.Grammar.{CommandForm, OptionForm, given_of, number, number_of, one_of, value_of, ◌>>=◌}
+use Rattle.xtalk_top.specs.Grammar.{CommandForm, OptionForm, given_of, number, number_of, one_of, rising_three}
+use Rattle.xtalk_top.specs.Grammar.{three_of, value_of, ◌>>=◌}
 use Rattle.xtalk_top.specs.declared.words.CommandName.{CommandName}
 use Rattle.xtalk_top.specs.declared.words.CommandName.TheVariants as command
 use Rattle.xtalk_top.specs.declared.words.SolveJob.{SolveJob}
@@ -23,9 +26,13 @@ workers = record { name = codes "workers"; is_required = false; value = number 1
 abbrev pub kind : OptionForm
 kind = record { name = codes "kind"; is_required = false; value = one_of (codes "all" ∷ codes "checks" ∷ []) }
 
--- `solve FILE [--workers N] [--kind all|checks]`
+-- `--miller L,M,H`, three numbers of quarters
+abbrev pub miller : OptionForm
+miller = record { name = codes "miller"; is_required = false; value = rising_three most_factor }
+
+-- `solve FILE [--workers N] [--kind all|checks] [--miller L,M,H]`
 abbrev pub solve_form : CommandForm
-solve_form = record { positionals = codes "file" ∷ []; options = workers ∷ kind ∷ [] }
+solve_form = record { positionals = codes "file" ∷ []; options = workers ∷ kind ∷ miller ∷ [] }
 
 -- the command of this name
 abbrev pub command_named : Text → Option CommandName
@@ -50,12 +57,23 @@ abbrev pub kind_or_all : Option Text → ReportKind
 kind_or_all None = All
 kind_or_all (Some text) = if bytes_eq text (codes "checks") then Checks else All
 
--- a linked text to solve, by one worker and with the whole report where nothing else is given
+-- the Miller numbers that three numbers are: they rise up to three whole capacitors
+abbrev pub miller_of : ℕ × ℕ × ℕ → Option MillerNumbers
+miller_of t =
+    if nat_le t.0 t.1 && (nat_le t.1 t.2 && nat_le t.2 most_factor) then
+    Some (record { low = t.0; mid = t.1; high = t.2 }) else None
+
+-- the Miller numbers that are given, if any are
+abbrev pub miller_or_none : Option Text → Option MillerNumbers
+miller_or_none text = text >>= three_of >>= miller_of
+
+-- a linked text to solve, by one worker, with the whole report and by its own Miller numbers where nothing else is given
 abbrev pub solve_job : (Text → Option Text) → SolveJob
 solve_job given = record {
   file = text_or_empty (given (codes "file"));
   workers = number_or_one (given (codes "workers"));
   kind = kind_or_all (given (codes "kind"));
+  miller = miller_or_none (given (codes "miller"));
 }
 
 abbrev pub job_for : CommandName → (Text → Option Text) → Job

@@ -89,7 +89,8 @@ fn cut(text: &str) -> Option<(&str, &str)>
     text.split_once(',')
 }
 
-fn three_numbers(text: &str) -> Option<(u64, u64, u64)>
+/// The three numbers that are joined by commas.
+pub fn three_numbers(text: &str) -> Option<(u64, u64, u64)>
     ensures { result ≡ Grammar.three_of text.now }
 {
     let (low, rest) = cut(text)?;

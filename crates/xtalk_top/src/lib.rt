@@ -1,6 +1,7 @@
 //! The top call: from the words of the command line and the bytes of the files to the bytes of the report.
 #![tactic(auto)]
 
+mod counted;
 mod design_report;
 mod file_name;
 mod fixpoints;
@@ -20,8 +21,8 @@ pub use words::{Job, SolveJob, WordsFault, parse_words};
 #[cfg(test)]
 mod grammar_tests;
 #[cfg(test)]
-mod outside_tests;
+mod miller_tests;
 #[cfg(test)]
-mod parts_tests;
+mod outside_tests;
 #[cfg(test)]
 mod tests;

@@ -7,6 +7,7 @@ ghost use Rattle.xtalk_top.specs.Call.{HasFault, IsStop, status_of};
 ghost use Rattle.xtalk_top.specs.declared.refusal.Failure.TheVariants.{NoText};
 ghost use Rattle.xtalk_top.specs.Solve.{SolveMeans};
 
+use crate::counted::counted_by;
 use crate::design_report::report;
 use crate::input::{read_design, read_file};
 use crate::refusal::Stop;
@@ -14,7 +15,7 @@ use crate::words::SolveJob;
 use std::alloc::Global;
 use xt_io::Files;
 
-/// The report of the design whose linked text the job's file holds.
+/// The report of the design whose linked text the job's file holds, by the job's Miller numbers where it has any.
 pub fn solve<F: Files>(alloc: Global, files: &mut F, job: SolveJob) -> Result<Vec<u8>, Stop>
     ensures ok { IfOk result (λ text. SolveMeans job (F.content files.old) (prints text.items)) }
     ensures stop { IfErr result (IsStop (SolveMeans job (F.content files.old))
@@ -27,8 +28,10 @@ pub fn solve<F: Files>(alloc: Global, files: &mut F, job: SolveJob) -> Result<Ve
         file,
         workers: _,
         kind,
+        miller,
     } = job;
     let (file, bytes) = read_file(alloc, files, file)?;
     let design = read_design(alloc, file, &bytes)?;
+    let design = counted_by(design, miller);
     report(alloc, &design, kind)
 }

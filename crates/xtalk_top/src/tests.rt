@@ -358,16 +358,16 @@ const DIFFER_REPORT: &[u8] = b"\
 
 /// The status of a call, and what stands on the output and on the error stream after it.
 #[derive(Drop)]
-struct Ended {
-    status: u8,
-    out: Vec<u8>,
-    err: Vec<u8>,
+pub struct Ended {
+    pub status: u8,
+    pub out: Vec<u8>,
+    pub err: Vec<u8>,
 }
 
 /// What goes wrong outside: the numbers of the calls on the files and on the output that fail, and the
 /// most bytes that the output takes at a time.
 #[derive(Drop)]
-struct Outside {
+pub struct Outside {
     files: Vec<u64>,
     out: Vec<u64>,
     most: usize,
@@ -383,7 +383,7 @@ fn strings(alloc: Global, words: &[&str]) -> Result<Vec<String>, AllocError> {
 }
 
 /// Runs the words where `one.xt` has this text.
-fn run<R: Threads + Sync>(
+pub fn run<R: Threads + Sync>(
     rt: &R,
     alloc: Global,
     words: &[&str],
@@ -407,7 +407,7 @@ fn run<R: Threads + Sync>(
     })
 }
 
-fn calm(alloc: Global) -> Outside {
+pub fn calm(alloc: Global) -> Outside {
     Outside {
         files: Vec::new(alloc),
         out: Vec::new(alloc),

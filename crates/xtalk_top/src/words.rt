@@ -8,10 +8,11 @@ ghost use Rattle.xtalk_top.specs.Words.{bytes_of, job_of};
 
 use crate::file_name::FileName;
 pub use crate::grammar::WordsFault;
-use crate::grammar::{CommandRule, OptionRule, ValueRule, number, read};
+use crate::grammar::{CommandRule, OptionRule, ValueRule, number, read, three_numbers};
 use clap::ArgMatches;
 use report_text::ReportKind;
 use std::alloc::{AllocError, Global};
+use xt_model::Miller;
 
 /// What the words ask for.
 #[derive(Debug, Drop)]
@@ -20,12 +21,13 @@ pub enum Job {
     Solve(SolveJob),
 }
 
-/// A linked text to solve: by how many workers, and which report of it.
+/// A linked text to solve: by how many workers, which report of it, and by which Miller numbers in place of its own.
 #[derive(Debug, Drop)]
 pub struct SolveJob {
     pub file: FileName,
     pub workers: u32,
     pub kind: ReportKind,
+    pub miller: Option<Miller>,
 }
 
 /// The command that the first word names.
@@ -50,9 +52,15 @@ const KIND: OptionRule = OptionRule {
     },
 };
 
+const MILLER: OptionRule = OptionRule {
+    name: "miller",
+    is_required: false,
+    value: ValueRule::RisingThree { most: 12 },
+};
+
 const SOLVE: CommandRule = CommandRule {
     positionals: &["file"],
-    options: &[WORKERS, KIND],
+    options: &[WORKERS, KIND, MILLER],
 };
 
 // The command of this name.
@@ -96,6 +104,24 @@ fn kind_or_all(text: Option<&str>) -> ReportKind
     }
 }
 
+// The Miller numbers that these are, in quarters.
+fn miller_of(low: u64, mid: u64, high: u64) -> Option<Miller>
+    ensures { result ≡ Words.miller_of (low, mid, high) }
+{
+    if low > mid || mid > high || high > 12 {
+        return None;
+    }
+    Miller::new(low as u8, mid as u8, high as u8)
+}
+
+// The Miller numbers that are given, if any are.
+fn miller_or_none(text: Option<&str>) -> Option<Miller>
+    ensures { result ≡ Words.miller_or_none (option_map (λ t. t.now) text.entry) }
+{
+    let (low, mid, high) = three_numbers(text?)?;
+    miller_of(low, mid, high)
+}
+
 fn file_name(alloc: Global, text: Option<&str>) -> Result<FileName, AllocError>
     ensures { IfOk result (λ name. name ≡ Words.text_or_empty (option_map (λ t. t.now) text.entry)) }
 {
@@ -111,6 +137,7 @@ fn solve_job(alloc: Global, matches: &ArgMatches) -> Result<SolveJob, AllocError
         file: file_name(alloc, matches.get_str("file"))?,
         workers: number_or_one(matches.get_str("workers")),
         kind: kind_or_all(matches.get_str("kind")),
+        miller: miller_or_none(matches.get_str("miller")),
     })
 }
 

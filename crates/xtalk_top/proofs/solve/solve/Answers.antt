@@ -1,6 +1,8 @@
-use Rattle.std.proofs.lemmas.Result.{err_from_is_err_and}
-use Rattle.xtalk_top.specs.Outcome.{LinkedMeans, DesignMeans}
+use Rattle.std.proofs.lemmas.Result.{err_from_is_err_and, IfErr-weaker, IfOk-weaker}
+use Rattle.xtalk_top.specs.Outcome.{LinkedMeans, DesignMeans, counted_by, prints}
 use Rattle.xtalk_top.specs.Solve.{SolveMeans}
+use Rattle.xtalk_top.specs.Call.{HasFault}
+use Rattle.xtalk_top.proofs.Given.{job_leads}
 use Rattle.xtalk_top.proofs.Lifts.{lift_stop, file_leads, linked_stops}
 use Rattle.xtalk_top.proofs.solve.solve.Goals as goal
 
@@ -11,7 +13,24 @@ returns-in_err-design-clause-stop g c =
     let content = g.F.Files.content c.args.files.now in
     let failed = err_from_is_err_and c.from_residual-in_err-design.result c.from_residual-in_err-design.ensures.1 in
     rw failed.1 (rw failed.2 (lift_stop (LinkedMeans file bytes (λ _. ⊥)) (SolveMeans c.args.job content) (λ _. ⊥) _ c.in_err-design.field-0.0
-    (λ o h. file_leads file content (λ b. LinkedMeans file b (λ d. DesignMeans c.args.job.kind d o) o) o bytes c.in_ok-file.ensures.whole c.in_ok-file.ensures.fits
-    (linked_stops file bytes (λ d. DesignMeans c.args.job.kind d o) o h))
+    (λ o h. file_leads file content (λ b. LinkedMeans file b (λ d. DesignMeans c.args.job.kind (counted_by c.args.job.miller d) o) o) o bytes c.in_ok-file.ensures.whole c.in_ok-file.ensures.fits
+    (linked_stops file bytes (λ d. DesignMeans c.args.job.kind (counted_by c.args.job.miller d) o) o h))
     (λ f h. absurd h)
     (rw (c.deref.ensures.value, c.in_ok-file.ensures.name) at c.in_err-design.ensures.stop)))
+
+pub returns-clause-ok : goal.returns-clause-ok
+returns-clause-ok g c =
+    let text = rw c.deref.ensures.value at c.in_ok-design.ensures.ok in
+    IfOk-weaker c.report.result _ _ (λ report h.
+    job_leads c.args.job (g.F.Files.content c.args.files.now) c.in_ok-file.bytes.items c.in_ok-design.design c.counted_by-design.result (prints report.items)
+    c.in_ok-file.ensures.whole c.in_ok-file.ensures.fits text c.counted_by-design.ensures.value h) c.report.ensures.ok
+
+pub returns-clause-stop : goal.returns-clause-stop
+returns-clause-stop g c =
+    let text = rw c.deref.ensures.value at c.in_ok-design.ensures.ok in
+    let content = g.F.Files.content c.args.files.now in
+    IfErr-weaker c.report.result _ _ (λ stop h.
+    lift_stop (DesignMeans c.args.job.kind c.counted_by-design.result) (SolveMeans c.args.job content) (λ _. ⊥)
+    (HasFault (g.F.Files.faults c.args.files.now) (g.F.Files.faults c.read_file.new.files)) stop
+    (λ o m. job_leads c.args.job content c.in_ok-file.bytes.items c.in_ok-design.design c.counted_by-design.result o c.in_ok-file.ensures.whole c.in_ok-file.ensures.fits text
+    c.counted_by-design.ensures.value m) (λ f r. absurd r) h) c.report.ensures.stop

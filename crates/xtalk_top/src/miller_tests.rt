@@ -1,0 +1,323 @@
+//! Designs solved by their own Miller numbers and by those of the words, with and without a period.
+
+use crate::tests::{calm, run};
+use crate::{Job, parse_words};
+use std::alloc::{AllocError, Global};
+use std::test::Fail;
+use std::thread::Threads;
+
+/// Two sources, s and t, that rise at 1 ps, and a gate of 500 fs behind each, c and d. Each source's wire is coupled with
+/// the other's gate: 200 fs for a whole Miller factor.
+const CROSS: &[u8] = b"\
+    table 1 1\n\
+    slews 0\n\
+    loads 0\n\
+    row 500\n\
+    table 1 1\n\
+    slews 0\n\
+    loads 0\n\
+    row 600\n\
+    net s i 0 1 1 0\n\
+    net t i 0 1 1 0\n\
+    net c w 0 0 0 1\n\
+    net d w 0 0 0 1\n\
+    rise 1000 1000 600 600\n\
+    fall quiet\n\
+    couple 3 1000\n\
+    sink c/A 0 200000000\n\
+    rise 1000 1000 600 600\n\
+    fall quiet\n\
+    couple 2 1000\n\
+    sink d/A 0 200000000\n\
+    arc 0 0 rise rise 0 1\n\
+    arc 1 0 rise rise 0 1\n\
+    end\n";
+
+/// Two gates, a that rises from 1 ps on and b that falls from 1.1 ps on, coupled with each other: a delay of 800 fs, and
+/// 200 fs more for a whole Miller factor.
+const LOAD_PAIR: &[u8] = b"\
+    table 1 2\n\
+    slews 0\n\
+    loads 0 10000\n\
+    row 800 2800\n\
+    table 1 1\n\
+    slews 0\n\
+    loads 0\n\
+    row 0\n\
+    net p i 0 0 1 0\n\
+    net q i 0 0 1 0\n\
+    net a w 0 1 0 1\n\
+    net b w 0 1 0 1\n\
+    rise 0 0 0 0\n\
+    fall quiet\n\
+    sink a/A 0\n\
+    rise quiet\n\
+    fall 100 100 0 0\n\
+    sink b/A 0\n\
+    couple 3 1000\n\
+    arc 0 0 rise rise 0 1\n\
+    couple 2 1000\n\
+    arc 1 0 fall fall 0 1\n\
+    end\n";
+
+fn joined(alloc: Global, pieces: &[&str]) -> Result<Vec<u8>, AllocError> {
+    let mut text = Vec::new(alloc);
+    for piece in pieces {
+        text.extend_from_slice(piece.as_bytes())?;
+    }
+    Ok(text)
+}
+
+/// The text of the crossed nets in version 2, with these Miller numbers.
+fn cross(alloc: Global, numbers: &str) -> Result<Vec<u8>, AllocError> {
+    let head = "xtalk-design 2\ncounts 2 4 0\nperiod none\nmiller ";
+    let mut text = joined(alloc, &[head, numbers, "\n"])?;
+    text.extend_from_slice(CROSS)?;
+    Ok(text)
+}
+
+/// Their report, where the gates rise from this time on in the greatest windows.
+fn cross_report(
+    alloc: Global,
+    numbers: &str,
+    first: &str,
+    guilty: &str,
+) -> Result<Vec<u8>, AllocError> {
+    let head = "xtalk 1\nnets 4 couplings 2 pairs 2 levels 2 bound 18\nperiod none\n";
+    let sources = "\
+        net s rise least 1.000 1.000 0.600 0.600 greatest 1.000 1.000 0.600 0.600\n\
+        net s fall quiet\n\
+        net t rise least 1.000 1.000 0.600 0.600 greatest 1.000 1.000 0.600 0.600\n\
+        net t fall quiet\n";
+    let c = "net c rise least 1.700 1.700 0.600 0.600 greatest ";
+    let d =
+        " 1.700 0.600 0.600\nnet c fall quiet\nnet d rise least 1.700 1.700 0.600 0.600 greatest ";
+    let rest = " 1.700 0.600 0.600\nnet d fall quiet\n";
+    joined(
+        alloc,
+        &[
+            head, numbers, sources, c, first, d, first, rest, guilty, "end\n",
+        ],
+    )
+}
+
+const BOTH_POSSIBLE: &str = "\
+    guilty s rise d 1.000 fast possible slow no\n\
+    guilty t rise c 1.000 fast possible slow no\n";
+
+/// Whether this text is printed, and nothing else, by the words behind `solve` where `one.xt` has that text.
+fn prints<R: Threads + Sync>(
+    rt: &R,
+    alloc: Global,
+    options: &[&str],
+    text: &[u8],
+    report: &[u8],
+) -> Result<bool, Fail> {
+    let ended = run(rt, alloc, options, text, calm(alloc))?;
+    Ok(ended.status == 0 && ended.out.as_slice() == report && ended.err.is_empty())
+}
+
+// Half a slew is 300 fs, so the sources are under way until 1.3 ps. At 2 quarters a gate that is met can rise at 1.6 ps,
+// and is under way from 1.3 ps on, so that it is met; at 3 quarters at 1.65 ps, and is under way too late.
+#[test]
+fn a_text_has_numbers_of_its_own(rt: HostRuntime) -> Result<(), Fail> {
+    let alloc = rt.alloc();
+    let met = cross_report(alloc, "miller 2 4 6\n", "1.600", BOTH_POSSIBLE)?;
+    assert!(rt;
+        prints(
+            &rt,
+            alloc,
+            &["solve", "one.xt"],
+            &cross(alloc, "2 4 6")?,
+            &met
+        )?
+    );
+    let apart = cross_report(alloc, "miller 3 4 6\n", "1.700", "")?;
+    assert!(rt;
+        prints(
+            &rt,
+            alloc,
+            &["solve", "one.xt"],
+            &cross(alloc, "3 4 6")?,
+            &apart
+        )?
+    );
+    Ok(())
+}
+
+#[test]
+fn the_words_replace_them(rt: HostRuntime) -> Result<(), Fail> {
+    let alloc = rt.alloc();
+    let text = cross(alloc, "2 4 6")?;
+    let apart = cross_report(alloc, "miller 3 4 6\n", "1.700", "")?;
+    assert!(rt;
+        prints(
+            &rt,
+            alloc,
+            &["solve", "--miller=3,4,6", "one.xt"],
+            &text,
+            &apart
+        )?
+    );
+    let classical = cross_report(alloc, "", "1.500", BOTH_POSSIBLE)?;
+    assert!(rt;
+        prints(
+            &rt,
+            alloc,
+            &["solve", "one.xt", "--miller", "0,4,8"],
+            &text,
+            &classical
+        )?
+    );
+    Ok(())
+}
+
+/// The report of the coupled gates: the lines of the period and of the Miller numbers, until when a rises and b falls in
+/// the least windows and in the greatest, and the mark by which each slows the other down.
+fn pair_report(
+    alloc: Global,
+    clock: &str,
+    least: [&str; 2],
+    greatest: [&str; 2],
+    mark: &str,
+) -> Result<Vec<u8>, AllocError> {
+    let head = "xtalk 1\nnets 4 couplings 2 pairs 1 levels 2 bound 10\n";
+    let sources = "\
+        net p rise least 0.000 0.000 0.000 0.000 greatest 0.000 0.000 0.000 0.000\n\
+        net p fall quiet\n\
+        net q rise quiet\n\
+        net q fall least 0.100 0.100 0.000 0.000 greatest 0.100 0.100 0.000 0.000\n";
+    let [a_least, b_least] = least;
+    let [a_greatest, b_greatest] = greatest;
+    let a = "net a rise least 1.000 ";
+    let high_a = " 0.000 0.000 greatest 1.000 ";
+    let b = " 0.000 0.000\nnet a fall quiet\nnet b rise quiet\nnet b fall least 1.100 ";
+    let high_b = " 0.000 0.000 greatest 1.100 ";
+    let mut text = joined(
+        alloc,
+        &[
+            head, clock, sources, a, a_least, high_a, a_greatest, b, b_least, high_b, b_greatest,
+        ],
+    )?;
+    text.extend_from_slice(b" 0.000 0.000\n")?;
+    if !mark.is_empty() {
+        let lines = [
+            "guilty a rise b 1.000 fast no slow ",
+            mark,
+            "\nguilty b fall a 1.000 fast no slow ",
+            mark,
+            "\n",
+        ];
+        text.extend_from_slice(&joined(alloc, &lines)?)?;
+    }
+    text.extend_from_slice(b"end\n")?;
+    Ok(text)
+}
+
+/// Whether that report is printed for the coupled gates with this period by these Miller numbers of the words.
+fn pair_is<R: Threads + Sync>(
+    rt: &R,
+    alloc: Global,
+    period: &str,
+    numbers: &str,
+    report: &[u8],
+) -> Result<bool, Fail> {
+    let mut text = joined(
+        alloc,
+        &["xtalk-design 1\ncounts 2 4 0\nperiod ", period, "\n"],
+    )?;
+    text.extend_from_slice(LOAD_PAIR)?;
+    let words = ["solve", "one.xt", "--miller", numbers];
+    prints(rt, alloc, &words, &text, report)
+}
+
+// A whole factor more is 200 fs. Without a period a and b meet only where both may come late.
+#[test]
+fn coupled_gates_count_by_the_words(rt: HostRuntime) -> Result<(), Fail> {
+    let alloc = rt.alloc();
+    let (alone, twice) = (["1.000", "1.100"], ["1.200", "1.300"]);
+    let thrice = ["1.400", "1.500"];
+    let report = pair_report(alloc, "period none\n", alone, twice, "possible")?;
+    assert!(rt; pair_is(&rt, alloc, "none", "0,4,8", &report)?);
+    let clock = "period none\nmiller 0 4 12\n";
+    let report = pair_report(alloc, clock, alone, thrice, "possible")?;
+    assert!(rt; pair_is(&rt, alloc, "none", "0,4,12", &report)?);
+    let report = pair_report(alloc, "period none\nmiller 4 4 4\n", alone, alone, "")?;
+    assert!(rt; pair_is(&rt, alloc, "none", "4,4,4", &report)?);
+    Ok(())
+}
+
+// They are 100 fs apart: they meet each period of 100 fs, and in a period of 1 ps only where both may come late.
+#[test]
+fn coupled_gates_meet_periods_apart(rt: HostRuntime) -> Result<(), Fail> {
+    let alloc = rt.alloc();
+    let (alone, twice) = (["1.000", "1.100"], ["1.200", "1.300"]);
+    let report = pair_report(alloc, "period 0.100\n", twice, twice, "sure")?;
+    assert!(rt; pair_is(&rt, alloc, "100", "0,4,8", &report)?);
+    let report = pair_report(alloc, "period 1.000\n", alone, twice, "possible")?;
+    assert!(rt; pair_is(&rt, alloc, "1000", "0,4,8", &report)?);
+    let report = pair_report(alloc, "period 0.100\nmiller 4 4 4\n", alone, alone, "sure")?;
+    assert!(rt; pair_is(&rt, alloc, "100", "4,4,4", &report)?);
+    Ok(())
+}
+
+// Numbers above 12, and classical ones in version 2, are those of no text, whatever the words give.
+#[test]
+fn the_numbers_of_the_text_are_tested_first(rt: HostRuntime) -> Result<(), Fail> {
+    let alloc = rt.alloc();
+    for numbers in ["0 4 13", "0 4 8"] {
+        let words = ["solve", "one.xt", "--miller=0,4,12"];
+        let ended = run(&rt, alloc, &words, &cross(alloc, numbers)?, calm(alloc))?;
+        assert_eq!(rt; ended.status, 3);
+        assert_eq!(rt; ended.out.len(), 0);
+        assert_eq!(rt; ended.err.as_slice(), b"one.xt:1: X9\n".as_slice());
+    }
+    Ok(())
+}
+
+fn strings(alloc: Global, words: &[&str]) -> Result<Vec<String>, AllocError> {
+    let mut all = Vec::new(alloc);
+    for word in words {
+        all.push(String::from_str(alloc, word)?)?;
+    }
+    Ok(all)
+}
+
+/// The Miller numbers that a value of the option gives.
+fn numbers_in(alloc: Global, value: &str) -> Result<(u8, u8, u8), Fail> {
+    let words = strings(alloc, &["solve", "--miller", value, "f"])?;
+    let Job::Solve(job) = parse_words(alloc, &words)?;
+    let miller = job.miller.ok_or("the option is there")?;
+    Ok((miller.low(), miller.mid(), miller.high()))
+}
+
+#[test]
+fn reads_three_numbers(rt: HostRuntime) -> Result<(), Fail> {
+    let alloc = rt.alloc();
+    assert_eq!(rt; numbers_in(alloc, "0,4,12")?, (0, 4, 12));
+    assert_eq!(rt; numbers_in(alloc, "0,0,0")?, (0, 0, 0));
+    assert_eq!(rt; numbers_in(alloc, "04,5,00000000000000000006")?, (4, 5, 6));
+    Ok(())
+}
+
+#[test]
+fn refuses_other_values(rt: HostRuntime) -> Result<(), Fail> {
+    let alloc = rt.alloc();
+    for value in [
+        "4,0,8",
+        "0,9,8",
+        "0,4,13",
+        "0,4",
+        "0,4,8,9",
+        ",4,8",
+        "0,4,",
+        "0, 4,8",
+        "0,4,+8",
+        "0,4,000000000000000000008",
+        "",
+    ] {
+        let words = strings(alloc, &["solve", "--miller", value, "f"])?;
+        assert!(rt; parse_words(alloc, &words).is_err());
+    }
+    Ok(())
+}
