@@ -29,7 +29,7 @@ rest room done = 0
 abbrev pub ahead : ℕ → ℕ → List ℕ → Task → ℕ
 ahead room nets drawn t = (room + 10) * (nets + 1 - above drawn) + rest room t
 
-loaded_rest : (room : ℕ) (d : Parts) (reads : List ℕ) (net : ℕ) (numbers : List ℕ) → rest room (with_loaded d reads net numbers) ≤ 9 + (room - length numbers)
+pub loaded_rest : (room : ℕ) (d : Parts) (reads : List ℕ) (net : ℕ) (numbers : List ℕ) → rest room (with_loaded d reads net numbers) ≤ 9 + (room - length numbers)
 loaded_rest room d reads net numbers = elim (cases_lt (length numbers) (8 * length reads)) [
   | inl p ↦ rw (below (length numbers) (8 * length reads) p) (omega arith)
   | inr p ↦ rw (not_below (length numbers) (8 * length reads) p) (omega arith)

@@ -1,6 +1,6 @@
 -- Words in memory: what a call leaves is kept.
-use Rattle.std.proofs.Common.{◌≡◌, ℕ, ◌+◌, ◌-◌, ◌*◌, ◌%◌, ◌<◌, inl, inr, refl, sym, ap, subst, ◌∙◌, List, [], ◌∷◌, ◌++◌, length, set, get_or, ℤ, arith}
-use Rattle.std.specs.List.{range_with_len}
+use Rattle.std.proofs.Common.{◌≡◌, ℕ, ◌+◌, ◌-◌, ◌*◌, ◌%◌, ◌<◌, ◌≤◌, inl, inr, refl, sym, ap, subst, ◌∙◌, List, [], ◌∷◌, ◌++◌, length, set, get_or, ℤ, arith}
+use Rattle.std.specs.List.{All, range_with_len}
 use Rattle.std.proofs.lemmas.Bool.{cases_lt}
 use Rattle.std.proofs.lemmas.List.{set-get_or, get_or_default, length-set}
 use Rattle.std.proofs.lemmas.List.FromFn.{length-range_with_len, get_or-range_with_len}
@@ -20,7 +20,7 @@ use Rattle.xt_meaning.proofs.Numbers.{numbers_count, numbers_each, further_one, 
 use Rattle.chaos_core.specs.declared.setting.Setting.{Setting}
 use Rattle.chaos_core.specs.Boards.{nets_of, started, IsFound, Loads, Publishes, CanPublish, Draws, late_after}
 use Rattle.chaos_core.specs.Memories.{Memory, most_late, knowledge_of, AreKept, IsKept}
-use Rattle.chaos_core.proofs.Sight.{are_refl, are_trans, at_each, seen_onward}
+use Rattle.chaos_core.proofs.Sight.{seen_range, are_refl, are_trans, at_each, seen_onward}
 use Rattle.chaos_core.proofs.Moves.{below, not_below}
 
 -- ---- the words of a start
@@ -132,3 +132,6 @@ pub moved_there : (m : Memory) (word value number left : ℕ) → IsKept m → w
 moved_there m word value number left kept inside can is at =
     let e : left ≡ further m.setting.way (word % 2) (number_at m.words word) value = at ∙ ap (λ n. further m.setting.way (word % 2) n value) is in
     rw e (record { words = moved_kept m.setting m.words word value kept.words inside can; few = kept.few })
+
+pub words_range : (m : Memory) → IsKept m → All (λ n. n ≤ 9223372036854775808) m.words
+words_range m kept = λ i x h. subst (λ n. n ≤ 9223372036854775808) (get_or_default m.words i (quiet_number (i % 2)) x h) (seen_range m.setting m.words i kept.words.seen)

@@ -10,5 +10,11 @@ pub mod Ends
 pub mod Kept
 pub mod Numbered
 pub mod Actions
+pub mod Passing
+pub mod Carrying
 pub mod Picks
+pub mod Countdown
+pub mod Starting
 pub mod Turns
+pub mod Workers
+pub mod Settling

@@ -1,10 +1,12 @@
 -- The numbers of windows, net by net.
-use Rattle.std.proofs.Common.{◌≡◌, ℕ, ◌+◌, ◌<◌, ◌≤◌, refl, subst, List, [], ◌∷◌, ◌++◌, length, map, take, get_or, arith, append_assoc}
+use Rattle.std.proofs.Common.{◌≡◌, ℕ, zero, suc, ◌+◌, ◌<◌, ◌≤◌, refl, sym, ap, subst, ◌∙◌, List, [], ◌∷◌, ◌++◌, length, map, take, drop, get_or, arith, append_assoc}
+use Rattle.std.proofs.Math.Seq.{take-add}
 use Rattle.std.specs.List.{range_with_len}
 use Rattle.std.proofs.lemmas.List.{take_more}
 use Rattle.std.proofs.lemmas.List.FromFn.{map-range_with_len_more}
+use Rattle.xt_model.specs.declared.quad.Quad.{Quad}
 use Rattle.xt_model.specs.declared.quad.Pair.{Pair}
-use Rattle.xt_meaning.specs.Words.{number_for, numbers_of}
+use Rattle.xt_meaning.specs.Words.{number_for, numbers_of, quad_numbers}
 use Rattle.chaos_core.specs.Tasks.{bound_at}
 use Rattle.chaos_core.specs.Memories.{pair_numbers}
 
@@ -34,3 +36,29 @@ all_eight p before words place low high h =
     let e : place ≡ 8 = omega arith in
     let P : ℕ → Type 0 = λ i. words ≡ before ++ first_numbers p i in
     subst P e h
+
+-- ---- windows of words
+shifted : (x : ℕ) (xs : List ℕ) (n k : ℕ) → get_or (x ∷ xs) (suc n + k) 0 ≡ get_or xs (n + k) 0
+shifted x xs n k = let e : suc n + k ≡ suc (n + k) = omega arith in rw e refl
+
+pub four_at : (xs : List ℕ) (n : ℕ) → n + 4 ≤ length xs → take 4 (drop n xs) ≡ get_or xs n 0 ∷ get_or xs (n + 1) 0 ∷ get_or xs (n + 2) 0 ∷ get_or xs (n + 3) 0 ∷ []
+four_at [] n h = absurd (omega arith)
+four_at (x ∷ []) zero h = absurd (omega arith)
+four_at (x ∷ y ∷ []) zero h = absurd (omega arith)
+four_at (x ∷ y ∷ z ∷ []) zero h = absurd (omega arith)
+four_at (x ∷ y ∷ z ∷ u ∷ xs) zero h = refl
+four_at (x ∷ xs) (suc n) h = rw (shifted x xs n 1, shifted x xs n 2, shifted x xs n 3) (four_at xs n (omega arith))
+
+pub quad_of_four : (xs : List ℕ) (n : ℕ) (q : Quad) → n + 4 ≤ length xs → number_for q.tlo ≡ get_or xs n 0 → number_for q.thi ≡ get_or xs (n + 1) 0 → number_for q.slo ≡ get_or xs (n + 2) 0
+    → number_for q.shi ≡ get_or xs (n + 3) 0 → quad_numbers q ≡ take 4 (drop n xs)
+quad_of_four xs n q h a b c d = rw (a, b, c, d) (sym (four_at xs n h))
+
+pub pairs_next : (words : List ℕ) (from : ℕ) (ps : List Pair) (p : Pair) (after : List Pair) → from + 8 ≤ length words → numbers_of ps ≡ take from words → quad_numbers p.rise ≡ take 4 (drop from words)
+    → quad_numbers p.fall ≡ take 4 (drop (from + 4) words) → after ≡ ps ++ p ∷ [] → numbers_of after ≡ take (from + 8) words
+pairs_next words from ps p after h so_far rise fall pushed =
+    let n = numbers_push ps p in
+    let e : from + 8 ≡ (from + 4) + 4 = omega arith in
+    let a = take-add (from + 4) 4 words in
+    let b = take-add from 4 words in
+    let both : pair_numbers p ≡ take 4 (drop from words) ++ take 4 (drop (from + 4) words) = ap (λ xs. xs ++ quad_numbers p.fall) rise ∙ ap (λ xs. take 4 (drop from words) ++ xs) fall in
+    rw (pushed, n, so_far, both, e, a, b) (sym (append_assoc (take from words) (take 4 (drop from words)) (take 4 (drop (from + 4) words))))

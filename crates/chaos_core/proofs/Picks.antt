@@ -41,7 +41,7 @@ drawn_next b c n h =
     (omega (arith, at, last, same), next)
 
 -- ---- one step
-state_is : (s t : State) → s.words ≡ t.words → s.next ≡ t.next → s.tasks ≡ t.tasks → s ≡ t
+pub state_is : (s t : State) → s.words ≡ t.words → s.next ≡ t.next → s.tasks ≡ t.tasks → s ≡ t
 state_is s t x y z = let e : ◌≡◌ {A = State} (record { words = s.words; next = s.next; tasks = s.tasks }) (record { words = t.words; next = t.next; tasks = t.tasks }) = rw (x, y, z) refl in e
 
 step_state : (a : Setting) (lists : List (List NetId)) (order : List ℕ) (b c : Memory) (tasks : List Task) (pick : ℕ) (t u : Task) (moved : Moved) → b.setting ≡ a → get_or tasks pick done ≡ t
@@ -87,7 +87,7 @@ step_setting a lists order b c (publishing net pair place) u moved s = ap (λ (k
 step_setting a lists order b c done u moved s = ap (λ (k : Knowledge). k.setting) s.acts
 
 -- ---- workers that are not done
-count_set : (tasks : List Task) (pick : ℕ) (u : Task) → pick < length tasks → count_open (set tasks pick u) + open_in (get_or tasks pick done) ≡ count_open tasks + open_in u
+pub count_set : (tasks : List Task) (pick : ℕ) (u : Task) → pick < length tasks → count_open (set tasks pick u) + open_in (get_or tasks pick done) ≡ count_open tasks + open_in u
 count_set [] pick u h = absurd (omega arith)
 count_set (t ∷ tasks) zero u h =
     let a : count_open (set (t ∷ tasks) zero u) ≡ open_in u + count_open tasks = refl in
@@ -113,7 +113,7 @@ count_at (t ∷ tasks) (suc pick) h =
     let c : open_in (get_or (t ∷ tasks) (suc pick) done) ≡ open_in (get_or tasks pick done) = refl in
     omega (arith, more, b, c)
 
-open_loaded : (k : Knowledge) (lists : List (List NetId)) (net : ℕ) (numbers : List ℕ) (a : Setting) → open_in (with_loaded a.design (list_of lists net) net numbers) ≡ 1
+pub open_loaded : (k : Knowledge) (lists : List (List NetId)) (net : ℕ) (numbers : List ℕ) (a : Setting) → open_in (with_loaded a.design (list_of lists net) net numbers) ≡ 1
 open_loaded k lists net numbers a = elim (cases_lt (length numbers) (8 * length (list_of lists net))) [
   | inl p ↦ rw (below (length numbers) (8 * length (list_of lists net)) p) refl
   | inr p ↦ rw (not_below (length numbers) (8 * length (list_of lists net)) p) refl

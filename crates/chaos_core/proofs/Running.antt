@@ -152,7 +152,7 @@ pub record HasBegun (lists : List (List NetId)) (k l : Knowledge) (net : ℕ) (t
   pub left : left_of t ≡ 8
   pub more : IsDone t → ⊥
 
-begun : (lists : List (List NetId)) (k l : Knowledge) (net : ℕ) (numbers : List ℕ) → IsSound k.setting.design → IsReadList k.setting.design net (list_of lists net)
+pub begun : (lists : List (List NetId)) (k l : Knowledge) (net : ℕ) (numbers : List ℕ) → IsSound k.setting.design → IsReadList k.setting.design net (list_of lists net)
     → length numbers ≤ 8 * length (list_of lists net) → ArePast k (list_of lists net) numbers → HasBegun lists k l net (with_loaded k.setting.design (list_of lists net) net numbers)
 begun lists k l net numbers sound list count past =
     let reads = list_of lists net in
@@ -169,7 +169,7 @@ begun lists k l net numbers sound list count past =
 -- ---- one step
 module _ (lists : List (List NetId)) (order : List ℕ) (k l m : Knowledge) (sound : IsSound k.setting.design) (are : AreReadLists k.setting.design lists) (o : IsOrder k.setting.design.nets order) where
   -- what was passed stays passed
-  passed_later : AreNoFurther k.setting.way (bounds_in l.seen) (bounds_in m.seen) → (net most : ℕ) → HasPassed k l net most → HasPassed k m net most
+  pub passed_later : AreNoFurther k.setting.way (bounds_in l.seen) (bounds_in m.seen) → (net most : ℕ) → HasPassed k l net most → HasPassed k m net most
   passed_later on net most h i lt =
       let w = 8 * net + i in
       let par : w % 2 ≡ i % 2 = omega arith in
@@ -234,7 +234,7 @@ module _ (lists : List (List NetId)) (order : List ℕ) (k l m : Knowledge) (sou
   own_way : l.setting ≡ k.setting → AreNoFurther l.setting.way (bounds_in l.seen) (bounds_in m.seen) → AreNoFurther k.setting.way (bounds_in l.seen) (bounds_in m.seen)
   own_way e h = subst (λ (a : Setting). AreNoFurther a.way (bounds_in l.seen) (bounds_in m.seen)) e h
 
-  past_more : (reads numbers : List ℕ) (n : ℕ) → l.setting ≡ k.setting → AreNoFurther k.setting.way (bounds_in k.seen) (bounds_in l.seen) → Loads l (word_to_load reads (length numbers)) n m → ArePast k reads numbers
+  pub past_more : (reads numbers : List ℕ) (n : ℕ) → l.setting ≡ k.setting → AreNoFurther k.setting.way (bounds_in k.seen) (bounds_in l.seen) → Loads l (word_to_load reads (length numbers)) n m → ArePast k reads numbers
       → ArePast k reads (numbers ++ n ∷ [])
   past_more reads numbers n e on h past i lt =
       let len : length (numbers ++ n ∷ []) ≡ length numbers + 1 = length-append numbers (n ∷ []) in
@@ -287,7 +287,7 @@ module _ (lists : List (List NetId)) (order : List ℕ) (k l m : Knowledge) (sou
       }
 
   -- the word that was published is past
-  published_word : (net place : ℕ) (pair : Pair) (n : ℕ) → FitsPublishing l net pair place → l.setting ≡ k.setting → IsPast k net pair
+  pub published_word : (net place : ℕ) (pair : Pair) (n : ℕ) → FitsPublishing l net pair place → l.setting ≡ k.setting → IsPast k net pair
       → Publishes l (8 * net + place) n (further l.setting.way ((8 * net + place) % 2) n (number_for (bound_at pair place))) m
       → IsBoundNoFurther k.setting.way (place % 2) (onward k.setting.design (bounds_in k.seen) (8 * net + place)) (bounds_in m.seen (8 * net + place))
   published_word net place pair n fits e past h =

@@ -1,5 +1,5 @@
 -- Workers on words in memory, between picks.
-use Rattle.std.proofs.Common.{◌≡◌, ℕ, zero, suc, ◌+◌, ◌*◌, ◌<◌, ◌≤◌, refl, sym, subst, ◌∙◌, List, [], ◌∷◌, ◌++◌, length, map, set, take, get_or, arith}
+use Rattle.std.proofs.Common.{◌≡◌, ℕ, zero, suc, ◌+◌, ◌<◌, ◌≤◌, refl, sym, subst, ◌∙◌, List, [], ◌∷◌, ◌++◌, length, map, set, take, get_or, arith}
 use Rattle.std.specs.Prelude.{vec_capacity}
 use Rattle.std.specs.List.{All, fold}
 use Rattle.std.proofs.lemmas.List.{take_more}
@@ -12,16 +12,13 @@ use Rattle.chaos_core.specs.declared.setting.Setting.{Setting}
 use Rattle.chaos_core.specs.declared.worker.Worker.{Worker}
 use Rattle.chaos_core.specs.declared.worker.Moved.{Moved}
 use Rattle.chaos_core.specs.Boards.{Knowledge}
-use Rattle.chaos_core.specs.Tasks.{Task, done, task_of, list_of}
+use Rattle.chaos_core.specs.Tasks.{Task, done, task_of}
 use Rattle.chaos_core.specs.Steps.{Fits, IsFitting, Steps}
 use Rattle.chaos_core.specs.Memories.{Memory, knowledge_of, IsKept}
 use Rattle.chaos_core.specs.Machine.{State, acted, scheduled, IsGood, IsReached, state_of, count_open}
+use Rattle.chaos_core.specs.Rounds.{HasRoom}
 use Rattle.chaos_core.proofs.Actions.{schedule_reached}
 use Rattle.chaos_core.proofs.Picks.{task_there, pick_state, pick_late, step_setting}
-
--- a worker has room for each read list
-abbrev pub HasRoom : List (List NetId) → Worker → Type 0
-HasRoom lists worker = (net : ℕ) → 8 * length (list_of lists net) ≤ vec_capacity worker.loaded
 
 all_tasks : (P : Task → Type 0) (workers : List Worker) → ((k : ℕ) (x : Worker) → k < length workers → P (task_of (get_or workers k x))) → P done → (w : ℕ) → P (get_or (map task_of workers) w done)
 all_tasks P [] h last w = last

@@ -5,3 +5,4 @@ pub mod Views
 pub mod Runs
 pub mod Memories
 pub mod Machine
+pub mod Rounds

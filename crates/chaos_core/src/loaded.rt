@@ -12,7 +12,7 @@ use net_eval::eval;
 use xt_model::{Bounds, Design, NetId, Pair};
 
 /// The bound that a number of a word stands for.
-fn bound_of(number: u64) -> i64
+pub(crate) fn bound_of(number: u64) -> i64
     requires { number ≤ top_number }
     ensures { result ≡ bound_in number }
 {

@@ -8,7 +8,7 @@ ghost use Rattle.xt_meaning.specs.Words.{numbers_of, quad_numbers};
 ghost use Rattle.chaos_core.specs.Memories.{IsKept, knowledge_of};
 
 use crate::board::Board;
-use crate::words::push_numbers;
+use crate::words::{pairs_of, push_numbers};
 use std::alloc::{AllocError, Global};
 use std::marker::Model;
 use std::snapshot::Snapshot;
@@ -75,6 +75,16 @@ impl MemoryBoard {
         ensures kept { IsKept self.now }
     {
         self.words.as_slice()
+    }
+
+    /// The windows whose bounds stand in the words. A run in the same direction can start at them.
+    pub fn windows(&self, alloc: Global) -> Result<Windows, AllocError>
+        ensures numbers { IfOk result (λ windows. numbers_of windows ≡ self.now.words) }
+        ensures fits { IfOk result
+            (λ windows. IsFittingStart self.now.setting.way self.now.setting.design windows) }
+    {
+        let pairs = pairs_of(alloc, self.words())?;
+        Ok(Windows::new(pairs))
     }
 
     /// Begins the numbers that are drawn anew.

@@ -14,7 +14,7 @@ use net_eval::ReadLists;
 use xt_model::{Design, Direction};
 
 /// Whether a worker is done.
-fn is_done(worker: &Worker) -> bool
+pub(crate) fn is_done(worker: &Worker) -> bool
     ensures { IsTrue result ↔ IsDone (task_of worker.now) }
 {
     matches!(worker.stage, Stage::Finished)

@@ -1,14 +1,15 @@
 //! The words of windows.
 
-ghost use Rattle.std.specs.Prelude.{◌≡◌, ◌<◌, ◌++◌, OnOk};
+ghost use Rattle.std.specs.Prelude.{◌≡◌, ◌+◌, ◌%◌, ◌<◌, ◌≤◌, ◌++◌, length, take, drop, slice_index, IfOk, OnOk};
 ghost use Rattle.std.specs.List.{All};
-ghost use Rattle.xt_model.specs.Quads.{IsBound, IsPairInRange};
-ghost use Rattle.xt_meaning.specs.Words.{number_for, numbers_of};
+ghost use Rattle.xt_model.specs.Quads.{IsBound, IsInRange, IsPairInRange};
+ghost use Rattle.xt_meaning.specs.Words.{number_for, numbers_of, quad_numbers, top_number};
 ghost use Rattle.chaos_core.specs.Tasks.{bound_at};
 ghost use Rattle.chaos_core.specs.Memories.{pair_numbers};
 
-use std::alloc::AllocError;
-use xt_model::Pair;
+use crate::loaded;
+use std::alloc::{AllocError, Global};
+use xt_model::{Pair, Quad};
 
 /// The number that stands for a bound in a word.
 fn number_of(bound: i64) -> u64
@@ -64,4 +65,47 @@ pub(crate) fn push_numbers(words: &mut Vec<u64>, pairs: &[Pair]) -> Result<(), A
         push_pair(words, pair)?;
     }
     Ok(())
+}
+
+/// The bound in a word.
+fn bound_in_word(words: &[u64], word: usize) -> i64
+    requires word { word < length words.now }
+    requires range { All (λ n. n ≤ top_number) words.now }
+    ensures number { number_for result ≡ slice_index words.now word }
+    ensures range { IsBound result }
+{
+    loaded::bound_of(words[word])
+}
+
+/// The window whose four words begin at a word.
+fn quad_at(words: &[u64], from: usize) -> Quad
+    requires words { from + 4 ≤ length words.now }
+    requires range { All (λ n. n ≤ top_number) words.now }
+    ensures numbers { quad_numbers result ≡ take 4 (drop from words.now) }
+    ensures range { IsInRange result }
+{
+    Quad {
+        tlo: bound_in_word(words, from),
+        thi: bound_in_word(words, from + 1),
+        slo: bound_in_word(words, from + 2),
+        shi: bound_in_word(words, from + 3),
+    }
+}
+
+/// The windows whose numbers stand in words.
+pub(crate) fn pairs_of(alloc: Global, words: &[u64]) -> Result<Vec<Pair>, AllocError>
+    requires whole { length words.now % 8 ≡ 0 }
+    requires range { All (λ n. n ≤ top_number) words.now }
+    ensures numbers { IfOk result (λ pairs. numbers_of pairs.items ≡ words.now) }
+    ensures range { IfOk result (λ pairs. All IsPairInRange pairs.items) }
+{
+    let mut pairs = Vec::new(alloc);
+    let mut from = 0;
+    'pairs: while from + 8 <= words.len() {
+        let rise = quad_at(words, from);
+        let fall = quad_at(words, from + 4);
+        pairs.push(Pair { rise, fall })?;
+        from += 8;
+    }
+    Ok(pairs)
 }

@@ -4,7 +4,7 @@ use Rattle.xt_model.specs.Levels.{IsOrder}
 use Rattle.chaos_core.specs.Tasks.{task_of}
 use Rattle.chaos_core.specs.Memories.{knowledge_of}
 use Rattle.chaos_core.specs.Machine.{scheduled, state_of, count_open}
-use Rattle.chaos_core.proofs.Turns.{HasRoom}
+use Rattle.chaos_core.specs.Rounds.{HasRoom}
 use Rattle.chaos_core.proofs.schedule.run_schedule.Given as goal
 
 abbrev pub invariant-loop-pick : goal.invariant-loop-pick

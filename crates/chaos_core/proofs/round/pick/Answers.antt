@@ -1,0 +1,35 @@
+use Rattle.chaos_core.proofs.Picks.{may_draw}
+use Rattle.chaos_core.proofs.Workers.{one_setting, one_state, one_late, one_fits, picked_here}
+use Rattle.chaos_core.proofs.round.pick.Goals as goal
+
+pub worker_step-requires-clause-late : goal.worker_step-requires-clause-late
+worker_step-requires-clause-late c = λ e. may_draw c.args.board.now c.args.workers.now c.next_open-place.result c.index-workers-place.result c.next_open-place.ensures.inside c.requires.late e
+
+pub returns-clause-setting : goal.returns-clause-setting
+returns-clause-setting c =
+    let order = c.order-order.result.now in
+    one_setting c.args.design.now c.args.lists.now order c.args.board.now c.worker_step.new.board c.args.workers.now c.next_open-place.result c.index-workers-place.result c.worker_step.new.worker c.worker_step.result
+    c.requires.design c.next_open-place.ensures.inside (c.worker_step.ensures.step order c.order-order.ensures.value)
+
+pub returns-clause-pick : goal.returns-clause-pick
+returns-clause-pick c = λ order o.
+    let one = one_state c.args.design.now c.args.lists.now order c.args.board.now c.worker_step.new.board c.args.workers.now c.next_open-place.result c.index-workers-place.result c.worker_step.new.worker c.worker_step.result
+        c.requires.design c.next_open-place.ensures.inside (c.worker_step.ensures.step order o) in
+    record {
+      pick = c.next_open-place.result;
+      picked = picked_here c.args.workers.now c.draw-number.result _ c.next_open-place.result c.draw-number.ensures.value c.next_open-place.ensures.picked;
+      source = c.draw-number.ensures.state;
+      state = one;
+    }
+
+pub returns-clause-fits : goal.returns-clause-fits
+returns-clause-fits c =
+    let order = c.order-order.result.now in
+    one_fits c.args.design.now c.args.lists.now order c.args.board.now c.worker_step.new.board c.args.workers.now c.next_open-place.result c.index-workers-place.result c.worker_step.new.worker c.worker_step.result
+    c.requires.design c.next_open-place.ensures.inside (c.worker_step.ensures.step order c.order-order.ensures.value) c.requires.lists c.order-order.ensures.value c.words-words.ensures.kept c.requires.fits c.worker_step.ensures.room
+
+pub returns-clause-late : goal.returns-clause-late
+returns-clause-late c =
+    let order = c.order-order.result.now in
+    one_late c.args.design.now c.args.lists.now order c.args.board.now c.worker_step.new.board c.args.workers.now c.next_open-place.result c.index-workers-place.result c.worker_step.new.worker c.worker_step.result
+    c.requires.design c.next_open-place.ensures.inside (c.worker_step.ensures.step order c.order-order.ensures.value) c.requires.late

@@ -1,0 +1,74 @@
+use Rattle.std.proofs.Common.{◌≡◌, ℕ, suc, subst, ◌∙◌, List, length}
+use Rattle.std.proofs.lemmas.Bool.{both_ways}
+use Rattle.xt_meaning.proofs.Extremes.{extreme_from_fixpoint}
+use Rattle.xt_model.specs.declared.net.NetId.{NetId}
+use Rattle.chaos_core.specs.declared.setting.Setting.{Setting}
+use Rattle.chaos_core.specs.Rounds.{Pause, IsRound, pause_at}
+use Rattle.chaos_core.proofs.Settling.{carried, run_nearer, fits_under, counted_more, one_more, settles_there}
+use Rattle.chaos_core.proofs.settle.settle_on.Goals as goal
+
+-- each round is one under the setting at the start
+rounds_here : (a b : Setting) (lists : List (List NetId)) (order : List ℕ) (m n : ℕ) (p q : Pause) → b ≡ a → m ≡ n → IsRound b lists order m p q → IsRound a lists order n p q
+rounds_here a b lists order m n p q same count h = subst (λ (x : Setting). IsRound x lists order n p q) same (subst (λ k. IsRound b lists order k p q) count h)
+
+pub rounds-smaller : goal.rounds-smaller
+rounds-smaller c =
+    let a = c.args.board.now.setting in
+    let b = c.rounds.board.setting in
+    let d = c.args.design.now in
+    let order = c.order-order.result.now in
+    let o = c.order-order.ensures.value in
+    let inv = c.rounds.invariant in
+    let n = length c.args.workers.now in
+    let p = pause_at c.rounds.source.state c.rounds.board in
+    let q = pause_at c.round.new.source.state c.round.new.board in
+    let round = rounds_here a b c.args.lists.now order (length c.rounds.workers) n p q inv.setting inv.count (c.round.ensures.round order o) in
+    let carry = carried a d c.args.lists.now order n p q c.requires.design c.requires.some c.requires.lists o inv.kept round in
+    let after = fits_under a c.round.new.board.setting d c.args.direction c.in_ok-windows-2.windows (c.round.ensures.setting ∙ inv.setting) c.requires.design c.requires.direction c.in_ok-windows-2.ensures.fits in
+    run_nearer a d c.args.direction c.rounds.windows c.in_ok-windows-2.windows p.words q.words c.requires.design c.requires.direction inv.fits after inv.numbers c.in_ok-windows-2.ensures.numbers carry
+    (λ h. both_ways c.closed.result c.rounds-test.true (c.closed.ensures.1 h))
+
+pub rounds-preserved : goal.rounds-preserved
+rounds-preserved c =
+    let a = c.args.board.now.setting in
+    let b = c.rounds.board.setting in
+    let d = c.args.design.now in
+    let lists = c.args.lists.now in
+    let inv = c.rounds.invariant in
+    let n = length c.args.workers.now in
+    let m = length c.rounds.workers in
+    let p = pause_at c.rounds.source.state c.rounds.board in
+    let q = pause_at c.round.new.source.state c.round.new.board in
+    let own = c.round.ensures.setting ∙ inv.setting in
+    let mine = c.order-order.result.now in
+    let o = c.order-order.ensures.value in
+    let first = rounds_here a b lists mine m n p q inv.setting inv.count (c.round.ensures.round mine o) in
+    let carry = carried a d lists mine n p q c.requires.design c.requires.some c.requires.lists o inv.kept first in
+    record {
+      setting = own;
+      count = c.round.ensures.count ∙ inv.count;
+      rooms = c.round.ensures.rooms;
+      fits = fits_under a c.round.new.board.setting d c.args.direction c.in_ok-windows-2.windows own c.requires.design c.requires.direction c.in_ok-windows-2.ensures.fits;
+      numbers = c.in_ok-windows-2.ensures.numbers;
+      kept = carry.kept;
+      path = λ order oo.
+          let path = inv.path order oo in
+          let round = rounds_here a b lists order m n p q inv.setting inv.count (c.round.ensures.round order oo) in
+          let begin : Pause = record { source = c.args.number; words = c.args.board.now.words } in
+          (
+            suc path.0,
+            counted_more c.rounds.rounds c.saturating_add-rounds.result path.0 path.1 c.saturating_add-rounds.ensures,
+            one_more a d lists order n path.0 begin p q c.rounds.windows c.requires.design inv.fits.windows.in_range inv.numbers (λ h. both_ways c.closed.result c.rounds-test.true (c.closed.ensures.1 h)) path.2 round,
+          );
+    }
+
+pub returns-clause-extreme : goal.returns-clause-extreme
+returns-clause-extreme c =
+    extreme_from_fixpoint c.args.direction c.args.design.now c.rounds.windows (record { windows = c.rounds.invariant.fits.windows; fixed = c.closed.ensures.0 c.rounds-test.false }) c.rounds.invariant.fits.respects
+
+pub returns-clause-rounds : goal.returns-clause-rounds
+returns-clause-rounds c = λ order o.
+    let inv = c.rounds.invariant in
+    let path = inv.path order o in
+    settles_there c.args.board.now.setting c.args.design.now c.args.lists.now order c.rounds.board.words (length c.args.workers.now) c.args.number path.0 c.rounds.source.state c.rounds.rounds c.args.board.now.words c.rounds.windows
+    c.requires.design c.requires.start inv.fits.windows.in_range inv.numbers (c.closed.ensures.0 c.rounds-test.false) path.1 path.2

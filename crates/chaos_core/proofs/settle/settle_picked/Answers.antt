@@ -1,0 +1,38 @@
+use Rattle.std.proofs.Common.{◌≡◌, ℕ, subst, ap, ◌∙◌, List, length}
+use Rattle.std.specs.Prelude.{IfOk}
+use Rattle.std.proofs.lemmas.Result.{IfOk-weaker}
+use Rattle.xt_model.specs.Levels.{IsOrder}
+use Rattle.xt_model.specs.declared.direction.Direction.{Direction}
+use Rattle.xt_model.specs.Assign.{assigned}
+use Rattle.xt_meaning.specs.Laws.{IsExtremeFixpoint}
+use Rattle.transitions.specs.Transitions.{Transition, AreConsistent}
+use Rattle.transitions.specs.Laws.{LieWithin}
+use Rattle.transitions.proofs.Hulls.{within_greatest}
+use Rattle.chaos_core.specs.declared.setting.Setting.{Setting}
+use Rattle.chaos_core.specs.Memories.{Memory}
+use Rattle.chaos_core.specs.Rounds.{Settles}
+use Rattle.chaos_core.proofs.settle.settle_picked.Goals as goal
+
+pub returns-clause-rounds : goal.returns-clause-rounds
+returns-clause-rounds c =
+    let a : Setting = record { design = c.args.design.now; way = c.args.direction; start = c.args.start.now } in
+    let s : c.in_ok-board.board.setting ≡ a = ap (λ (m : Memory). m.setting) c.in_ok-board.ensures in
+    let n : length c.as_mut_slice.result.now ≡ c.args.workers = ap length c.as_mut_slice.ensures.value ∙ c.in_ok-workers.ensures.count in
+    let lists = c.args.lists.now in
+    subst (λ (k : ℕ). IfOk c.settle_on.result
+        (λ settled. (order : List ℕ) → IsOrder c.args.design.now.nets order → Settles a lists order k c.args.number settled.windows settled.rounds)) n
+    (subst (λ (x : Setting). IfOk c.settle_on.result
+        (λ settled. (order : List ℕ) → IsOrder c.args.design.now.nets order
+            → Settles x lists order (length c.as_mut_slice.result.now) c.args.number settled.windows settled.rounds)) s c.settle_on.ensures.rounds)
+
+pub returns-clause-consistent : goal.returns-clause-consistent
+returns-clause-consistent c = λ narrow.
+    let d = c.args.design.now in
+    let within = c.requires.start.within in
+    let o = c.order-order.ensures.value in
+    IfOk-weaker
+    c.settle_on.result
+    (λ settled. IsExtremeFixpoint c.args.direction d settled.windows)
+    (λ settled. (xs : List Transition) → AreConsistent d xs → LieWithin (assigned settled.windows) xs)
+    (λ settled h xs are. within_greatest d o.0 within.top settled.windows xs c.order-order.ensures.sound o.1 within.envelope (subst (λ (way : Direction). IsExtremeFixpoint way d settled.windows) narrow h) are)
+    c.settle_on.ensures.extreme

@@ -1,0 +1,101 @@
+//! A whole run on one thread: rounds until the words are closed.
+
+ghost use Rattle.std.specs.Prelude.{◌≡◌, ℕ, ◌<◌, ◌≤◌, List, length, IfOk};
+ghost use Rattle.std.specs.List.{All};
+ghost use Rattle.xt_model.specs.declared.direction.Direction.TheVariants.{Narrow};
+ghost use Rattle.xt_model.specs.Levels.{IsOrder};
+ghost use Rattle.xt_model.specs.Assign.{assigned};
+ghost use Rattle.xt_meaning.specs.Barrier.{IsFittingStart};
+ghost use Rattle.xt_meaning.specs.Laws.{IsExtremeFixpoint};
+ghost use Rattle.xt_meaning.specs.Words.{numbers_of};
+ghost use Rattle.transitions.specs.Transitions.{Transition, AreConsistent};
+ghost use Rattle.transitions.specs.Laws.{LieWithin};
+ghost use Rattle.net_eval.specs.ReadLists.{AreReadLists};
+ghost use Rattle.chaos_core.specs.Rounds.{HasRoom, Settles};
+
+use crate::memory::MemoryBoard;
+use crate::round::{new_workers, round};
+use crate::worker::Worker;
+use drawn_numbers::Source;
+use net_eval::{ReadLists, closed};
+use std::alloc::{AllocError, Global};
+use xt_model::{Design, Direction, Windows};
+
+/// The windows in which a run ended, and the rounds that it made, or 2^64 - 1 where they are more.
+#[derive(Debug, Drop)]
+pub struct Settled {
+    pub windows: Windows,
+    pub rounds: u64,
+}
+
+/// Makes rounds on a board at its start until the words are closed.
+fn settle_on(
+    alloc: Global,
+    board: &mut MemoryBoard,
+    workers: &mut [Worker],
+    design: &Design,
+    lists: &ReadLists,
+    direction: Direction,
+    number: u64,
+) -> Result<Settled, AllocError>
+    requires design { board.old.setting.design ≡ design.now }
+    requires direction { board.old.setting.way ≡ direction }
+    requires start { board.old.words ≡ numbers_of board.old.setting.start }
+    requires lists { AreReadLists design.now lists.now }
+    requires some { 0 < length workers.old }
+    requires few { length workers.old ≤ 64 }
+    requires rooms { All (HasRoom lists.now) workers.old }
+    ensures extreme { IfOk result (λ settled. IsExtremeFixpoint direction design.now settled.windows) }
+    ensures rounds { IfOk result (λ settled. (order : List ℕ) → IsOrder design.now.nets order
+        → Settles board.old.setting lists.now order (length workers.old) number settled.windows settled.rounds) }
+{
+    let _words = board.words();
+    let _order = design.order();
+    let mut source = Source::new(number);
+    let mut windows = board.windows(alloc)?;
+    let mut rounds: u64 = 0;
+    'rounds: while !closed(design, &windows) {
+        round(board, workers, design, lists, direction, &mut source);
+        windows = board.windows(alloc)?;
+        rounds = rounds.saturating_add(1);
+    }
+    Ok(Settled { windows, rounds })
+}
+
+/// Makes rounds from a fitting start, in each of which so many workers take turns until all are done, as numbers from
+/// a source that starts at `number` pick them, until the words are closed. The windows are then the least fixpoint in
+/// widening and the greatest in narrowing, whatever the workers and the number, and in narrowing all transitions that
+/// explain one another lie within them.
+pub fn settle_picked(
+    alloc: Global,
+    design: &Design,
+    lists: &ReadLists,
+    direction: Direction,
+    start: &Windows,
+    workers: u32,
+    number: u64,
+) -> Result<Settled, AllocError>
+    requires start { IsFittingStart direction design.now start.now }
+    requires lists { AreReadLists design.now lists.now }
+    requires some { 1 ≤ workers }
+    requires few { workers ≤ 64 }
+    ensures extreme { IfOk result (λ settled. IsExtremeFixpoint direction design.now settled.windows) }
+    ensures rounds { IfOk result (λ settled. (order : List ℕ) → IsOrder design.now.nets order
+        → Settles (record { design = design.now; way = direction; start = start.now })
+        lists.now order workers number settled.windows settled.rounds) }
+    ensures consistent { direction ≡ Narrow → IfOk result (λ settled. (xs : List Transition) → AreConsistent design.now xs
+        → LieWithin (assigned settled.windows) xs) }
+{
+    let _order = design.order();
+    let mut board = MemoryBoard::new(alloc, design, direction, start)?;
+    let mut workers = new_workers(alloc, lists, workers)?;
+    settle_on(
+        alloc,
+        &mut board,
+        workers.as_mut_slice(),
+        design,
+        lists,
+        direction,
+        number,
+    )
+}
