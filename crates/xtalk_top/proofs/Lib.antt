@@ -2,7 +2,6 @@ pub mod Pieces
 pub mod Within
 pub mod Lifts
 pub mod Agreement
-pub mod Turns
 pub mod Arguments
 pub mod Steps
 pub mod Once

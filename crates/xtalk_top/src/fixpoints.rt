@@ -3,8 +3,9 @@ ghost use Rattle.xt_model.specs.declared.direction.Direction.TheVariants.{Narrow
 ghost use Rattle.xt_meaning.specs.Barrier.{IsFittingStart};
 ghost use Rattle.xt_meaning.specs.Fixpoint.{IsLeastFixpoint, IsGreatestFixpoint};
 
-use crate::rounds::settle;
+use chaos_core::settle_picked;
 use envelope::quiet;
+use net_eval::read_lists;
 use std::alloc::{AllocError, Global};
 use xt_model::{Design, Direction, Windows};
 
@@ -15,7 +16,8 @@ pub struct Fixpoints {
     pub high: Windows,
 }
 
-/// Runs twice: wider from windows in which nothing switches, and narrower from `top`, the envelope.
+/// Runs twice, by rounds of one worker: wider from windows in which nothing switches, and narrower from `top`, the
+/// envelope.
 pub fn least_and_greatest(
     alloc: Global,
     design: &Design,
@@ -25,9 +27,12 @@ pub fn least_and_greatest(
     ensures least { IfOk result (λ found. IsLeastFixpoint design.now found.low) }
     ensures greatest { IfOk result (λ found. IsGreatestFixpoint design.now found.high) }
 {
-    let mut low = quiet(alloc, design)?;
-    settle(Direction::Widen, design, &mut low);
-    let mut high = top;
-    settle(Direction::Narrow, design, &mut high);
-    Ok(Fixpoints { low, high })
+    let lists = read_lists(alloc, design)?;
+    let bottom = quiet(alloc, design)?;
+    let low = settle_picked(alloc, design, &lists, Direction::Widen, &bottom, 1, 0)?;
+    let high = settle_picked(alloc, design, &lists, Direction::Narrow, &top, 1, 0)?;
+    Ok(Fixpoints {
+        low: low.windows,
+        high: high.windows,
+    })
 }

@@ -9,7 +9,6 @@ mod grammar;
 mod input;
 mod refusal;
 mod refuse;
-mod rounds;
 mod solve;
 mod top;
 mod words;
