@@ -1,0 +1,7 @@
+pub mod Lists
+pub mod Draws
+pub mod Taps
+pub mod Couples
+pub mod Generated
+pub mod Laws
+pub mod Rows

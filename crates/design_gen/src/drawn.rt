@@ -1,0 +1,113 @@
+//! What is drawn for a generated design.
+
+ghost use Rattle.std.specs.Prelude.{◌≡◌, ◌<◌, ◌≤◌, length, IfOk};
+ghost use Rattle.std.specs.List.{All};
+ghost use Rattle.design_gen.specs.Generated.{given_of, couples_of};
+ghost use Rattle.design_gen.specs.Couples.{couplings_of};
+ghost use Rattle.design_gen.specs.Laws.{IsCount};
+ghost use Rattle.design_gen.specs.Taps.{driver_of, pins, pins_on, place_of};
+
+use crate::couplings::draw_couplings;
+use crate::drivers::{draw_drivers, sources};
+use crate::given::draw_windows;
+use crate::nets::given;
+use crate::sinks::{Sinks, sinks_by_driver};
+use crate::source::Source;
+use std::alloc::{AllocError, Global};
+use std::marker::Model;
+use xt_model::{Coupling, Pair, Quad};
+
+/// What is drawn for the design of a number and a count of nets: the windows of its sources, the nets that its
+/// input pins are tied to, and the couplings of each net.
+#[derive(Drop)]
+pub(crate) struct Drawn {
+    number: u64,
+    nets: u32,
+    windows: Vec<Quad>,
+    drivers: Vec<u32>,
+    sinks: Sinks,
+    couplings: Vec<Vec<Coupling>>,
+}
+
+impl Model for Drawn {
+    ghost use Rattle.std.specs.Prelude.{map};
+    ghost use Rattle.design_gen.specs.Rows.{Seed, AreDrawn};
+
+    ghost Value = { Seed };
+
+    ghost view = { λ d. record { number = d.number; nets = d.nets } };
+
+    ghost invariant = { λ d. AreDrawn d.number d.nets d.windows.items d.drivers.items
+        (map (λ r. r.items) d.sinks.rows.items) d.sinks.places.items (map (λ r. r.items) d.couplings.items) };
+}
+
+impl Drawn {
+    /// Draws the design of this number and this count of nets.
+    pub(crate) fn new(alloc: Global, number: u64, nets: u32) -> Result<Drawn, AllocError>
+        requires { IsCount nets }
+        ensures { IfOk result (λ d. d ≡ record { number = number; nets = nets }) }
+    {
+        let mut source = Source::new(number);
+        let windows = draw_windows(alloc, &mut source, sources(nets))?;
+        let drivers = draw_drivers(alloc, &mut source, number, nets)?;
+        let sinks = sinks_by_driver(alloc, nets, &drivers)?;
+        let couplings = draw_couplings(alloc, &mut source, nets)?;
+        Ok(Drawn {
+            number,
+            nets,
+            windows,
+            drivers,
+            sinks,
+            couplings,
+        })
+    }
+
+    /// How many nets there are.
+    pub(crate) fn nets(&self) -> u32
+        ensures value { result ≡ self.now.nets }
+        ensures count { IsCount result }
+    {
+        self.nets
+    }
+
+    /// What a net is given.
+    pub(crate) fn given(&self, net: u32) -> Pair
+        ensures { result ≡ given_of self.now.number self.now.nets net }
+    {
+        given(&self.windows, net)
+    }
+
+    /// The net that an input pin is tied to.
+    pub(crate) fn driver(&self, pin: u32) -> u32
+        requires { pin < pins self.now.nets }
+        ensures { result ≡ driver_of self.now.number self.now.nets pin }
+    {
+        self.drivers[pin as usize]
+    }
+
+    /// The place of an input pin among the sinks of its driver.
+    pub(crate) fn place(&self, pin: u32) -> u32
+        requires { pin < pins self.now.nets }
+        ensures { result ≡ place_of (driver_of self.now.number self.now.nets) pin }
+    {
+        self.sinks.places[pin as usize]
+    }
+
+    /// The input pins that are tied to a net.
+    pub(crate) fn pins_on(&self, net: u32) -> &[u32]
+        requires { net < self.now.nets }
+        ensures value { result.now ≡ pins_on (driver_of self.now.number self.now.nets) net (pins self.now.nets) }
+        ensures below { All (λ pin. pin < pins self.now.nets) result.now }
+        ensures few { length result.now ≤ pins self.now.nets }
+    {
+        self.sinks.rows[net as usize].as_slice()
+    }
+
+    /// The couplings of a net.
+    pub(crate) fn couplings(&self, net: u32) -> &[Coupling]
+        requires { net < self.now.nets }
+        ensures { result.now ≡ couplings_of net (couples_of self.now.number self.now.nets) }
+    {
+        self.couplings[net as usize].as_slice()
+    }
+}

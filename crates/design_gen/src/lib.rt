@@ -1,0 +1,18 @@
+//! Generated designs: for each number and count of nets one design, which is sound, as work for a run.
+#![tactic(auto)]
+
+mod arcs;
+mod couplings;
+mod design;
+mod drawn;
+mod drivers;
+mod given;
+mod laws;
+mod nets;
+mod rows;
+mod sinks;
+mod source;
+mod tables;
+
+pub use design::generate;
+pub use laws::{generated_is_sound, generated_makes_no_loop};

@@ -1,0 +1,47 @@
+//! The source of numbers that a design is generated from.
+
+ghost use Rattle.std.specs.Prelude.{◌≡◌, ◌<◌};
+ghost use Rattle.design_gen.specs.Draws.{next, answer};
+
+const FACTOR: u128 = 6364136223846793005;
+
+const STEP: u128 = 1442695040888963407;
+
+const MODULUS: u128 = 1 << 64;
+
+const LOWER: u64 = 1 << 33;
+
+/// A linear congruential generator modulo 2^64, of which the upper 31 bits are read.
+#[derive(Drop)]
+pub(crate) struct Source {
+    pub(crate) state: u64,
+}
+
+impl Source {
+    /// The source that starts at this number.
+    pub(crate) fn new(number: u64) -> Source
+        ensures { result.state ≡ number }
+    {
+        Source { state: number }
+    }
+
+    /// Moves the source on.
+    #[tactic(auto, unfolding(crate::specs::Draws::next))]
+    fn step(&mut self)
+        ensures { self.new.state ≡ next self.old.state }
+    {
+        self.state = ((u128::from(self.state) * FACTOR + STEP) % MODULUS) as u64;
+    }
+
+    /// The next number below `most`.
+    #[tactic(auto, unfolding(crate::specs::Draws::answer))]
+    pub(crate) fn draw(&mut self, most: u64) -> u64
+        requires { 0 < most }
+        ensures state { self.new.state ≡ next self.old.state }
+        ensures value { result ≡ answer (next self.old.state) most }
+        ensures below { result < most }
+    {
+        self.step();
+        self.state / LOWER % most
+    }
+}
