@@ -2,3 +2,5 @@ mod Lines
 mod Pieces
 mod Bound
 mod WorkedReports
+mod Picked
+mod Widths

@@ -25,11 +25,11 @@ drop_at xs i x h =
     let within : i < length xs = slice_get_within xs i x h in
     rw (add-one, drop-cons xs i x within, get_or_from_slice_get xs i x x h) refl
 
--- a turn of a loop over xs, where F n gives the text of a list whose first element has number n, and f n the
+-- a turn of a loop over xs, where F n gives the items of a list whose first element has number n, and f n the
 -- part of that element
-pub turn : {X : Type 0} (F : ℕ → List X → List ℕ) (f : ℕ → X → List ℕ)
+pub turn : {X Y : Type 0} (F : ℕ → List X → List Y) (f : ℕ → X → List Y)
     → ((n : ℕ) (x : X) (more : List X) → F n (x ∷ more) ≡ f n x ++ F (n + 1) more)
-    → (xs : List X) (i : ℕ) (x : X) (o p whole : List ℕ) → slice_get xs i ≡ Some x → p ≡ o ++ f i x
+    → (xs : List X) (i : ℕ) (x : X) (o p whole : List Y) → slice_get xs i ≡ Some x → p ≡ o ++ f i x
     → o ++ F i (drop i xs) ≡ whole → p ++ F (i + 1) (drop (i + 1) xs) ≡ whole
 turn F f next xs i x o p whole at e h =
     let opened : F i (drop i xs) ≡ f i x ++ F (i + 1) (drop (i + 1) xs) = ap (F i) (drop_at xs i x at) ∙ next i x (drop (i + 1) xs) in
@@ -40,8 +40,8 @@ pub field_same : (o p a b : List ℕ) (m : ℕ) → a ≡ b → p ≡ o ++ field
 field_same o p a b m w e = rw (← w) e
 
 -- such a loop at its end
-pub turns_end : {X : Type 0} (F : ℕ → List X → List ℕ) → ((n : ℕ) → F n [] ≡ [])
-    → (xs : List X) (i : ℕ) (o whole : List ℕ) → length xs ≤ i → o ++ F i (drop i xs) ≡ whole → o ≡ whole
+pub turns_end : {X Y : Type 0} (F : ℕ → List X → List Y) → ((n : ℕ) → F n [] ≡ [])
+    → (xs : List X) (i : ℕ) (o whole : List Y) → length xs ≤ i → o ++ F i (drop i xs) ≡ whole → o ≡ whole
 turns_end F none xs i o whole past h =
     let left : F i (drop i xs) ≡ [] = at_drop_all (F i) xs i past ∙ none i in
     sym (append-nil o) ∙ (ap (λ t. o ++ t) (sym left) ∙ h)

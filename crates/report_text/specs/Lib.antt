@@ -3,3 +3,4 @@ pub mod Report
 pub mod Fields
 pub mod Kinds
 pub mod Pieces
+pub mod Summary

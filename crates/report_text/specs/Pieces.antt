@@ -10,7 +10,9 @@ use Rattle.xt_model.specs.Parts.{Parts}
 use Rattle.xt_model.specs.Assign.{assigned}
 use Rattle.text_lines.specs.Lines.{line_text, text_of}
 use Rattle.report_text.specs.declared.guilt.Guilt.{Guilt}
+use Rattle.report_text.specs.declared.edge_windows.EdgeWindows.{EdgeWindows}
 use Rattle.report_text.specs.Guilt.{is_guilty, edge_entries}
+use Rattle.report_text.specs.Summary.{can_switch}
 use Rattle.report_text.specs.Report.{window_line, is_unconstrained, guilty_line}
 
 -- the two lines of the windows of the net of this number
@@ -35,3 +37,12 @@ guilty_text d entries = text_of (map (guilty_line d) (filter is_guilty entries))
 abbrev pub edge_text : Parts → List Pair → List Pair → NetId → Edge → Option Net → List ℕ
 edge_text d low high victim e None = []
 edge_text d low high victim e (Some net) = guilty_text d (edge_entries d low high victim e 0 net.couplings)
+
+-- the entries of an edge of a net in which an aggressor can do something
+abbrev pub edge_guilty : Parts → List Pair → List Pair → NetId → Edge → Option Net → List Guilt
+edge_guilty d low high victim e None = []
+edge_guilty d low high victim e (Some net) = filter is_guilty (edge_entries d low high victim e 0 net.couplings)
+
+-- an edge that can switch; another is left out
+abbrev pub switching : EdgeWindows → List EdgeWindows
+switching w = if can_switch w then w ∷ [] else []

@@ -1,0 +1,13 @@
+use Rattle.std.proofs.Common.{refl, ap}
+use Rattle.std.specs.Fmt.{decimal}
+use Rattle.report_text.proofs.Lines.{field_then, field_last}
+use Rattle.report_text.proofs.summary.push_counts.Goals as goal
+
+pub returns : goal.returns
+returns c =
+    field_then _ _ _ _ _ _ _ refl c.in_ok-push_word.ensures
+    (field_then _ _ _ _ _ _ _ refl c.in_ok-push_number.ensures
+    (field_then _ _ _ _ _ _ _ refl c.in_ok-push_word-2.ensures
+    (field_then _ _ _ _ _ _ _ (ap decimal c.wider_count.ensures) c.in_ok-push_number-2.ensures
+    (field_then _ _ _ _ _ _ _ refl c.in_ok-push_word-3.ensures
+    (field_last _ _ _ _ _ refl c.in_ok-push_number-3.ensures)))))

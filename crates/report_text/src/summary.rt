@@ -1,0 +1,116 @@
+//! The summary of a design and its two windows.
+
+ghost use Rattle.std.specs.Prelude.{◌≡◌, ◌++◌, ◌≤◌, ◌^◌, ℕ, [], ◌∷◌, codes, length, OnOk, IfOk};
+ghost use Rattle.xt_model.specs.Levels.{IsDepth, IsPairCount};
+ghost use Rattle.text_lines.specs.Lines.{line_text, text_of};
+ghost use Rattle.report_text.specs.Summary.{count_line, summary, summary_by};
+ghost use Rattle.xt_number.specs.Thousandths.{thousandths};
+
+use crate::edge_windows::{EdgeWindows, live_windows, total_widths, wider_count};
+use crate::entries::guilty_entries;
+use crate::fields::{push_number, push_word};
+use crate::size::push_size;
+use std::alloc::{AllocError, Global};
+use xt_model::{Design, NoMemory, Windows};
+use xt_number::time_text;
+
+/// Appends the name and the version of the format.
+#[tactic(auto, unfolding(crate::specs::Fields::field))]
+fn push_title(out: &mut Vec<u8>) -> Result<(), AllocError>
+    ensures { OnOk result (out.new.items ≡ out.old.items
+        ++ line_text (codes "xtalk" ∷ codes "gen" ∷ codes "1" ∷ [])) }
+{
+    push_word(out, b"xtalk", b' ')?;
+    push_word(out, b"gen", b' ')?;
+    push_word(out, b"1", b'\n')?;
+    Ok(())
+}
+
+/// Appends the line of counts.
+fn push_counts(out: &mut Vec<u8>, edges: &[EdgeWindows], guilty: usize) -> Result<(), AllocError>
+    ensures { OnOk result (out.new.items ≡ out.old.items ++ line_text (count_line edges.now guilty)) }
+{
+    push_word(out, b"live", b' ')?;
+    push_number(out, edges.len(), b' ')?;
+    push_word(out, b"wider", b' ')?;
+    push_number(out, wider_count(edges), b' ')?;
+    push_word(out, b"guilty", b' ')?;
+    push_number(out, guilty, b'\n')?;
+    Ok(())
+}
+
+/// Appends a line of a word and a time, given in fs, in ps.
+#[tactic(auto, unfolding(crate::specs::Fields::field))]
+fn push_total(out: &mut Vec<u8>, word: &[u8], time: i128) -> Result<(), AllocError>
+    ensures { OnOk result (out.new.items ≡ out.old.items ++ line_text (word.now ∷ thousandths time ∷ [])) }
+{
+    push_word(out, word, b' ')?;
+    push_word(out, time_text(time).bytes(), b'\n')?;
+    Ok(())
+}
+
+/// Appends all lines: `pairs` of coupled nets, and `levels`.
+fn push_summary(
+    out: &mut Vec<u8>,
+    design: &Design,
+    pairs: u64,
+    levels: u32,
+    edges: &[EdgeWindows],
+    guilty: usize,
+) -> Result<(), AllocError>
+    requires pairs { IsPairCount design.now.nets pairs }
+    requires levels { IsDepth design.now.nets levels }
+    requires few { length edges.now ≤ 2 ^ 32 }
+    ensures { OnOk result (out.new.items
+        ≡ out.old.items ++ text_of (summary_by design.now pairs levels edges.now guilty)) }
+{
+    let widths = total_widths(edges);
+    push_title(out)?;
+    push_size(out, design, pairs, levels)?;
+    push_counts(out, edges, guilty)?;
+    push_total(out, b"least", widths.least)?;
+    push_total(out, b"greatest", widths.greatest)?;
+    push_word(out, b"end", b'\n')?;
+    Ok(())
+}
+
+/// The text of the summary.
+fn summary_text(
+    alloc: Global,
+    design: &Design,
+    low: &Windows,
+    high: &Windows,
+) -> Result<Vec<u8>, AllocError>
+    requires low { length low.now ≡ length design.now.nets }
+    requires high { length high.now ≡ length design.now.nets }
+    ensures { IfOk result (λ text. (pairs : ℕ) × (depth : ℕ)
+        × IsPairCount design.now.nets pairs × IsDepth design.now.nets depth
+        × (text.items ≡ text_of (summary design.now pairs depth low.now high.now))) }
+{
+    let edges = live_windows(alloc, design, low, high)?;
+    let guilty = guilty_entries(alloc, design, low, high)?.len();
+    let mut out = Vec::new(alloc);
+    let (pairs, levels) = (design.pairs(), design.levels());
+    push_summary(&mut out, design, pairs, levels, &edges, guilty)?;
+    Ok(out)
+}
+
+/// The summary of a design and of its least and greatest windows, one pair a net, as text in lines. Takes time and
+/// memory in proportion to the nets and the couplings.
+pub fn write_summary(
+    alloc: Global,
+    design: &Design,
+    low: &Windows,
+    high: &Windows,
+) -> Result<Vec<u8>, NoMemory>
+    requires low { length low.now ≡ length design.now.nets }
+    requires high { length high.now ≡ length design.now.nets }
+    ensures { IfOk result (λ text. (pairs : ℕ) × (depth : ℕ)
+        × IsPairCount design.now.nets pairs × IsDepth design.now.nets depth
+        × (text.items ≡ text_of (summary design.now pairs depth low.now high.now))) }
+{
+    match summary_text(alloc, design, low, high) {
+        Ok(text) => Ok(text),
+        Err(_) => Err(NoMemory),
+    }
+}
