@@ -1,2 +1,2 @@
 pub mod ByForms
-mod NameLaws
+pub mod NameLaws

@@ -1,0 +1,6 @@
+pub mod Names
+pub mod Kinds
+pub mod Timings
+pub mod Pins
+pub mod Cells
+pub mod Library

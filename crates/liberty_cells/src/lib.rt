@@ -1,0 +1,20 @@
+//! What a Liberty text means (Liberty reference manual): the units, tables, cells, pins and timing groups of a library.
+#![tactic(auto)]
+
+mod cell;
+mod cells;
+mod kinds;
+mod library;
+mod names;
+mod pin;
+mod pins;
+mod reading;
+mod timing;
+mod timings;
+mod values;
+
+pub use cell::Cell;
+pub use library::Library;
+pub use pin::{Pin, Role};
+pub use reading::read_library;
+pub use timing::{Sense, Timing, TimingKind};

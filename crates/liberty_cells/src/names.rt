@@ -1,0 +1,102 @@
+//! Names of cells and pins.
+
+ghost use Rattle.std.specs.Prelude.{◌≡◌, List, ℕ, not, map, IfOk, OnOk};
+ghost use Rattle.text_forms.specs.Names.{has_name, with_name};
+ghost use Rattle.liberty_groups.specs.View.{Gives};
+ghost use Rattle.liberty_tables.specs.Contents.{content, names_in};
+ghost use Rattle.liberty_cells.specs.Names.{some_names};
+
+use indexmap::IndexSet;
+use liberty_groups::Span;
+use liberty_tables::{content, first_item, is_name};
+use std::alloc::{AllocError, Global};
+use std::marker::Model;
+use xt_lex::TextFault;
+use xt_model::{Code, Name};
+
+/// Names that were seen, with their own bytes; contracts see the list of these. A look-up is by hash.
+#[derive(Drop)]
+pub struct SeenNames {
+    set: IndexSet<Vec<u8>>,
+}
+
+impl Model for SeenNames {
+    ghost Value = { List (List ℕ) };
+
+    ghost view = { λ n. map (λ k. k.items) n.set.keys };
+}
+
+impl SeenNames {
+    ghost use Rattle.std.specs.Prelude.{[]};
+
+    /// No name.
+    pub fn new(alloc: Global) -> SeenNames
+        ensures { result ≡ [] }
+    {
+        SeenNames {
+            set: IndexSet::new(alloc),
+        }
+    }
+
+    /// Whether the name is seen for the first time; it has been seen from then on.
+    pub fn enter(&mut self, alloc: Global, name: &[u8]) -> Result<bool, AllocError>
+        ensures fresh { IfOk result (λ fresh. fresh ≡ not (has_name name.now self.old)) }
+        ensures entered { OnOk result (self.new ≡ with_name name.now self.old) }
+    {
+        let kept = Vec::from_slice(alloc, name)?;
+        let (_, fresh) = self.set.insert_full(kept)?;
+        Ok(fresh)
+    }
+}
+
+/// The names of a group by its arguments: one at least.
+pub fn names_of_group(
+    alloc: Global,
+    bytes: &[u8],
+    line: u32,
+    args: &[Span],
+) -> Result<Vec<Name>, TextFault>
+    ensures { Gives (λ names. names.items) result (some_names line (map (content bytes.now) args.now)) }
+{
+    let refused = TextFault::Refused {
+        line,
+        code: Code::L1,
+    };
+    let mut names = Vec::new(alloc);
+    let mut rest = args;
+    'names: while let Some((arg, more)) = rest.split_first() {
+        let name = content(alloc, bytes, *arg)?;
+        if !is_name(name.as_slice()) {
+            return Err(refused);
+        }
+        names.push(Name::new(name))?;
+        rest = more;
+    }
+    if names.is_empty() {
+        return Err(refused);
+    }
+    Ok(names)
+}
+
+/// The names in a string, which white space separates: one at least.
+pub fn names_of_string(alloc: Global, line: u32, text: &[u8]) -> Result<Vec<Name>, TextFault>
+    ensures { Gives (λ names. names.items) result (some_names line (names_in text.now)) }
+{
+    let refused = TextFault::Refused {
+        line,
+        code: Code::L1,
+    };
+    let mut names = Vec::new(alloc);
+    let mut rest = text;
+    'items: while let Some((name, more)) = first_item(false, rest) {
+        if !is_name(name) {
+            return Err(refused);
+        }
+        names.push(Name::new(Vec::from_slice(alloc, name)?))?;
+        rest = more;
+    }
+    if names.is_empty() {
+        return Err(refused);
+    }
+    Ok(names)
+}

@@ -1,0 +1,49 @@
+//! From the bytes of a library to its cells and tables.
+
+ghost use Rattle.std.specs.Prelude.{◌≤◌, length};
+ghost use Rattle.liberty_groups.specs.Trees.{tree_of};
+ghost use Rattle.liberty_groups.specs.View.{Gives};
+ghost use Rattle.liberty_cells.specs.Library.{library_in, library_meant};
+
+use crate::cells::cells_of;
+use crate::library::Library;
+use liberty_groups::{Group, read_groups};
+use liberty_tables::{templates_of, units_of};
+use std::alloc::Global;
+use xt_lex::{MOST_BYTES, TextFault};
+use xt_model::Row;
+
+/// What the groups of a library mean.
+#[tactic(auto, unfolding(crate::specs::Library::library_in))]
+fn library_in(alloc: Global, bytes: &[u8], group: &Group) -> Result<Library, TextFault>
+    ensures { Gives (λ library. library) result (library_in bytes.now (tree_of group.now)) }
+{
+    let scales = units_of(alloc, bytes, group)?;
+    let templates = templates_of(alloc, bytes, scales, group)?;
+    let mut tables = Vec::new(alloc);
+    let cells = cells_of(alloc, bytes, scales, &templates, group, &mut tables)?;
+    Ok(Library {
+        time_scale: scales.time,
+        cap_scale: scales.cap,
+        tables: Row::from_vec(tables),
+        cells,
+    })
+}
+
+/// The library that a Liberty text means, or its first refusal: that of its groups, then in the order of the passes, which
+/// go over the units, the templates and the cells. The line is that of the first word of an attribute or of a group.
+///
+/// `L1` and `L2` are those of `read_groups`; `L1` is also a name of a cell, a template, a pin or a related pin that is
+/// missing, empty, longer than 1,024 bytes or not printable, or stands beside another where one is wanted. `L3` is a
+/// number that is refused, or a capacitance that is not one number or below 0; `L4` a timing group without related pins
+/// or with a delay but no slew, or a slew but no delay, or a table that does not fit; `L5` an index that does not
+/// increase; `L6` a template that is not known; `L7` a cell's name that stands twice; `L8` an unknown unit. Takes time and
+/// memory linear in the bytes.
+#[tactic(auto, unfolding(crate::specs::Library::library_meant))]
+pub fn read_library(alloc: Global, bytes: &[u8]) -> Result<Library, TextFault>
+    requires { length bytes.now ≤ MOST_BYTES }
+    ensures { Gives (λ library. library) result (library_meant bytes.now) }
+{
+    let group = read_groups(alloc, bytes)?;
+    library_in(alloc, bytes, &group)
+}

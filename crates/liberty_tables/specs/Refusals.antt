@@ -1,0 +1,38 @@
+-- Refusals in the order in which they are met.
+use Rattle.std.specs.Prelude.{ℕ, nat_le, List, [], ◌∷◌, Option, Some, None, Result, Ok, Err, if◌then◌else◌}
+use Rattle.text_forms.specs.Forms.{Refusal}
+use Rattle.xt_model.specs.declared.code.Code.{Code}
+
+-- a value, or the refusal of the text
+abbrev pub Meant : Type 0 → Type 0
+Meant A = Result A (Refusal Code)
+
+-- the text is refused at a line by a code
+abbrev pub refuse : {A : Type 0} → ℕ → Code → Meant A
+refuse line code = Err (record { line = line; code = code })
+
+infixl 10 ◌>>=◌
+-- what comes behind a value is met where that is not refused
+abbrev pub ◌>>=◌ : {A B : Type 0} → Meant A → (A → Meant B) → Meant B
+(Ok x) >>= f = f x
+(Err r) >>= f = Err r
+
+-- the lesser of two lines
+abbrev pub lesser : ℕ → ℕ → ℕ
+lesser line other = if nat_le line other then line else other
+
+-- of two faults of one code, where they stand, the earlier
+abbrev pub earlier : Option ℕ → Option ℕ → Option ℕ
+earlier None other = other
+earlier (Some line) None = Some line
+earlier (Some line) (Some other) = Some (lesser line other)
+
+-- a fault of a code comes before what else is meant
+abbrev pub unless_at : {A : Type 0} → Code → Option ℕ → Meant A → Meant A
+unless_at code None meant = meant
+unless_at code (Some line) meant = refuse line code
+
+-- each item in turn changes a state, up to the first refusal
+abbrev pub over : {A S : Type 0} → (A → S → Meant S) → List A → S → Meant S
+over f [] s = Ok s
+over f (x ∷ xs) s = f x s >>= over f xs

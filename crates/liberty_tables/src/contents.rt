@@ -1,0 +1,74 @@
+//! The bytes of a Liberty text: words, strings, and what they hold.
+
+ghost use Rattle.std.specs.Prelude.{◌≡◌, IfOk, map, option_map, false};
+ghost use Rattle.liberty_tables.specs.Contents.{text_in, unquoted, held_by, content};
+ghost use Rattle.liberty_tables.specs.Search.{only};
+
+use liberty_groups::Span;
+use std::alloc::{AllocError, Global};
+
+/// The bytes at a place of a text.
+pub fn text_in(bytes: &[u8], span: Span) -> &[u8]
+    ensures { result.now ≡ text_in bytes.now span }
+{
+    if span.from <= span.to && span.to as usize <= bytes.len() {
+        &bytes[span.from as usize..span.to as usize]
+    } else {
+        b""
+    }
+}
+
+/// What a string holds, by the bytes behind its opening quote.
+fn unquoted(alloc: Global, string: &[u8]) -> Result<Vec<u8>, AllocError>
+    ensures { IfOk result (λ held. held.items ≡ unquoted false string.now) }
+{
+    let mut held = Vec::new(alloc);
+    let mut kept = false;
+    let mut rest = string;
+    'bytes: while let [byte, more @ ..] = rest {
+        if kept {
+            held.push(if *byte == b'\n' { b' ' } else { *byte })?;
+            kept = false;
+        } else if *byte == b'"' {
+            return Ok(held);
+        } else if *byte == b'\\' {
+            kept = true;
+        } else {
+            held.push(*byte)?;
+        }
+        rest = more;
+    }
+    Ok(held)
+}
+
+/// What a word or a string holds.
+#[tactic(auto, unfolding(crate::specs::Contents::held_by))]
+fn held_by(alloc: Global, bytes: &[u8]) -> Result<Vec<u8>, AllocError>
+    ensures { IfOk result (λ held. held.items ≡ held_by bytes.now) }
+{
+    match bytes {
+        [b'"', more @ ..] => unquoted(alloc, more),
+        _ => {
+            let mut held = Vec::new(alloc);
+            held.extend_from_slice(bytes)?;
+            Ok(held)
+        }
+    }
+}
+
+/// What the word or the string at a place holds.
+pub fn content(alloc: Global, bytes: &[u8], span: Span) -> Result<Vec<u8>, AllocError>
+    ensures { IfOk result (λ held. held.items ≡ content bytes.now span) }
+{
+    held_by(alloc, text_in(bytes, span))
+}
+
+/// What the only one of some values holds.
+pub fn only(alloc: Global, bytes: &[u8], values: &[Span]) -> Result<Option<Vec<u8>>, AllocError>
+    ensures { IfOk result (λ one. option_map (λ held. held.items) one ≡ only (map (content bytes.now) values.now)) }
+{
+    match values {
+        [value] => Ok(Some(content(alloc, bytes, *value)?)),
+        _ => Ok(None),
+    }
+}
