@@ -9,7 +9,7 @@ use Rattle.std.proofs.lemmas.List.{length-append, length_push}
 use Rattle.std.proofs.lemmas.List.Elements.{All-nil, All-cons, All-head, All-tail}
 use Rattle.xt_model.specs.declared.net.Coupling.{Coupling}
 use Rattle.xt_model.specs.Sound.{coupling_sum}
-use Rattle.design_gen.specs.Draws.{next, answer}
+use Rattle.drawn_numbers.specs.Draws.{next, answer}
 use Rattle.design_gen.specs.Couples.{Couple, coupling, coupling_of, couplings_of, has_room, with_couple, paired, coupled}
 use Rattle.design_gen.proofs.Sums.{true_or_false, is_same, not_same, sum_to, sum_to_most, sum_to_two, sum_to_none, hit, sum_hit}
 

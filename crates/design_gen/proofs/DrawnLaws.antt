@@ -8,7 +8,7 @@ use Rattle.std.proofs.lemmas.Option.{slice_get_past}
 use Rattle.xt_model.specs.declared.quad.Quad.{Quad}
 use Rattle.xt_model.specs.Quads.{bottom}
 use Rattle.xt_model.specs.declared.net.Coupling.{Coupling}
-use Rattle.design_gen.specs.Draws.{after, drawn}
+use Rattle.drawn_numbers.specs.Draws.{after, drawn}
 use Rattle.design_gen.specs.Couples.{coupled}
 use Rattle.design_gen.specs.Lists.{each_below}
 use Rattle.design_gen.specs.Laws.{IsCount}

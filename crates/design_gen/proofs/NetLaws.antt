@@ -20,7 +20,7 @@ use Rattle.xt_model.specs.Quads.{bottom}
 use Rattle.xt_model.specs.Names.{IsName}
 use Rattle.xt_model.specs.Tables.{IsTable, IsTableNumber, IsIndex}
 use Rattle.xt_model.specs.Sound.{IsConstraint, IsGiven, LeavesGiven, IsProduct, IsSoundCoupling, IsSoundSink, IsSoundArc, HasSink, IsSoundNet}
-use Rattle.design_gen.specs.Draws.{drawn}
+use Rattle.drawn_numbers.specs.Draws.{drawn}
 use Rattle.design_gen.specs.Taps.{sources, pins, net_of_pin, driver_of, pins_on, place_of}
 use Rattle.design_gen.specs.Couples.{couplings_of}
 use Rattle.design_gen.specs.Generated.{delays, slews, window_by, both_edges, net_name, pin_name, load_by, sink_of, arc_of, arcs_of_pin, arcs_of, couples_of, generated_net, generated}

@@ -3,7 +3,7 @@ use Rattle.std.proofs.Common.{◌≡◌, ℕ, zero, suc, ◌+◌, ◌*◌, ◌-�
 use Rattle.std.specs.Prelude.{◌==◌, if◌then◌else◌, min}
 use Rattle.std.proofs.lemmas.Bool.{cases_lt}
 use Rattle.std.proofs.lemmas.List.{length_push}
-use Rattle.design_gen.specs.Draws.{next, answer, after}
+use Rattle.drawn_numbers.specs.Draws.{next, answer, after}
 use Rattle.design_gen.specs.Lists.{each_below}
 use Rattle.design_gen.specs.Taps.{sources, pins, net_of_pin, driver_of, pins_on, place_of}
 use Rattle.design_gen.proofs.Sums.{same_itself, sum_to, sum_to_most, sum_to_two, sum_to_none, hit, sum_hit}

@@ -2,7 +2,7 @@
 use Rattle.std.specs.Prelude.{ℕ, ◌+◌, zero, suc, Bool, ◌==◌, nat_lt, ◌&&◌, if◌then◌else◌}
 use Rattle.std.specs.Prelude.{pos, List, [], ◌∷◌, ◌++◌, length}
 use Rattle.xt_model.specs.declared.net.Coupling.{Coupling}
-use Rattle.design_gen.specs.Draws.{next, answer}
+use Rattle.drawn_numbers.specs.Draws.{next, answer}
 
 -- a capacitor between two nets, in aF
 pub record Couple : Type 0 where

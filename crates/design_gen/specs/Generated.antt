@@ -12,7 +12,7 @@ use Rattle.xt_model.specs.declared.net.Net.{Net}
 use Rattle.xt_model.specs.Quads.{bottom}
 use Rattle.xt_model.specs.Parts.{Parts, classical_parts}
 use Rattle.xt_model.specs.Tables.{TableParts}
-use Rattle.design_gen.specs.Draws.{after, drawn}
+use Rattle.drawn_numbers.specs.Draws.{after, drawn}
 use Rattle.design_gen.specs.Lists.{each_below}
 use Rattle.design_gen.specs.Taps.{sources, pins, net_of_pin, driver_of, pins_on, place_of}
 use Rattle.design_gen.specs.Couples.{Couple, couplings_of, coupled}

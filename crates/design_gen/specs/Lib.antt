@@ -1,5 +1,4 @@
 pub mod Lists
-pub mod Draws
 pub mod Taps
 pub mod Couples
 pub mod Generated

@@ -3,7 +3,7 @@ use Rattle.std.specs.Prelude.{◌≡◌, ℕ, ◌<◌, List, [], length, get_or}
 use Rattle.xt_model.specs.declared.net.Coupling.{Coupling}
 use Rattle.design_gen.specs.Couples.{Couple, couplings_of, Coupled}
 use Rattle.xt_model.specs.declared.quad.Quad.{Quad}
-use Rattle.design_gen.specs.Draws.{drawn}
+use Rattle.drawn_numbers.specs.Draws.{drawn}
 use Rattle.design_gen.specs.Lists.{each_below}
 use Rattle.design_gen.specs.Taps.{sources, pins, driver_of, pins_on, place_of}
 use Rattle.design_gen.specs.Generated.{window_by, couples_of}

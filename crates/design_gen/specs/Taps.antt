@@ -2,7 +2,7 @@
 -- each, so input pins are numbered net by net, pin A before pin B.
 use Rattle.std.specs.Prelude.{ℕ, ◌+◌, ◌*◌, ◌-◌, ◌/◌, zero, suc, min, max, ◌==◌, if◌then◌else◌, List, [], ◌∷◌, ◌++◌}
 use Rattle.std.specs.Prelude.{length}
-use Rattle.design_gen.specs.Draws.{drawn}
+use Rattle.drawn_numbers.specs.Draws.{drawn}
 
 -- a tenth of the nets are sources, and at least one
 abbrev pub sources : ℕ → ℕ

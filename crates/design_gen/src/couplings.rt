@@ -6,7 +6,7 @@ ghost use Rattle.design_gen.specs.Laws.{IsCount};
 ghost use Rattle.design_gen.specs.Rows.{HoldCouplings, IsCoupledAt};
 
 use crate::rows::{empty_couplings, push_coupling};
-use crate::source::Source;
+use drawn_numbers::Source;
 use std::alloc::{AllocError, Global};
 use xt_model::{Coupling, NetId};
 

@@ -12,7 +12,7 @@ use crate::drivers::{draw_drivers, sources};
 use crate::given::draw_windows;
 use crate::nets::given;
 use crate::sinks::{Sinks, sinks_by_driver};
-use crate::source::Source;
+use drawn_numbers::Source;
 use std::alloc::{AllocError, Global};
 use std::marker::Model;
 use xt_model::{Coupling, Pair, Quad};

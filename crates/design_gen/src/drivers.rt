@@ -1,12 +1,12 @@
 //! The nets that the input pins of a generated design are tied to.
 
 ghost use Rattle.std.specs.Prelude.{◌≡◌, ◌+◌, ◌-◌, ◌<◌, min, IfOk, OnOk};
-ghost use Rattle.design_gen.specs.Draws.{after, answer, next};
+ghost use Rattle.drawn_numbers.specs.Draws.{after, answer, next};
 ghost use Rattle.design_gen.specs.Laws.{IsCount};
 ghost use Rattle.design_gen.specs.Taps.{sources, pins, net_of_pin, driver_of};
 ghost use Rattle.design_gen.specs.Lists.{each_below};
 
-use crate::source::Source;
+use drawn_numbers::Source;
 use std::alloc::{AllocError, Global};
 
 /// A tenth of the nets are sources, and at least one.

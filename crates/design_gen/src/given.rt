@@ -1,11 +1,11 @@
 //! What the sources of a generated design are given.
 
 ghost use Rattle.std.specs.Prelude.{◌≡◌, ◌<◌, IfOk, OnOk};
-ghost use Rattle.design_gen.specs.Draws.{after, drawn};
+ghost use Rattle.drawn_numbers.specs.Draws.{after, drawn};
 ghost use Rattle.design_gen.specs.Generated.{window_by};
 ghost use Rattle.design_gen.specs.Lists.{each_below};
 
-use crate::source::Source;
+use drawn_numbers::Source;
 use std::alloc::{AllocError, Global};
 use xt_model::Quad;
 

@@ -11,7 +11,6 @@ mod laws;
 mod nets;
 mod rows;
 mod sinks;
-mod source;
 mod tables;
 
 pub use design::generate;

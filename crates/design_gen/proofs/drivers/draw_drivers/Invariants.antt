@@ -1,5 +1,5 @@
 use Rattle.std.proofs.Common.{◌≡◌, ◌+◌}
-use Rattle.design_gen.specs.Draws.{after}
+use Rattle.drawn_numbers.specs.Draws.{after}
 use Rattle.design_gen.specs.Taps.{sources, driver_of}
 use Rattle.design_gen.specs.Lists.{each_below}
 use Rattle.design_gen.proofs.drivers.draw_drivers.Given as goal

@@ -1,5 +1,5 @@
 use Rattle.std.proofs.Common.{◌≡◌}
-use Rattle.design_gen.specs.Draws.{after, drawn}
+use Rattle.drawn_numbers.specs.Draws.{after, drawn}
 use Rattle.design_gen.specs.Generated.{window_by}
 use Rattle.design_gen.specs.Lists.{each_below}
 use Rattle.design_gen.proofs.given.draw_windows.Given as goal

@@ -2,7 +2,7 @@ use Rattle.std.proofs.Common.{◌≡◌, ap, ◌∙◌, subst}
 use Rattle.std.specs.Prelude.{unwrap_or}
 use Rattle.std.specs.List.{slice_get}
 use Rattle.xt_model.specs.Quads.{bottom}
-use Rattle.design_gen.specs.Draws.{drawn}
+use Rattle.drawn_numbers.specs.Draws.{drawn}
 use Rattle.design_gen.specs.Taps.{sources}
 use Rattle.design_gen.specs.Generated.{window_by, both_edges, given_of}
 use Rattle.design_gen.specs.Rows.{Seed}
