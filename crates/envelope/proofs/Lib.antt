@@ -1,4 +1,4 @@
-pub mod Firsts
-pub mod Agreement
+mod Firsts
+mod Agreement
 pub mod Turns
 pub mod Labels

@@ -1,2 +1,2 @@
-pub mod Periods
+mod Periods
 pub mod Sums

@@ -4,14 +4,14 @@ use Rattle.std.specs.Prelude.{Some}
 use Rattle.std.specs.Int.{int_max}
 use Rattle.std.specs.Int.Signed.{mag}
 use Rattle.std.specs.List.{slice_get, fold}
-use Rattle.std.proofs.lemmas.Int.{ints, clamps}
+use Rattle.std.proofs.lemmas.Int.{ints}
 use Rattle.std.proofs.lemmas.Option.{slice_get_read}
 use Rattle.std.proofs.lemmas.List.Elements.{All-weaker}
 use Rattle.xt_model.specs.declared.edge.Edge.{Edge}
 use Rattle.xt_model.specs.declared.quad.Quad.{Quad}
 use Rattle.xt_model.specs.declared.net.Net.{Net}
 use Rattle.xt_model.specs.declared.net.TimingArc.{TimingArc}
-use Rattle.xt_model.specs.Quads.{bottom, IsInRange, join_of}
+use Rattle.xt_model.specs.Quads.{bottom}
 use Rattle.xt_model.specs.Tables.{TableParts, IsTableNumber}
 use Rattle.xt_model.specs.Parts.{Parts}
 use Rattle.xt_model.specs.Miller.{IsMiller}
@@ -48,22 +48,6 @@ pub contribution_is : (d : Parts) (a : TimingArc) (q : Quad) (w l : Range) (t u 
     → ◌≡◌ {A = Quad} (record { tlo = tlo; thi = thi; slo = slo; shi = shi }) (contribution_by d a q w l)
 contribution_is d a q w l t u s0 s1 d0 d1 tlo thi slo shi t_is u_is s0_is s1_is d0_is d1_is slo_is shi_is tlo_is thi_is =
     rw (t_is, u_is, tlo_is, thi_is, slo_is, shi_is, d0_is, d1_is, s0_is, s1_is) refl
-
-pub join_in_range : (q r : Quad) → IsInRange q → IsInRange r → IsInRange (join_of q r)
-join_in_range q r h k = record {
-  tlo = record { low = omega (arith, ints, clamps, h.tlo.low, k.tlo.low); high = omega (arith, ints, clamps, h.tlo.high, k.tlo.high) };
-  thi = record { low = omega (arith, ints, clamps, h.thi.low, k.thi.low); high = omega (arith, ints, clamps, h.thi.high, k.thi.high) };
-  slo = record { low = omega (arith, ints, clamps, h.slo.low, k.slo.low); high = omega (arith, ints, clamps, h.slo.high, k.slo.high) };
-  shi = record { low = omega (arith, ints, clamps, h.shi.low, k.shi.low); high = omega (arith, ints, clamps, h.shi.high, k.shi.high) };
-}
-
-pub bottom_in_range : IsInRange bottom
-bottom_in_range = record {
-  tlo = record { low = omega (arith, ints); high = omega (arith, ints) };
-  thi = record { low = omega (arith, ints); high = omega (arith, ints) };
-  slo = record { low = omega (arith, ints); high = omega (arith, ints) };
-  shi = record { low = omega (arith, ints); high = omega (arith, ints) };
-}
 
 -- the couplings of a sound net take nothing away
 pub sound_wired : (d : Parts) (own : ℕ) (n : Net) → IsSoundNet d own n → IsWired n

@@ -1,5 +1,5 @@
-pub mod Contributions
+mod Contributions
 pub mod Rooms
-pub mod Nets
+mod Nets
 pub mod Steady
-pub mod Looks
+mod Looks

@@ -16,6 +16,7 @@ use Rattle.xt_model.specs.Sound.{IsSoundNet, IsGiven}
 use Rattle.xt_model.specs.Assign.{quads_of}
 use Rattle.xt_meaning.specs.Operator.{Range, wire_range, arcs_quad, operator_by}
 use Rattle.xt_meaning.specs.Reads.{HoldsOfReads, HoldsOfArcReads}
+use Rattle.xt_meaning.proofs.Starts.{bottom_in_range}
 use Rattle.miller_bits.specs.declared.overlaps.Overlaps.{Overlaps}
 use Rattle.miller_bits.specs.Victims.{VictimEdge, victim_of}
 use Rattle.miller_bits.specs.Views.{HasNet, HasVictim, answers_by}
@@ -23,7 +24,6 @@ use Rattle.miller_bits.proofs.Sums.{found, held}
 use Rattle.net_eval.specs.Arcs.{joined, load_in, wire_of, with_arc_at}
 use Rattle.net_eval.specs.Room.{FitsWire}
 use Rattle.net_eval.specs.Scenes.{Scene, operator_in, pair_in, scene_of, IsReady}
-use Rattle.net_eval.proofs.Contributions.{bottom_in_range}
 
 arcs_is : (s : Scene) (n : ℕ) (net : Net) (e : Edge) (arcs : List TimingArc) → 0 < length arcs
     → arcs_quad s.design s.answers s.windows n net e arcs ≡ fold (with_arc_at s e (load_in s n e net)) bottom arcs

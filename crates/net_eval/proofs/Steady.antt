@@ -19,6 +19,7 @@ use Rattle.xt_meaning.specs.Reads.{HoldsOfEnds, HoldsOfArcReads, HoldsOfReads}
 use Rattle.xt_meaning.specs.Fixpoint.{IsContained}
 use Rattle.xt_meaning.specs.Barrier.{IsWithinEnvelope}
 use Rattle.xt_meaning.proofs.Order.{within_refl, within_antisym}
+use Rattle.xt_meaning.proofs.Extremes.{same_pair}
 use Rattle.xt_meaning.proofs.Growth.{wired}
 use Rattle.xt_meaning.proofs.Monotone.{operator_mono}
 use Rattle.xt_meaning.proofs.Words.{quads_of_words}
@@ -83,9 +84,6 @@ operator_of_words d v n e s =
 
       back : IsContained (assigned v) (quads_of (words_of (assigned v)))
       back = record { each = λ m f. let P : Quad → Type 0 = λ q. IsWithin (assigned v m f) q in subst P (sym (quads_of_words (assigned v) m f)) (within_refl (assigned v m f)) }
-
-same_pair : (p q : Pair) → p.rise ≡ q.rise → p.fall ≡ q.fall → p ≡ q
-same_pair p q h k = let e : ◌≡◌ {A = Pair} (record { rise = p.rise; fall = p.fall }) (record { rise = q.rise; fall = q.fall }) = rw (h, k) refl in e
 
 assigned_at : (v : List Pair) (n : ℕ) (p : Pair) (e : Edge) → slice_get v n ≡ Some p → assigned v n e ≡ quad_at p e
 assigned_at v n p e there = rw there refl

@@ -23,7 +23,8 @@ use Rattle.xt_meaning.specs.Fixpoint.{IsWindows, IsContained, IsGreatestFixpoint
 use Rattle.xt_meaning.specs.Envelope.{IsWidest, IsEnvelope}
 use Rattle.xt_meaning.proofs.Order.{within_trans, within_refl, join_left, join_most, both_true, true_both, live_mono}
 use Rattle.xt_meaning.proofs.Growth.{wired}
-use Rattle.xt_meaning.proofs.Starts.{bottom_in_range, windows_in_range, bottom_within_operator}
+use Rattle.xt_meaning.proofs.Listed.{listed, length-listed, listed_inside, listed_past, listed_in_range}
+use Rattle.xt_meaning.proofs.Starts.{bottom_in_range, join_in_range, windows_in_range, bottom_within_operator}
 use Rattle.transitions.specs.Transitions.{Transition, IsExplainedBy, IsExplained, AreConsistent}
 use Rattle.transitions.specs.Laws.{LiesInLive, LieWithin}
 use Rattle.transitions.proofs.Cells.{point, point_live, lies_from_within, within_from_lies}
@@ -97,14 +98,6 @@ hull_most (x ∷ more) V n e above each =
     subst Q (from_same_edge x.edge e p.1) (subst P (from_same_number x.net n p.0) (All-head (λ y. IsWithin (point y) (V y.net y.edge)) x more each)))
 
 -- ---- words can hold it
-bound_join_least : (q r : Quad) → IsInRange q → IsInRange r → IsInRange (join_of q r)
-bound_join_least q r a b = record {
-  tlo = record { low = omega (arith, ints, clamps, a.tlo.low, b.tlo.low); high = omega (arith, ints, clamps, a.tlo.high, b.tlo.high) };
-  thi = record { low = omega (arith, ints, clamps, a.thi.low, b.thi.low); high = omega (arith, ints, clamps, a.thi.high, b.thi.high) };
-  slo = record { low = omega (arith, ints, clamps, a.slo.low, b.slo.low); high = omega (arith, ints, clamps, a.slo.high, b.slo.high) };
-  shi = record { low = omega (arith, ints, clamps, a.shi.low, b.shi.low); high = omega (arith, ints, clamps, a.shi.high, b.shi.high) };
-}
-
 point_in_range : (x : Transition) (q : Quad) → IsInRange q → IsWithin (point x) q → IsInRange (point x)
 point_in_range x q r w =
     let time : IsBound x.time = record { low = omega (arith, ints, r.tlo.low, w.tlo); high = omega (arith, ints, r.thi.high, w.thi) } in
@@ -112,7 +105,7 @@ point_in_range x q r w =
     record { tlo = time; thi = time; slo = slew; shi = slew }
 
 chosen_in_range : (t : Bool) (q r : Quad) → IsInRange q → IsInRange r → IsInRange (if t then join_of q r else q)
-chosen_in_range true q r a b = bound_join_least q r a b
+chosen_in_range true q r a b = join_in_range q r a b
 chosen_in_range false q r a b = a
 
 hull_in_range : (xs : List Transition) → All (λ x. IsInRange (point x)) xs → (n : ℕ) (e : Edge) → IsInRange (hull xs n e)
@@ -121,38 +114,7 @@ hull_in_range [] each n e = bottom_in_range
 hull_in_range (x ∷ more) each n e =
     chosen_in_range (is_at x n e) (hull more n e) (point x) (hull_in_range more (All-tail (λ y. IsInRange (point y)) x more each) n e) (All-head (λ y. IsInRange (point y)) x more each)
 
--- ---- as a list of windows, from net number `start` on
-listed : Assignment → ℕ → ℕ → List Pair
-listed W start zero = []
-listed W start (suc count) = record { rise = W start Rise; fall = W start Fall } ∷ listed W (suc start) count
-
-length-listed : (W : Assignment) (start count : ℕ) → length (listed W start count) ≡ count
-unfolding listed
-length-listed W start zero = refl
-length-listed W start (suc count) = let h = length-listed W (suc start) count in omega arith
-
-listed_inside : (W : Assignment) (start count n : ℕ) (e : Edge) → n < count → assigned (listed W start count) n e ≡ W (start + n) e
-unfolding listed
-listed_inside W start zero n e h = absurd (omega arith)
-listed_inside W start (suc count) zero Rise h = let P : ℕ → Type 0 = λ i. W start Rise ≡ W i Rise in let k : start ≡ start + 0 = omega arith in subst P k refl
-listed_inside W start (suc count) zero Fall h = let P : ℕ → Type 0 = λ i. W start Fall ≡ W i Fall in let k : start ≡ start + 0 = omega arith in subst P k refl
-listed_inside W start (suc count) (suc n) e h =
-    let k : suc start + n ≡ start + suc n = omega arith in
-    let P : ℕ → Type 0 = λ i. assigned (listed W (suc start) count) n e ≡ W i e in
-    subst P k (listed_inside W (suc start) count n e (omega arith))
-
-listed_past : (W : Assignment) (start count n : ℕ) (e : Edge) → count ≤ n → assigned (listed W start count) n e ≡ bottom
-unfolding listed
-listed_past W start zero n e h = refl
-listed_past W start (suc count) zero e h = absurd (omega arith)
-listed_past W start (suc count) (suc n) e h = listed_past W (suc start) count n e (omega arith)
-
-listed_in_range : (W : Assignment) (start count : ℕ) → ((n : ℕ) (e : Edge) → IsInRange (W n e)) → All IsPairInRange (listed W start count)
-unfolding listed
-listed_in_range W start zero h = All-nil IsPairInRange
-listed_in_range W start (suc count) h =
-    All-cons IsPairInRange (record { rise = W start Rise; fall = W start Fall }) (listed W (suc start) count) (record { rise = h start Rise; fall = h start Fall }) (listed_in_range W (suc start) count h)
-
+-- ---- as a list of windows
 hull_windows : Parts → List Transition → List Pair
 hull_windows d xs = listed (hull xs) 0 (length d.nets)
 

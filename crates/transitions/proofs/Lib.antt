@@ -1,4 +1,4 @@
-pub mod Cells
-pub mod Explained
+mod Cells
+mod Explained
 pub mod Hulls
-pub mod Worked
+mod Worked

@@ -1,4 +1,4 @@
-pub mod Known
-pub mod Left
-pub mod Named
-pub mod Pieces
+mod Known
+mod Left
+mod Named
+mod Pieces

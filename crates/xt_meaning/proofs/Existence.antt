@@ -1,13 +1,12 @@
 -- Where the nets have levels, each choice of overlap answers has one list of windows that the operator gives back
 -- under it; as many rounds as there are nets reach it. The envelope is the one where everything overlaps.
-use Rattle.std.proofs.Common.{◌≡◌, ℕ, zero, suc, ◌+◌, ◌<◌, ◌≤◌, inl, inr, refl, sym, ◌∙◌, subst, List, [], ◌∷◌, length, arith}
+use Rattle.std.proofs.Common.{◌≡◌, ℕ, zero, suc, ◌+◌, ◌<◌, ◌≤◌, inl, inr, refl, sym, ◌∙◌, subst, List, [], length, arith}
 use Rattle.std.specs.Prelude.{Option, IfSome, slice_index}
 use Rattle.std.specs.List.{All, slice_get}
 use Rattle.std.proofs.lemmas.Bool.{cases_lt}
 use Rattle.std.proofs.lemmas.List.Elements.{All-weaker}
 use Rattle.std.proofs.lemmas.Option.{slice_get_past, IfSome_then}
 use Rattle.xt_model.specs.declared.edge.Edge.{Edge}
-use Rattle.xt_model.specs.declared.edge.Edge.TheVariants.{Rise, Fall}
 use Rattle.xt_model.specs.declared.quad.Quad.{Quad}
 use Rattle.xt_model.specs.declared.quad.Pair.{Pair}
 use Rattle.xt_model.specs.declared.net.Coupling.{Coupling}
@@ -28,33 +27,7 @@ use Rattle.xt_meaning.proofs.Monotone.{ArcGrows, InputsGrow, operator_by_mono}
 use Rattle.xt_meaning.proofs.Extremes.{same_windows}
 use Rattle.xt_meaning.proofs.Widest.{IfSome_there, inputs_below}
 use Rattle.xt_meaning.proofs.Depth.{levels_few}
-
--- ---- the list of an assignment
--- the windows of `count` nets from number `start` on
-listed : Assignment → ℕ → ℕ → List Pair
-listed W start zero = []
-listed W start (suc count) = record { rise = W start Rise; fall = W start Fall } ∷ listed W (suc start) count
-
-length-listed : (W : Assignment) (start count : ℕ) → length (listed W start count) ≡ count
-unfolding listed
-length-listed W start zero = refl
-length-listed W start (suc count) = let h = length-listed W (suc start) count in omega arith
-
-listed_inside : (W : Assignment) (start count n : ℕ) (e : Edge) → n < count → assigned (listed W start count) n e ≡ W (start + n) e
-unfolding listed
-listed_inside W start zero n e h = absurd (omega arith)
-listed_inside W start (suc count) zero Rise h = let P : ℕ → Type 0 = λ i. W start Rise ≡ W i Rise in let k : start ≡ start + 0 = omega arith in subst P k refl
-listed_inside W start (suc count) zero Fall h = let P : ℕ → Type 0 = λ i. W start Fall ≡ W i Fall in let k : start ≡ start + 0 = omega arith in subst P k refl
-listed_inside W start (suc count) (suc n) e h =
-    let k : suc start + n ≡ start + suc n = omega arith in
-    let P : ℕ → Type 0 = λ i. assigned (listed W (suc start) count) n e ≡ W i e in
-    subst P k (listed_inside W (suc start) count n e (omega arith))
-
-listed_past : (W : Assignment) (start count n : ℕ) (e : Edge) → count ≤ n → assigned (listed W start count) n e ≡ bottom
-unfolding listed
-listed_past W start zero n e h = refl
-listed_past W start (suc count) zero e h = absurd (omega arith)
-listed_past W start (suc count) (suc n) e h = listed_past W (suc start) count n e (omega arith)
+use Rattle.xt_meaning.proofs.Listed.{listed, length-listed, listed_inside, listed_past}
 
 pub past_bottom : (d : Parts) (b : Answers) (W : Assignment) (n : ℕ) (e : Edge) → length d.nets ≤ n → operator_by d b W n e ≡ bottom
 unfolding operator_by

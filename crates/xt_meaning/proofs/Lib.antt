@@ -1,5 +1,5 @@
-pub mod WorkedValues
-pub mod WorkedDesigns
+mod WorkedValues
+mod WorkedDesigns
 pub mod Ranges
 pub mod Order
 pub mod Meeting
@@ -12,8 +12,9 @@ pub mod Widest
 pub mod Starts
 pub mod Room
 pub mod Limits
-pub mod Measure
-pub mod Depth
+mod Measure
+mod Depth
+pub mod Listed
 pub mod Existence
 pub mod Runs
 pub mod Rounds
@@ -22,4 +23,4 @@ pub mod Answers
 pub mod Sums
 pub mod ReadLists
 pub mod Numbers
-pub mod Whole
+mod Whole

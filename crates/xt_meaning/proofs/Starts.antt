@@ -2,7 +2,7 @@
 use Rattle.std.proofs.Common.{◌≡◌, ℕ, zero, suc, inl, inr, refl, sym, subst, List, [], ◌∷◌, length, replicate, arith}
 use Rattle.std.specs.Prelude.{Bool, true, false, if◌then◌else◌, Option, Some, None, IfSome}
 use Rattle.std.specs.List.{slice_get, fold}
-use Rattle.std.proofs.lemmas.Int.{ints}
+use Rattle.std.proofs.lemmas.Int.{ints, clamps}
 use Rattle.std.proofs.lemmas.List.{length-replicate}
 use Rattle.std.proofs.lemmas.List.Elements.{All-replicate}
 use Rattle.xt_model.specs.declared.direction.Direction.TheVariants.{Widen, Narrow}
@@ -29,13 +29,21 @@ use Rattle.xt_meaning.proofs.Monotone.{contained_refl}
 use Rattle.xt_meaning.proofs.Steps.{RespectsAll, respects_apart, narrow_contained, contained_narrow}
 use Rattle.xt_meaning.proofs.Widest.{envelope_contains, envelope_closed}
 
--- ---- bottom
+-- ---- windows that words can hold
 pub bottom_in_range : IsInRange bottom
 bottom_in_range = record {
   tlo = record { low = omega (arith, ints); high = omega (arith, ints) };
   thi = record { low = omega (arith, ints); high = omega (arith, ints) };
   slo = record { low = omega (arith, ints); high = omega (arith, ints) };
   shi = record { low = omega (arith, ints); high = omega (arith, ints) };
+}
+
+pub join_in_range : (q r : Quad) → IsInRange q → IsInRange r → IsInRange (join_of q r)
+join_in_range q r h k = record {
+  tlo = record { low = omega (arith, ints, clamps, h.tlo.low, k.tlo.low); high = omega (arith, ints, clamps, h.tlo.high, k.tlo.high) };
+  thi = record { low = omega (arith, ints, clamps, h.thi.low, k.thi.low); high = omega (arith, ints, clamps, h.thi.high, k.thi.high) };
+  slo = record { low = omega (arith, ints, clamps, h.slo.low, k.slo.low); high = omega (arith, ints, clamps, h.slo.high, k.slo.high) };
+  shi = record { low = omega (arith, ints, clamps, h.shi.low, k.shi.low); high = omega (arith, ints, clamps, h.shi.high, k.shi.high) };
 }
 
 -- bottom lies within every window that words can hold

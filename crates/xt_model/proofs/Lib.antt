@@ -1,8 +1,8 @@
 pub mod LevelLaws
-pub mod LevelTurns
-pub mod ListLaws
+mod LevelTurns
+mod ListLaws
 pub mod OrderLaws
 pub mod PairLaws
-pub mod WalkSteps
-pub mod WindowLaws
+mod WalkSteps
+mod WindowLaws
 pub mod WorkedDesigns

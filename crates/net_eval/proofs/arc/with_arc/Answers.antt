@@ -1,4 +1,4 @@
-use Rattle.net_eval.proofs.Contributions.{join_in_range}
+use Rattle.xt_meaning.proofs.Starts.{join_in_range}
 use Rattle.net_eval.proofs.arc.with_arc.Goals as goal
 
 pub returns-clause-range : goal.returns-clause-range
