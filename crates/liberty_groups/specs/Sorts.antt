@@ -1,9 +1,8 @@
--- The sorts of tokens of a Liberty text, and its tokens with the end of the text behind them.
-use Rattle.std.specs.Prelude.{ℕ, Bool, true, false, List, [], ◌∷◌, codes, ◌==◌, if◌then◌else◌}
+-- The sorts of tokens of a Liberty text.
+use Rattle.std.specs.Prelude.{ℕ, Bool, List, codes, ◌==◌, if◌then◌else◌}
 use Rattle.std.specs.Str.{bytes_eq}
 use Rattle.text_forms.specs.Forms.{Token}
-use Rattle.xt_lex.specs.Bytes.{last_line}
-use Rattle.xt_lex.specs.Tokens.{TokenText, token_texts}
+use Rattle.text_forms.specs.Tokens.{sorted_tokens}
 use Rattle.xt_lex.specs.declared.rules.Rules.TheVariants.{Liberty}
 use Rattle.xt_lex.specs.declared.token.Kind.{Kind}
 use Rattle.xt_lex.specs.declared.token.Kind.TheVariants as kinds
@@ -52,19 +51,6 @@ sort_by kinds.Text text = sorts.Text
 sort_by kinds.Mark text = mark_sort text
 sort_by _ text = sorts.Other
 
--- a token of a text with its sort
-abbrev pub token_by : Kind → TokenText → Token Sort
-token_by kind t = record { sort = sort_by kind t.text; text = t.text; from = t.from; line = t.line }
-
--- the end of a text, at its last line
-abbrev pub end_at : ℕ → Token Sort
-end_at last = record { sort = sorts.End; text = []; from = 0; line = last }
-
--- the tokens of a text, and behind them its end, unless that was read
-abbrev pub tokens_to_end : Bool → ℕ → List TokenText → List (Token Sort)
-tokens_to_end ended last [] = if ended then [] else end_at last ∷ []
-tokens_to_end ended last (t ∷ ts) = token_by t.kind t ∷ tokens_to_end ended last ts
-
 -- the tokens of a whole text and its end
 abbrev pub liberty_tokens : List ℕ → List (Token Sort)
-liberty_tokens bytes = tokens_to_end false (last_line bytes) (token_texts Liberty bytes)
+liberty_tokens bytes = sorted_tokens sort_by sorts.End Liberty bytes

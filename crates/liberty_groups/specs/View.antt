@@ -1,11 +1,9 @@
 -- What the values of the code stand for.
 use Rattle.std.specs.Prelude.{◌≡◌, ℕ, List, [], ◌∷◌, map, reverse, Option, Some, None, option_map, Result, Ok, Err}
-use Rattle.text_forms.specs.Forms.{Token, Whole, Refusal}
+use Rattle.text_forms.specs.Forms.{Refusal}
 use Rattle.xt_lex.specs.declared.text_fault.TextFault.{TextFault}
 use Rattle.xt_lex.specs.declared.text_fault.TextFault.TheVariants.{Refused, NoMemory}
 use Rattle.xt_model.specs.declared.code.Code.{Code}
-use Rattle.liberty_groups.specs.declared.sort.Sort.{Sort}
-use Rattle.liberty_groups.specs.declared.term.Term.{Term}
 use Rattle.liberty_groups.specs.declared.item.FormRead.{FormRead}
 use Rattle.liberty_groups.specs.declared.item.Misfit.{Misfit}
 use Rattle.liberty_groups.specs.declared.group.Group.{Group}
@@ -13,10 +11,6 @@ use Rattle.liberty_groups.specs.declared.building.Building.{Building}
 use Rattle.liberty_groups.specs.Grammar.{WholeForm, Tokens, misfit, misfits}
 use Rattle.liberty_groups.specs.Trees.{Tree, tree_of, entry_of}
 use Rattle.liberty_groups.specs.Building.{Unfinished}
-
--- a token with its bytes
-abbrev pub token_of : Term → Token Sort
-token_of t = record { sort = t.sort; text = t.text.now; from = t.from; line = t.line }
 
 -- a form that was read
 abbrev pub whole_of : FormRead → WholeForm

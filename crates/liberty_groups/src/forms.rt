@@ -4,12 +4,14 @@ ghost use Rattle.std.specs.Prelude.{◌≡◌, ℕ, ◌+◌, ◌≤◌, Some, []
 ghost use Rattle.liberty_groups.specs.Grammar.{misfit, start_forms, args_forms, library_forms, item_forms};
 ghost use Rattle.liberty_groups.specs.Grammar.{named_forms, first_value_forms, values_forms, behind_forms};
 ghost use Rattle.liberty_groups.specs.Grammar.{forms_in, first_form, after_group};
-ghost use Rattle.liberty_groups.specs.View.{token_of, whole_of, refusal_of, refusal_at, Reads};
+ghost use Rattle.text_forms.specs.Tokens.{token_of};
+ghost use Rattle.liberty_groups.specs.View.{whole_of, refusal_of, refusal_at, Reads};
 
 use crate::context::Context;
 use crate::item::{FormRead, Item, Misfit};
 use crate::sort::Sort;
-use crate::term::{Term, Terms};
+use crate::span::span_of;
+use text_forms::{Term, Terms};
 use xt_lex::MOST_BYTES;
 use xt_model::Code;
 
@@ -37,7 +39,7 @@ pub fn misfit(sort: Sort) -> Code
 
 /// The refusal of a token that does not fit.
 #[inline]
-fn refused(term: Term<'_>) -> Misfit
+fn refused(term: Term<'_, Sort>) -> Misfit
     ensures { refusal_of result ≡ record { line = term.entry.line; code = misfit term.entry.sort } }
 {
     Misfit {
@@ -48,7 +50,7 @@ fn refused(term: Term<'_>) -> Misfit
 
 /// The next token.
 #[inline]
-fn any<'a>(terms: &mut Terms<'a>) -> Result<Term<'a>, Misfit>
+fn any<'a>(terms: &mut Terms<'a, Sort>) -> Result<Term<'a, Sort>, Misfit>
     ensures next { MatchResult result (λ t. terms.old ≡ token_of t ∷ terms.new)
         (λ r. (terms.old ≡ []) × (refusal_of r ≡ refusal_at [])) }
     ensures within { IfOk result (λ t. t.from + length t.text.now ≤ MOST_BYTES) }
@@ -63,7 +65,7 @@ fn any<'a>(terms: &mut Terms<'a>) -> Result<Term<'a>, Misfit>
 }
 
 /// At the start of a text.
-fn at_start(terms: &mut Terms<'_>) -> Result<FormRead, Misfit>
+fn at_start(terms: &mut Terms<'_, Sort>) -> Result<FormRead, Misfit>
     ensures { Reads (λ r. (whole_of r, terms.new)) result (first_form start_forms terms.old) }
 {
     let first = any(terms)?;
@@ -72,7 +74,7 @@ fn at_start(terms: &mut Terms<'_>) -> Result<FormRead, Misfit>
             let second = any(terms)?;
             match second.sort {
                 Sort::LeftParen => Ok(done(
-                    Item::Named(first.span(), first.line),
+                    Item::Named(span_of(first), first.line),
                     second.line,
                     Context::LibraryArgs,
                 )),
@@ -84,13 +86,13 @@ fn at_start(terms: &mut Terms<'_>) -> Result<FormRead, Misfit>
 }
 
 /// Within parentheses, behind which `next` comes.
-fn in_args(here: Context, next: Context, terms: &mut Terms<'_>) -> Result<FormRead, Misfit>
+fn in_args(here: Context, next: Context, terms: &mut Terms<'_, Sort>) -> Result<FormRead, Misfit>
     ensures { Reads (λ r. (whole_of r, terms.new)) result (first_form (args_forms here next) terms.old) }
 {
     let first = any(terms)?;
     match first.sort {
         Sort::Library | Sort::Word | Sort::Text => {
-            Ok(done(Item::Value(first.span()), first.line, here))
+            Ok(done(Item::Value(span_of(first)), first.line, here))
         }
         Sort::Comma | Sort::Colon => Ok(done(Item::Nothing, first.line, here)),
         Sort::RightParen => Ok(done(Item::Nothing, first.line, next)),
@@ -99,7 +101,7 @@ fn in_args(here: Context, next: Context, terms: &mut Terms<'_>) -> Result<FormRe
 }
 
 /// Behind the parentheses of the library.
-fn at_library(terms: &mut Terms<'_>) -> Result<FormRead, Misfit>
+fn at_library(terms: &mut Terms<'_, Sort>) -> Result<FormRead, Misfit>
     ensures { Reads (λ r. (whole_of r, terms.new)) result (first_form library_forms terms.old) }
 {
     let first = any(terms)?;
@@ -122,7 +124,11 @@ fn after_group(depth: u32) -> Context
 }
 
 /// An item from its first token on.
-fn item_from(first: Term<'_>, depth: u32, terms: &mut Terms<'_>) -> Result<FormRead, Misfit>
+fn item_from(
+    first: Term<'_, Sort>,
+    depth: u32,
+    terms: &mut Terms<'_, Sort>,
+) -> Result<FormRead, Misfit>
     requires { first.from + length first.text.now ≤ MOST_BYTES }
     ensures { Reads (λ r. (whole_of r, terms.new)) result
         (first_form (item_forms depth) (token_of first.entry ∷ terms.old)) }
@@ -132,7 +138,7 @@ fn item_from(first: Term<'_>, depth: u32, terms: &mut Terms<'_>) -> Result<FormR
         Sort::RightBrace => Ok(done(Item::Closes, first.line, after_group(depth))),
         Sort::Library | Sort::Word => {
             let second = any(terms)?;
-            let named = Item::Named(first.span(), first.line);
+            let named = Item::Named(span_of(first), first.line);
             match second.sort {
                 Sort::Colon => Ok(done(named, second.line, Context::FirstValue(depth))),
                 Sort::LeftParen => Ok(done(named, second.line, Context::Args(depth))),
@@ -144,7 +150,7 @@ fn item_from(first: Term<'_>, depth: u32, terms: &mut Terms<'_>) -> Result<FormR
 }
 
 /// Where an item may begin.
-fn at_item(depth: u32, terms: &mut Terms<'_>) -> Result<FormRead, Misfit>
+fn at_item(depth: u32, terms: &mut Terms<'_, Sort>) -> Result<FormRead, Misfit>
     ensures { Reads (λ r. (whole_of r, terms.new)) result (first_form (item_forms depth) terms.old) }
 {
     let first = any(terms)?;
@@ -152,7 +158,7 @@ fn at_item(depth: u32, terms: &mut Terms<'_>) -> Result<FormRead, Misfit>
 }
 
 /// Behind the parentheses of a group or of an attribute.
-fn at_named(depth: u32, terms: &mut Terms<'_>) -> Result<FormRead, Misfit>
+fn at_named(depth: u32, terms: &mut Terms<'_, Sort>) -> Result<FormRead, Misfit>
     ensures { Reads (λ r. (whole_of r, terms.new)) result (first_form (named_forms depth) terms.old) }
 {
     let first = any(terms)?;
@@ -169,13 +175,13 @@ fn at_named(depth: u32, terms: &mut Terms<'_>) -> Result<FormRead, Misfit>
 }
 
 /// Behind the colon of an attribute.
-fn at_first_value(depth: u32, terms: &mut Terms<'_>) -> Result<FormRead, Misfit>
+fn at_first_value(depth: u32, terms: &mut Terms<'_, Sort>) -> Result<FormRead, Misfit>
     ensures { Reads (λ r. (whole_of r, terms.new)) result (first_form (first_value_forms depth) terms.old) }
 {
     let first = any(terms)?;
     match first.sort {
         Sort::Library | Sort::Word | Sort::Text => Ok(done(
-            Item::Value(first.span()),
+            Item::Value(span_of(first)),
             first.line,
             Context::Values(depth),
         )),
@@ -184,13 +190,13 @@ fn at_first_value(depth: u32, terms: &mut Terms<'_>) -> Result<FormRead, Misfit>
 }
 
 /// Behind a value of such an attribute.
-fn in_values(depth: u32, terms: &mut Terms<'_>) -> Result<FormRead, Misfit>
+fn in_values(depth: u32, terms: &mut Terms<'_, Sort>) -> Result<FormRead, Misfit>
     ensures { Reads (λ r. (whole_of r, terms.new)) result (first_form (values_forms depth) terms.old) }
 {
     let first = any(terms)?;
     match first.sort {
         Sort::Library | Sort::Word | Sort::Text => Ok(done(
-            Item::Value(first.span()),
+            Item::Value(span_of(first)),
             first.line,
             Context::Values(depth),
         )),
@@ -200,7 +206,7 @@ fn in_values(depth: u32, terms: &mut Terms<'_>) -> Result<FormRead, Misfit>
 }
 
 /// Behind the library.
-fn behind(terms: &mut Terms<'_>) -> Result<FormRead, Misfit>
+fn behind(terms: &mut Terms<'_, Sort>) -> Result<FormRead, Misfit>
     ensures { Reads (λ r. (whole_of r, terms.new)) result (first_form behind_forms terms.old) }
 {
     let first = any(terms)?;
@@ -212,7 +218,7 @@ fn behind(terms: &mut Terms<'_>) -> Result<FormRead, Misfit>
 }
 
 /// The next form; behind the text's end no token fits.
-pub fn form(context: Context, terms: &mut Terms<'_>) -> Result<FormRead, Misfit>
+pub fn form(context: Context, terms: &mut Terms<'_, Sort>) -> Result<FormRead, Misfit>
     ensures { Reads (λ r. (whole_of r, terms.new)) result (first_form (forms_in context) terms.old) }
 {
     match context {

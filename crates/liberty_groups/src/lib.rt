@@ -9,7 +9,6 @@ mod item;
 mod reading;
 mod sort;
 mod span;
-mod term;
 
 pub use forms::MOST_OPEN;
 pub use group::{Attribute, Group};

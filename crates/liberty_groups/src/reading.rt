@@ -11,13 +11,14 @@ use crate::building::Building;
 use crate::context::Context;
 use crate::forms::{form, misfit};
 use crate::group::Group;
-use crate::term::Terms;
+use crate::sort::Sort;
 use std::alloc::Global;
+use text_forms::Terms;
 use xt_lex::{LexFault, MOST_BYTES, Rules, TextFault, find_fault};
 use xt_model::Code;
 
 /// What the tokens of a text without a fault make of it.
-fn build(alloc: Global, terms: &mut Terms<'_>) -> Result<Building, TextFault>
+fn build(alloc: Global, terms: &mut Terms<'_, Sort>) -> Result<Building, TextFault>
     ensures { Gives unfinished result (rest_means Start terms.old nothing_read) }
 {
     let mut building = Building::new(alloc);
@@ -65,7 +66,7 @@ pub fn read_groups(alloc: Global, bytes: &[u8]) -> Result<Group, TextFault>
         }
         Some(LexFault::NoMemory) | None => {}
     }
-    let mut terms = Terms::new(bytes);
+    let mut terms = Terms::new(bytes, Rules::Liberty);
     let building = build(alloc, &mut terms)?;
     match building.into_library() {
         Some(library) => Ok(library),

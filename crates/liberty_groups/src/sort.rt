@@ -1,5 +1,11 @@
 //! The sorts of tokens.
 
+ghost use Rattle.std.specs.Prelude.{◌≡◌};
+ghost use Rattle.liberty_groups.specs.Sorts.{word_sort, mark_sort};
+
+use text_forms::TokenSort;
+use xt_lex::Kind;
+
 /// What a token is to the grammar. A token of another sort than these fits nowhere.
 #[derive(Clone, Copy, Debug, PartialEq, Eq)]
 pub enum Sort {
@@ -19,4 +25,59 @@ pub enum Sort {
     Other,
     /// The end of the text.
     End,
+}
+
+/// What a word is.
+#[inline]
+fn word_sort(word: &[u8]) -> Sort
+    ensures { result ≡ word_sort word.now }
+{
+    if word == b"library".as_slice() {
+        Sort::Library
+    } else {
+        Sort::Word
+    }
+}
+
+/// What a mark is.
+#[tactic(auto, unfolding(crate::specs::Sorts::mark_sort))]
+#[inline]
+fn mark_sort(mark: &[u8]) -> Sort
+    ensures { result ≡ mark_sort mark.now }
+{
+    match mark {
+        b"(" => Sort::LeftParen,
+        b")" => Sort::RightParen,
+        b"{" => Sort::LeftBrace,
+        b"}" => Sort::RightBrace,
+        b":" => Sort::Colon,
+        b";" => Sort::Semicolon,
+        b"," => Sort::Comma,
+        _ => Sort::Other,
+    }
+}
+
+impl TokenSort for Sort {
+    ghost use Rattle.liberty_groups.specs.Sorts.{sort_by};
+    ghost use Rattle.liberty_groups.specs.declared.sort.Sort.TheVariants.{End};
+
+    ghost sort_by = { sort_by };
+
+    ghost end = { End };
+
+    #[inline]
+    fn sort_by(kind: Kind, text: &[u8]) -> Sort {
+        match kind {
+            Kind::Word => word_sort(text),
+            Kind::Text => Sort::Text,
+            Kind::Mark => mark_sort(text),
+            Kind::Escaped => Sort::Other,
+            Kind::Break => Sort::Other,
+        }
+    }
+
+    #[inline]
+    fn end() -> Sort {
+        Sort::End
+    }
 }

@@ -1,12 +1,14 @@
 -- Tests of names, through the map of keys that a table holds.
 use Rattle.std.specs.Prelude.{◌≡◌, refl, ℕ, Bool, true, false, List, [], ◌∷◌, ◌++◌, map, position, Some, None, if◌then◌else◌}
 use Rattle.std.specs.List.{list_any, position_or_len, slice_get}
+use Rattle.std.specs.Map.{lookup}
 use Rattle.std.specs.Str.{bytes_eq}
 use Rattle.std.proofs.Common.{sym, ap, ◌∙◌}
 use Rattle.std.proofs.lemmas.List.{map-append, length-map}
 use Rattle.std.proofs.lemmas.Option.{slice_get-map}
+use Rattle.std.proofs.lemmas.Slice.Eq.{bytes_eq-Decides}
 use Rattle.indexmap.specs.IndexMap.{insert_entry}
-use Rattle.text_forms.specs.Names.{Text, with_name, found, with_value}
+use Rattle.text_forms.specs.Names.{Text, with_name, found, value_of, with_value}
 
 module _ {A B : Type 0} (p : B → Bool) (f : A → B) where
   pub any_mapped : (xs : List A) → list_any (λ x. p (f x)) xs ≡ list_any p (map f xs)
@@ -47,6 +49,11 @@ module _ {K V : Type 0} (f : K → Text) where
   value_mapped [] k v = refl
   value_mapped (e ∷ es) k v = set_one (bytes_eq (f k) (f e.0)) e v es _ _ (value_mapped es k v)
 
+  -- the value that the table has for the name
+  pub value_looked_up : (name : Text) (es : List (K × V)) → lookup (λ k. bytes_eq name (f k)) es ≡ value_of name (map named es)
+  value_looked_up name [] = refl
+  value_looked_up name (e ∷ es) = rw (value_looked_up name es) refl
+
   named_keys : (es : List (K × V)) → map (λ e. e.0) (map named es) ≡ map f (map (λ e. e.0) es)
   named_keys [] = refl
   named_keys (e ∷ es) = ap (λ r. f e.0 ∷ r) (named_keys es)
@@ -66,3 +73,19 @@ module _ {K V : Type 0} (f : K → Text) where
       → position (λ k. bytes_eq name (f k)) (map (λ e. e.0) es) ≡ Some i → slice_get es i ≡ Some (k, v)
       → found name (map named es) ≡ Some (i, v)
   found_at name es i k v h at = rw (sym (place_mapped name es), h, slice_get-map named es i, at) refl
+
+module _ {V : Type 0} where
+  by_first : (name other : Text) (v w u : V) (more rest : List (Text × V)) (b : Bool) → bytes_eq name other ≡ b
+      → with_value name v rest ≡ with_value name v more
+      → with_value name v (if b then (other, w) ∷ more else (other, u) ∷ rest)
+      ≡ (if b then (other, v) ∷ more else (other, u) ∷ with_value name v more)
+  by_first name other v w u more rest true e h = rw e refl
+  by_first name other v w u more rest false e h = rw e (ap (λ es. (other, u) ∷ es) h)
+
+  -- of two values that a name is given the second counts
+  pub value_given_twice : (name : Text) (v w : V) (es : List (Text × V))
+      → with_value name v (with_value name w es) ≡ with_value name v es
+  value_given_twice name v w [] = rw ((bytes_eq-Decides name name).1 refl) refl
+  value_given_twice name v w (e ∷ more) =
+      by_first name e.0 v w e.1 more (with_value name w more) (bytes_eq name e.0) refl (value_given_twice name v w more)
+      ∙ refl

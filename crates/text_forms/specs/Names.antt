@@ -1,6 +1,6 @@
 -- Names in the order in which they were first seen. A name is the list of its bytes.
 use Rattle.std.specs.Prelude.{ℕ, Bool, List, [], ◌∷◌, ◌++◌, map, position, if◌then◌else◌}
-use Rattle.std.specs.Prelude.{Option, Some, option_and_then}
+use Rattle.std.specs.Prelude.{Option, Some, None, option_and_then}
 use Rattle.std.specs.List.{list_any, position_or_len, slice_get}
 use Rattle.std.specs.Str.{bytes_eq}
 
@@ -35,3 +35,8 @@ module _ {V : Type 0} where
   abbrev pub with_value : Text → V → List (Text × V) → List (Text × V)
   with_value name v [] = (name, v) ∷ []
   with_value name v (e ∷ more) = if bytes_eq name e.0 then (e.0, v) ∷ more else e ∷ with_value name v more
+
+  -- the value of a name, where it has one
+  abbrev pub value_of : Text → List (Text × V) → Option V
+  value_of name [] = None
+  value_of name (e ∷ more) = if bytes_eq name e.0 then Some e.1 else value_of name more

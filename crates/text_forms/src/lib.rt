@@ -4,8 +4,10 @@
 
 mod names;
 mod table;
+mod terms;
 #[cfg(test)]
 mod tests;
 
 pub use names::{Named, Names};
 pub use table::NameTable;
+pub use terms::{Term, Terms, TokenSort};

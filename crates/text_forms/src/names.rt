@@ -1,5 +1,5 @@
 ghost use Rattle.std.specs.Prelude.{◌≡◌, List, ℕ, not, length, map, option_map, IfOk, OnOk, OnErr};
-ghost use Rattle.text_forms.specs.Names.{found, has_name, number_of, with_name, with_value};
+ghost use Rattle.text_forms.specs.Names.{found, has_name, number_of, value_of, with_name, with_value};
 
 use indexmap::{IndexMap, IndexSet};
 use std::alloc::{AllocError, Global};
@@ -89,6 +89,21 @@ impl<'a, V: Drop> Named<'a, V> {
     {
         self.table.insert(name, value)?;
         Ok(())
+    }
+
+    /// Gives a name its value, in the place of the one that it has, and hands that out.
+    pub fn replace(&mut self, name: &'a [u8], value: V) -> Result<Option<V>, AllocError>
+        ensures given { OnOk result (self.new ≡ with_value name.entry.now value self.old) }
+        ensures old { IfOk result (λ o. o ≡ value_of name.entry.now self.old) }
+    {
+        Ok(self.table.insert(name, value)?)
+    }
+
+    /// The value of a name, where it has one. It takes no memory.
+    pub fn get(&self, name: &'a [u8]) -> Option<&V>
+        ensures { option_map (λ v. v.now) result ≡ value_of name.entry.now self.now }
+    {
+        self.table.get(name)
     }
 
     /// How many names there are.

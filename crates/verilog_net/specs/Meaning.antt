@@ -1,11 +1,11 @@
 -- What the forms of a netlist mean, one after another. A state has the modules that ended, and of the module that is
 -- being read what its statements said so far.
-use Rattle.std.specs.Prelude.{ℕ, Bool, true, false, not, ◌&&◌, ◌==◌, List, [], ◌∷◌, ◌++◌, length, map, codes}
+use Rattle.std.specs.Prelude.{ℕ, Bool, true, false, not, ◌&&◌, ◌==◌, List, [], ◌∷◌, ◌++◌, length}
 use Rattle.std.specs.Prelude.{Option, Some, None, Result, Ok, Err, if◌then◌else◌}
 use Rattle.std.specs.List.{list_all}
 use Rattle.text_forms.specs.Names.{Text, has_name, with_name, found, with_value}
 use Rattle.xt_model.specs.declared.code.Code.{Code}
-use Rattle.xt_model.specs.declared.code.Code.TheVariants.{V1, V2, V3, V4, V5, V6}
+use Rattle.xt_model.specs.declared.code.Code.TheVariants.{V3, V4, V5, V6}
 use Rattle.verilog_net.specs.declared.netlist.Net.{Net}
 use Rattle.verilog_net.specs.declared.netlist.Netlist.{Netlist}
 use Rattle.verilog_net.specs.declared.netlist.Instance.{Instance}
@@ -16,7 +16,7 @@ use Rattle.verilog_net.specs.declared.netlist.PortRole.TheVariants as roles
 use Rattle.verilog_net.specs.Forms.{Said}
 use Rattle.verilog_net.specs.Forms as grammar
 use Rattle.verilog_net.specs.Nets.{Nets, NetBit, number_of, has_bit, named_bit, same_range, joined_role}
-use Rattle.verilog_net.specs.Nets.{is_port, has_clash}
+use Rattle.verilog_net.specs.Nets.{BitNets, with_net, has_bit_net, is_port}
 
 pub record State : Type 0 where
   -- whether one module alone is admitted, and no whole bus as a connection
@@ -24,11 +24,12 @@ pub record State : Type 0 where
   -- the modules that ended, and the names of all modules
   pub ended : List Netlist
   pub modules : List Text
-  -- the module that is being read: its name, the names of its header, its nets, the names of its instances, and those
-  -- instances that ended
+  -- the module that is being read: its name, the names of its header, its nets, those of them that have names of bits,
+  -- the names of its instances, and those instances that ended
   pub current : Text
   pub header : List Text
   pub nets : Nets
+  pub bit_nets : BitNets
   pub instance_names : List Text
   pub instances : List Instance
   -- the declaration that is being read
@@ -53,6 +54,7 @@ nothing single = record {
   current = [];
   header = [];
   nets = [];
+  bit_nets = [];
   instance_names = [];
   instances = [];
   role = roles.Inner;
@@ -78,6 +80,7 @@ name_module name s =
       modules = with_name name s.modules;
       current = name;
       header = [];
+      bit_nets = [];
       instance_names = [];
     })
 
@@ -89,13 +92,16 @@ list_name name s = record s { header = s.header ++ name ∷ [] }
 abbrev pub netlist_of : State → Netlist
 netlist_of s = record { «module» = s.current; nets = s.nets; instances = s.instances }
 
--- the end of a module: no net may have the name of a bit, and each name of the header has to have a direction
+-- the end of a module: each name of the header has to have a direction
 unfoldable pub end_module : State → Result State Code
 end_module s =
-    if has_clash s.nets then Err V3
-    else if list_all (λ name. is_port name s.nets) s.header
+    if list_all (λ name. is_port name s.nets) s.header
     then Ok (record s { ended = s.ended ++ netlist_of s ∷ []; nets = []; instances = [] })
     else Err V4
+
+-- a further net
+abbrev pub with_further : Text → Net → State → State
+with_further name net s = record s { nets = with_value name net s.nets; bit_nets = with_net name s.bit_nets }
 
 -- a net is declared that has been declared or used before
 abbrev pub declare_again : Text → State → Net → Option PortRole → Result State Code
@@ -105,11 +111,12 @@ declare_again name s net (Some role) =
     then Ok (record s { nets = with_value name (record { range = net.range; role = role; declared = true }) s.nets })
     else Err V3
 
--- a name is declared for the first time, and is not that of a bit
+-- a name is declared for the first time: it is not that of a bit, and no net has the name of one of its bits
 abbrev pub declare_new : Text → State → Option NetBit → Result State Code
 declare_new name s (Some bit) = Err V3
 declare_new name s None =
-    Ok (record s { nets = with_value name (record { range = s.range; role = s.role; declared = true }) s.nets })
+    if has_bit_net name s.range s.bit_nets then Err V3
+    else Ok (with_further name (record { range = s.range; role = s.role; declared = true }) s)
 
 abbrev pub declare_as : Text → State → Option (ℕ × Net) → Result State Code
 declare_as name s (Some net) = declare_again name s net.1 (joined_role net.1.role s.role)
@@ -168,7 +175,7 @@ connect wire s = record s { pins = s.pins ++ (s.pin, wire) ∷ [] }
 abbrev pub connect_new : Text → State → Option NetBit → State
 connect_new name s (Some bit) = connect (wires.Bit bit.0 bit.1) s
 connect_new name s None = connect (wires.Bit (length s.nets) 0)
-    (record s { nets = with_value name (record { range = None; role = roles.Inner; declared = false }) s.nets })
+    (with_further name (record { range = None; role = roles.Inner; declared = false }) s)
 
 -- a net without a range is one bit; a whole bus is connected where several modules are admitted
 abbrev pub connect_found : ℕ → State → Option (ℕ × ℕ) → Result State Code

@@ -1,9 +1,9 @@
 -- The nets of a module by their names. A bus has a bit for each number between the bounds of its range.
-use Rattle.std.specs.Prelude.{ℕ, zero, suc, ◌+◌, ◌-◌, ◌*◌, nat_lt, nat_le, Bool, true, false, not, ◌&&◌, ◌||◌}
-use Rattle.std.specs.Prelude.{List, [], ◌∷◌, length, take, Option, Some, None, is_some, ◌==◌, if◌then◌else◌}
+use Rattle.std.specs.Prelude.{ℕ, ◌+◌, ◌-◌, ◌*◌, nat_lt, nat_le, Bool, true, false, ◌&&◌, ◌||◌}
+use Rattle.std.specs.Prelude.{List, [], ◌∷◌, ◌++◌, length, take, Option, Some, None, ◌==◌, if◌then◌else◌}
 use Rattle.std.specs.Char.{is_ascii_digit}
 use Rattle.std.specs.List.{list_any}
-use Rattle.text_forms.specs.Names.{Text, found, ◌>>=◌}
+use Rattle.text_forms.specs.Names.{Text, found, value_of, with_value, ◌>>=◌}
 use Rattle.verilog_net.specs.declared.netlist.Net.{Net}
 use Rattle.verilog_net.specs.declared.netlist.PortRole.{PortRole}
 use Rattle.verilog_net.specs.declared.netlist.PortRole.TheVariants.{Input, Output, Inner}
@@ -101,6 +101,32 @@ is_port_as None bit = is_port_bit bit
 unfoldable pub is_port : Text → Nets → Bool
 is_port name nets = is_port_as (found name nets) (named_bit name nets)
 
--- some net has the name of a bit of a bus: it was used as a net of its own before the bus was declared
-abbrev pub has_clash : Nets → Bool
-has_clash nets = list_any (λ e. is_some (named_bit e.0 nets)) nets
+-- nets that have names of bits: the name of the bus, and the numbers of the bits
+abbrev pub BitNets : Type 0
+BitNets = List (Text × List ℕ)
+
+abbrev pub numbers_in : Option (List ℕ) → List ℕ
+numbers_in None = []
+numbers_in (Some numbers) = numbers
+
+-- the bits of a bus whose names nets have
+abbrev pub bit_nets_of : Text → BitNets → List ℕ
+bit_nets_of bus named = numbers_in (value_of bus named)
+
+-- a further net that has the name of this bit of this bus
+abbrev pub with_bit_net : Text → ℕ → BitNets → BitNets
+with_bit_net bus bit named = with_value bus (bit_nets_of bus named ++ bit ∷ []) named
+
+-- the same where the name is that of a bit
+abbrev pub with_net_at : Text → Option (ℕ × ℕ) → BitNets → BitNets
+with_net_at name None named = named
+with_net_at name (Some place) named = with_bit_net (take place.0 name) place.1 named
+
+-- a further net has this name
+unfoldable pub with_net : Text → BitNets → BitNets
+with_net name named = with_net_at name (bit_from 0 name) named
+
+-- some net has the name of a bit of this bus
+unfoldable pub has_bit_net : Text → Option (ℕ × ℕ) → BitNets → Bool
+has_bit_net bus None named = false
+has_bit_net bus (Some range) named = list_any (has_bit range) (bit_nets_of bus named)

@@ -1,6 +1,6 @@
 -- What a whole text means: its modules, or of the refusals of its tokens, its forms and their meanings the first.
 use Rattle.std.specs.Prelude.{◌≡◌, ℕ, ◌<◌, Bool, true, false, List, [], ◌∷◌, length}
-use Rattle.std.specs.Prelude.{Option, Some, None, Result, Ok, Err}
+use Rattle.std.specs.Prelude.{Option, Some, Result, Ok, Err}
 use Rattle.text_forms.specs.Forms.{Refusal}
 use Rattle.text_forms.specs.Meaning.{text_means}
 use Rattle.xt_lex.specs.Faults.{fault_of}

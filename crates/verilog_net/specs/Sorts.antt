@@ -1,12 +1,12 @@
--- The sorts of tokens of a structural Verilog text, and its tokens with the end of the text behind them.
-use Rattle.std.specs.Prelude.{ℕ, Bool, true, false, not, ◌&&◌, ◌||◌, nat_lt, nat_le, List, [], ◌∷◌, length, drop}
+-- The sorts of tokens of a structural Verilog text.
+use Rattle.std.specs.Prelude.{ℕ, Bool, not, ◌&&◌, ◌||◌, nat_le, List, [], ◌∷◌, length}
 use Rattle.std.specs.Prelude.{codes, ◌==◌, if◌then◌else◌}
 use Rattle.std.specs.Char.{is_ascii_digit, is_ascii_graphic}
 use Rattle.std.specs.List.{list_all}
 use Rattle.std.specs.Str.{bytes_eq}
 use Rattle.text_forms.specs.Forms.{Token}
-use Rattle.xt_lex.specs.Bytes.{begins, last_line}
-use Rattle.xt_lex.specs.Tokens.{TokenText, token_texts}
+use Rattle.text_forms.specs.Tokens.{sorted_tokens}
+use Rattle.xt_lex.specs.Bytes.{begins}
 use Rattle.xt_lex.specs.declared.rules.Rules.TheVariants.{Verilog}
 use Rattle.xt_lex.specs.declared.token.Kind.{Kind}
 use Rattle.xt_lex.specs.declared.token.Kind.TheVariants as kinds
@@ -98,23 +98,13 @@ mark_sort mark =
     else if bytes_eq mark (codes "#") then sorts.Unsupported
     else sorts.Other
 
--- a token of a text by its kind; an escaped name is the bytes behind its backslash
-abbrev pub token_by : Kind → TokenText → Token Sort
-token_by kinds.Word t = record { sort = word_sort t.text; text = t.text; from = t.from; line = t.line }
-token_by kinds.Mark t = record { sort = mark_sort t.text; text = t.text; from = t.from; line = t.line }
-token_by kinds.Escaped t =
-    record { sort = name_sort (drop 1 t.text); text = drop 1 t.text; from = t.from; line = t.line }
-token_by _ t = record { sort = sorts.Other; text = t.text; from = t.from; line = t.line }
-
--- the end of a text, at its last line
-abbrev pub end_at : ℕ → Token Sort
-end_at last = record { sort = sorts.End; text = []; from = 0; line = last }
-
--- the tokens of a text, and behind them its end, unless that was read
-abbrev pub tokens_to_end : Bool → ℕ → List TokenText → List (Token Sort)
-tokens_to_end ended last [] = if ended then [] else end_at last ∷ []
-tokens_to_end ended last (t ∷ ts) = token_by t.kind t ∷ tokens_to_end ended last ts
+-- what a token is, by its kind; the bytes of an escaped name are those behind its backslash
+abbrev pub sort_by : Kind → List ℕ → Sort
+sort_by kinds.Word text = word_sort text
+sort_by kinds.Mark text = mark_sort text
+sort_by kinds.Escaped text = name_sort text
+sort_by _ text = sorts.Other
 
 -- the tokens of a whole text and its end
 abbrev pub netlist_tokens : List ℕ → List (Token Sort)
-netlist_tokens bytes = tokens_to_end false (last_line bytes) (token_texts Verilog bytes)
+netlist_tokens bytes = sorted_tokens sort_by sorts.End Verilog bytes

@@ -1,9 +1,8 @@
 -- What the values of the code stand for.
-use Rattle.std.specs.Prelude.{◌≡◌, ℕ, Bool, false, List, [], ◌∷◌, Result, Ok, Err}
-use Rattle.text_forms.specs.Forms.{Token, Whole, Refusal}
+use Rattle.std.specs.Prelude.{◌≡◌, false, [], ◌∷◌, Result, Ok, Err}
+use Rattle.text_forms.specs.Forms.{Refusal}
 use Rattle.xt_model.specs.declared.code.Code.{Code}
 use Rattle.verilog_net.specs.declared.sort.Sort.{Sort}
-use Rattle.verilog_net.specs.declared.term.Term.{Term}
 use Rattle.verilog_net.specs.declared.item.Item.{Item}
 use Rattle.verilog_net.specs.declared.item.Item.TheVariants as items
 use Rattle.verilog_net.specs.declared.item.FormRead.{FormRead}
@@ -15,10 +14,6 @@ use Rattle.verilog_net.specs.Forms.{Said, Nothing, ModuleBegins, ModuleName, Lis
 use Rattle.verilog_net.specs.Forms.{Further, Instance, FurtherInstance, Pin, NoConnection, Constant, Net, Bit}
 use Rattle.verilog_net.specs.Forms.{InstanceEnds, WholeForm, Tokens, misfit, misfits}
 use Rattle.verilog_net.specs.Forms as grammar
-
--- a token with its bytes
-abbrev pub token_of : Term → Token Sort
-token_of t = record { sort = t.sort; text = t.text.now; from = t.from; line = t.line }
 
 -- what an item says
 abbrev pub said : Item → Said

@@ -2,19 +2,20 @@
 
 ghost use Rattle.std.specs.Prelude.{◌≡◌, ℕ, Some, None, [], ◌∷◌, true, MatchResult, IfOk, IfErr, Option};
 ghost use Rattle.text_forms.specs.Forms.{Form};
+ghost use Rattle.text_forms.specs.Tokens.{token_of};
 ghost use Rattle.verilog_net.specs.Forms.{misfit, misfits, role_of, first_form, start_forms, between_forms};
 ghost use Rattle.verilog_net.specs.Forms.{module_name_forms, header_forms, listed_forms, body_forms};
 ghost use Rattle.verilog_net.specs.Forms.{left_bound_forms, right_bound_forms, declared_forms, opening_forms};
 ghost use Rattle.verilog_net.specs.Forms.{pins_forms, pin_forms, connection_forms, bit_given_forms};
 ghost use Rattle.verilog_net.specs.Forms.{connected_forms, closed_forms, forms_in, is_done};
-ghost use Rattle.verilog_net.specs.View.{token_of, said, whole_of, refusal_of, refusal_at, IsOther, Gives};
+ghost use Rattle.verilog_net.specs.View.{said, whole_of, refusal_of, refusal_at, IsOther, Gives};
 
 use crate::context::Context;
 use crate::item::{FormRead, Item};
 use crate::netlist::PortRole;
 use crate::refusal::Refused;
 use crate::sort::Sort;
-use crate::term::{Term, Terms};
+use text_forms::{Term, Terms};
 use xt_model::Code;
 
 /// A form that was read, whose last token stands in this line.
@@ -37,7 +38,7 @@ fn misfit(sort: Sort) -> Code
 }
 
 /// The refusal of a token that does not fit.
-pub fn refused(term: Term<'_>) -> Refused
+pub fn refused(term: Term<'_, Sort>) -> Refused
     ensures { refusal_of result ≡ record { line = term.entry.line; code = misfit term.entry.sort } }
 {
     Refused {
@@ -61,7 +62,7 @@ fn role_of(word: &[u8]) -> PortRole
 
 /// The next token.
 #[inline]
-fn any<'a>(terms: &mut Terms<'a>) -> Result<Term<'a>, Refused>
+fn any<'a>(terms: &mut Terms<'a, Sort>) -> Result<Term<'a, Sort>, Refused>
     ensures { MatchResult result (λ t. terms.old ≡ token_of t ∷ terms.new)
         (λ r. (terms.old ≡ []) × (refusal_of r ≡ refusal_at [])) }
 {
@@ -73,7 +74,7 @@ fn any<'a>(terms: &mut Terms<'a>) -> Result<Term<'a>, Refused>
 
 /// The next token, which has to be of this sort.
 #[inline]
-fn expect<'a>(sort: Sort, terms: &mut Terms<'a>) -> Result<Term<'a>, Refused>
+fn expect<'a>(sort: Sort, terms: &mut Terms<'a, Sort>) -> Result<Term<'a, Sort>, Refused>
     ensures found { IfOk result (λ t. (terms.old ≡ token_of t ∷ terms.new) × (t.sort ≡ sort)) }
     ensures refused { IfErr result (λ r. refusal_of r ≡ refusal_at terms.old) }
     ensures other { IfErr result (λ r. IsOther sort terms.old) }
@@ -87,7 +88,7 @@ fn expect<'a>(sort: Sort, terms: &mut Terms<'a>) -> Result<Term<'a>, Refused>
 }
 
 /// At the start of a text.
-fn at_start<'a>(terms: &mut Terms<'a>) -> Result<FormRead<'a>, Refused>
+fn at_start<'a>(terms: &mut Terms<'a, Sort>) -> Result<FormRead<'a>, Refused>
     ensures { Gives (λ r. (whole_of r, terms.new)) result (first_form start_forms terms.old) }
 {
     let first = any(terms)?;
@@ -99,7 +100,7 @@ fn at_start<'a>(terms: &mut Terms<'a>) -> Result<FormRead<'a>, Refused>
 }
 
 /// Behind `endmodule`.
-fn between<'a>(terms: &mut Terms<'a>) -> Result<FormRead<'a>, Refused>
+fn between<'a>(terms: &mut Terms<'a, Sort>) -> Result<FormRead<'a>, Refused>
     ensures { Gives (λ r. (whole_of r, terms.new)) result (first_form between_forms terms.old) }
 {
     let first = any(terms)?;
@@ -112,7 +113,7 @@ fn between<'a>(terms: &mut Terms<'a>) -> Result<FormRead<'a>, Refused>
 }
 
 /// The name of a module.
-fn module_name<'a>(terms: &mut Terms<'a>) -> Result<FormRead<'a>, Refused>
+fn module_name<'a>(terms: &mut Terms<'a, Sort>) -> Result<FormRead<'a>, Refused>
     ensures { Gives (λ r. (whole_of r, terms.new)) result (first_form module_name_forms terms.old) }
 {
     let name = expect(Sort::Name, terms)?;
@@ -120,7 +121,7 @@ fn module_name<'a>(terms: &mut Terms<'a>) -> Result<FormRead<'a>, Refused>
 }
 
 /// Behind the name of a module.
-fn header<'a>(terms: &mut Terms<'a>) -> Result<FormRead<'a>, Refused>
+fn header<'a>(terms: &mut Terms<'a, Sort>) -> Result<FormRead<'a>, Refused>
     ensures { Gives (λ r. (whole_of r, terms.new)) result (first_form header_forms terms.old) }
 {
     let first = any(terms)?;
@@ -140,7 +141,7 @@ fn header<'a>(terms: &mut Terms<'a>) -> Result<FormRead<'a>, Refused>
 }
 
 /// Behind a name of the header.
-fn listed<'a>(terms: &mut Terms<'a>) -> Result<FormRead<'a>, Refused>
+fn listed<'a>(terms: &mut Terms<'a, Sort>) -> Result<FormRead<'a>, Refused>
     ensures { Gives (λ r. (whole_of r, terms.new)) result (first_form listed_forms terms.old) }
 {
     let first = any(terms)?;
@@ -167,7 +168,7 @@ fn listed<'a>(terms: &mut Terms<'a>) -> Result<FormRead<'a>, Refused>
 }
 
 /// A statement, or the end of the module.
-fn in_body<'a>(terms: &mut Terms<'a>) -> Result<FormRead<'a>, Refused>
+fn in_body<'a>(terms: &mut Terms<'a, Sort>) -> Result<FormRead<'a>, Refused>
     ensures { Gives (λ r. (whole_of r, terms.new)) result (first_form body_forms terms.old) }
 {
     let first = any(terms)?;
@@ -203,7 +204,7 @@ fn in_body<'a>(terms: &mut Terms<'a>) -> Result<FormRead<'a>, Refused>
 }
 
 /// Behind the left bound of a range.
-fn left_bound<'a>(terms: &mut Terms<'a>) -> Result<FormRead<'a>, Refused>
+fn left_bound<'a>(terms: &mut Terms<'a, Sort>) -> Result<FormRead<'a>, Refused>
     ensures { Gives (λ r. (whole_of r, terms.new)) result (first_form left_bound_forms terms.old) }
 {
     expect(Sort::Colon, terms)?;
@@ -212,7 +213,7 @@ fn left_bound<'a>(terms: &mut Terms<'a>) -> Result<FormRead<'a>, Refused>
 }
 
 /// Behind the right bound of a range.
-fn right_bound<'a>(terms: &mut Terms<'a>) -> Result<FormRead<'a>, Refused>
+fn right_bound<'a>(terms: &mut Terms<'a, Sort>) -> Result<FormRead<'a>, Refused>
     ensures { Gives (λ r. (whole_of r, terms.new)) result (first_form right_bound_forms terms.old) }
 {
     expect(Sort::RightBracket, terms)?;
@@ -221,7 +222,7 @@ fn right_bound<'a>(terms: &mut Terms<'a>) -> Result<FormRead<'a>, Refused>
 }
 
 /// Behind a declared name.
-fn declared<'a>(terms: &mut Terms<'a>) -> Result<FormRead<'a>, Refused>
+fn declared<'a>(terms: &mut Terms<'a, Sort>) -> Result<FormRead<'a>, Refused>
     ensures { Gives (λ r. (whole_of r, terms.new)) result (first_form declared_forms terms.old) }
 {
     let first = any(terms)?;
@@ -236,7 +237,7 @@ fn declared<'a>(terms: &mut Terms<'a>) -> Result<FormRead<'a>, Refused>
 }
 
 /// Behind the name of an instance.
-fn opening<'a>(terms: &mut Terms<'a>) -> Result<FormRead<'a>, Refused>
+fn opening<'a>(terms: &mut Terms<'a, Sort>) -> Result<FormRead<'a>, Refused>
     ensures { Gives (λ r. (whole_of r, terms.new)) result (first_form opening_forms terms.old) }
 {
     let first = any(terms)?;
@@ -248,7 +249,7 @@ fn opening<'a>(terms: &mut Terms<'a>) -> Result<FormRead<'a>, Refused>
 }
 
 /// Behind the `(` of an instance.
-fn pins<'a>(terms: &mut Terms<'a>) -> Result<FormRead<'a>, Refused>
+fn pins<'a>(terms: &mut Terms<'a, Sort>) -> Result<FormRead<'a>, Refused>
     ensures { Gives (λ r. (whole_of r, terms.new)) result (first_form pins_forms terms.old) }
 {
     let first = any(terms)?;
@@ -266,7 +267,7 @@ fn pins<'a>(terms: &mut Terms<'a>) -> Result<FormRead<'a>, Refused>
 }
 
 /// Behind the name of a pin.
-fn pin<'a>(terms: &mut Terms<'a>) -> Result<FormRead<'a>, Refused>
+fn pin<'a>(terms: &mut Terms<'a, Sort>) -> Result<FormRead<'a>, Refused>
     ensures { Gives (λ r. (whole_of r, terms.new)) result (first_form pin_forms terms.old) }
 {
     let paren = expect(Sort::LeftParen, terms)?;
@@ -274,7 +275,7 @@ fn pin<'a>(terms: &mut Terms<'a>) -> Result<FormRead<'a>, Refused>
 }
 
 /// Behind the `(` of a pin.
-fn connection<'a>(terms: &mut Terms<'a>) -> Result<FormRead<'a>, Refused>
+fn connection<'a>(terms: &mut Terms<'a, Sort>) -> Result<FormRead<'a>, Refused>
     ensures { Gives (λ r. (whole_of r, terms.new)) result (first_form connection_forms terms.old) }
 {
     let first = any(terms)?;
@@ -313,7 +314,7 @@ fn connection<'a>(terms: &mut Terms<'a>) -> Result<FormRead<'a>, Refused>
 }
 
 /// Behind the `]` of a bit.
-fn bit_given<'a>(terms: &mut Terms<'a>) -> Result<FormRead<'a>, Refused>
+fn bit_given<'a>(terms: &mut Terms<'a, Sort>) -> Result<FormRead<'a>, Refused>
     ensures { Gives (λ r. (whole_of r, terms.new)) result (first_form bit_given_forms terms.old) }
 {
     let paren = expect(Sort::RightParen, terms)?;
@@ -321,7 +322,7 @@ fn bit_given<'a>(terms: &mut Terms<'a>) -> Result<FormRead<'a>, Refused>
 }
 
 /// Behind the `)` of a pin.
-fn connected<'a>(terms: &mut Terms<'a>) -> Result<FormRead<'a>, Refused>
+fn connected<'a>(terms: &mut Terms<'a, Sort>) -> Result<FormRead<'a>, Refused>
     ensures { Gives (λ r. (whole_of r, terms.new)) result (first_form connected_forms terms.old) }
 {
     let first = any(terms)?;
@@ -345,7 +346,7 @@ fn connected<'a>(terms: &mut Terms<'a>) -> Result<FormRead<'a>, Refused>
 }
 
 /// Behind the `)` of an instance.
-fn closed<'a>(terms: &mut Terms<'a>) -> Result<FormRead<'a>, Refused>
+fn closed<'a>(terms: &mut Terms<'a, Sort>) -> Result<FormRead<'a>, Refused>
     ensures { Gives (λ r. (whole_of r, terms.new)) result (first_form closed_forms terms.old) }
 {
     let first = any(terms)?;
@@ -361,7 +362,7 @@ fn closed<'a>(terms: &mut Terms<'a>) -> Result<FormRead<'a>, Refused>
 }
 
 /// Behind the end of the text.
-fn at_end<'a>(terms: &mut Terms<'a>) -> Result<FormRead<'a>, Refused>
+fn at_end<'a>(terms: &mut Terms<'a, Sort>) -> Result<FormRead<'a>, Refused>
     ensures { Gives (λ r. (whole_of r, terms.new)) result (first_form [] terms.old) }
 {
     let first = any(terms)?;
@@ -369,7 +370,7 @@ fn at_end<'a>(terms: &mut Terms<'a>) -> Result<FormRead<'a>, Refused>
 }
 
 /// The next form.
-pub fn read_form<'a>(context: Context, terms: &mut Terms<'a>) -> Result<FormRead<'a>, Refused>
+pub fn read_form<'a>(context: Context, terms: &mut Terms<'a, Sort>) -> Result<FormRead<'a>, Refused>
     ensures { Gives (λ r. (whole_of r, terms.new)) result (first_form (forms_in context) terms.old) }
 {
     match context {

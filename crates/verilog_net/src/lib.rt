@@ -12,7 +12,6 @@ mod refusal;
 mod sort;
 mod state;
 mod stop;
-mod term;
 
 pub use netlist::{Instance, Modules, Name, Net, Netlist, PortRole, Wire};
 pub use port::PortFound;

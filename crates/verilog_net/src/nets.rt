@@ -1,11 +1,16 @@
 //! The nets of a module by their names.
 
-ghost use Rattle.std.specs.Prelude.{◌≡◌, ℕ, ◌+◌, ◌<◌, ◌≤◌, length, IfSome};
+ghost use Rattle.std.specs.Prelude.{◌≡◌, ℕ, ◌+◌, ◌<◌, ◌≤◌, [], length, IfSome, IfOk, OnOk};
+ghost use Rattle.text_forms.specs.Names.{with_value};
 ghost use Rattle.verilog_net.specs.Nets.{number_of, closed_from, closed_number, bit_from, has_bit, named_bit};
-ghost use Rattle.verilog_net.specs.Nets.{same_range, joined_role, is_directed, is_port, has_clash, most_bit};
+ghost use Rattle.verilog_net.specs.Nets.{same_range, joined_role, is_directed, is_port, most_bit};
+ghost use Rattle.verilog_net.specs.Nets.{bit_nets_of, with_bit_net, with_net, has_bit_net};
+ghost use Rattle.std.specs.List.{list_any};
 
 use crate::netlist::{Net, PortRole};
-use text_forms::NameTable;
+use std::alloc::{AllocError, Global};
+use text_forms::{NameTable, Named};
+use xt_model::Row;
 
 /// The greatest number of a bit.
 const MOST_BIT: u32 = 1_048_575;
@@ -169,20 +174,73 @@ pub fn is_port(nets: &NameTable<Net>, name: &[u8]) -> bool
     }
 }
 
-/// Whether some net has the name of a bit of a bus.
-pub fn has_clash(nets: &NameTable<Net>) -> bool
-    ensures { result ≡ has_clash nets.now }
+/// Takes out the numbers of a bus.
+fn taken<'a>(
+    alloc: Global,
+    bit_nets: &mut Named<'a, Row<u32>>,
+    bus: &'a [u8],
+) -> Result<Vec<u32>, AllocError>
+    ensures numbers { IfOk result (λ ns. ns.items ≡ bit_nets_of bus.entry.now bit_nets.old) }
+    ensures taken { OnOk result (bit_nets.new ≡ with_value bus.entry.now [] bit_nets.old) }
 {
-    let count = nets.len();
-    let mut number: u32 = 0;
-    'nets: while number < count {
-        let Some((name, _)) = nets.get(number) else {
-            return false;
-        };
-        if named_bit(nets, name).is_some() {
-            return true;
-        }
-        number += 1;
+    match bit_nets.replace(bus, Row::from_vec(Vec::new(alloc)))? {
+        Some(numbers) => Ok(numbers.into_vec()),
+        None => Ok(Vec::new(alloc)),
     }
-    false
+}
+
+/// Notes that a further net has the name of this bit of this bus.
+fn note_bit<'a>(
+    alloc: Global,
+    bit_nets: &mut Named<'a, Row<u32>>,
+    bus: &'a [u8],
+    bit: u32,
+) -> Result<(), AllocError>
+    ensures { OnOk result (bit_nets.new ≡ with_bit_net bus.entry.now bit bit_nets.old) }
+{
+    let mut numbers = taken(alloc, bit_nets, bus)?;
+    numbers.push(bit)?;
+    bit_nets.set(bus, Row::from_vec(numbers))?;
+    Ok(())
+}
+
+/// Notes that a further net has this name, which may be that of a bit.
+#[tactic(auto, unfolding(crate::specs::Nets::with_net))]
+pub fn note_net<'a>(
+    alloc: Global,
+    bit_nets: &mut Named<'a, Row<u32>>,
+    name: &'a [u8],
+) -> Result<(), AllocError>
+    ensures { OnOk result (bit_nets.new ≡ with_net name.entry.now bit_nets.old) }
+{
+    let Some((at, bit)) = bit_place(name) else {
+        return Ok(());
+    };
+    note_bit(alloc, bit_nets, &name[..at], bit)?;
+    Ok(())
+}
+
+/// Whether a bus has one of these bits.
+fn has_one(range: (u32, u32), bits: &[u32]) -> bool
+    ensures { result ≡ list_any (has_bit range) bits.now }
+{
+    bits.iter().any(|bit| has_bit(range, *bit))
+}
+
+/// Whether some net has the name of a bit of this bus.
+#[tactic(auto, unfolding(crate::specs::Nets::has_bit_net))]
+pub fn has_bit_net<'a>(
+    bit_nets: &Named<'a, Row<u32>>,
+    bus: &'a [u8],
+    range: Option<(u32, u32)>,
+) -> bool
+    ensures { result ≡ has_bit_net bus.entry.now range bit_nets.now }
+{
+    let Some(range) = range else {
+        return false;
+    };
+    match bit_nets.get(bus) {
+        Some(bits) => has_one(range, bits.as_slice()),
+        None => false,
+    }
 }

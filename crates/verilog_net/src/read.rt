@@ -10,10 +10,11 @@ ghost use Rattle.verilog_net.specs.Reading.{Reads, Steps};
 use crate::context::Context;
 use crate::forms::{is_done, read_form, refused};
 use crate::netlist::{Modules, Netlist};
+use crate::sort::Sort;
 use crate::state::Progress;
 use crate::stop::Stop;
-use crate::term::Terms;
 use std::alloc::Global;
+use text_forms::Terms;
 use xt_lex::{Code, LexFault, MOST_BYTES, Rules, TextFault, find_fault};
 use xt_model::Row;
 
@@ -21,7 +22,7 @@ use xt_model::Row;
 fn step<'a>(
     alloc: Global,
     context: Context,
-    terms: &mut Terms<'a>,
+    terms: &mut Terms<'a, Sort>,
     state: &mut Progress<'a>,
 ) -> Result<Context, TextFault>
     requires { is_done context ≡ false }
@@ -50,14 +51,17 @@ fn step<'a>(
 fn read_all<'a>(
     alloc: Global,
     single: bool,
-    terms: &mut Terms<'a>,
+    terms: &mut Terms<'a, Sort>,
 ) -> Result<Progress<'a>, TextFault>
     ensures { Reads (λ s. s) result (rest_means Start terms.old (nothing single)) }
 {
     let mut state = Progress::new(alloc, single);
     let mut context = Context::Start;
     'forms: while !is_done(context) {
-        context = step(alloc, context, terms, &mut state)?;
+        match step(alloc, context, terms, &mut state) {
+            Ok(next) => context = next,
+            Err(fault) => return Err(fault),
+        }
     }
     match terms.next_term() {
         None => Ok(state),
@@ -93,7 +97,7 @@ fn modules(alloc: Global, single: bool, bytes: &[u8]) -> Result<Vec<Netlist>, Te
         Some(LexFault::NoMemory) => return Err(TextFault::NoMemory),
         None => {}
     }
-    let state = read_all(alloc, single, &mut Terms::new(bytes))?;
+    let state = read_all(alloc, single, &mut Terms::new(bytes, Rules::Verilog))?;
     Ok(state.into_ended())
 }
 

@@ -1,7 +1,13 @@
 //! The sorts of tokens.
 
 ghost use Rattle.std.specs.Prelude.{◌≡◌};
-ghost use Rattle.verilog_net.specs.Sorts.{same_sort};
+ghost use Rattle.std.specs.Char.{is_ascii_graphic};
+ghost use Rattle.std.specs.List.{list_all};
+ghost use Rattle.verilog_net.specs.Sorts.{is_direction, is_net_type, is_unsupported, is_name};
+ghost use Rattle.verilog_net.specs.Sorts.{name_sort, digits_sort, letters_sort, word_sort, mark_sort, same_sort};
+
+use text_forms::TokenSort;
+use xt_lex::Kind;
 
 /// What a token is to the grammar. A token of another sort than these fits nowhere.
 #[derive(Clone, Copy, Debug, PartialEq, Eq)]
@@ -38,5 +44,162 @@ impl Sort {
         ensures { result ≡ same_sort self other }
     {
         self as u8 == other as u8
+    }
+}
+
+/// Whether the word is a direction.
+#[inline]
+fn is_direction(word: &[u8]) -> bool
+    ensures { result ≡ is_direction word.now }
+{
+    word == b"input".as_slice() || word == b"output".as_slice()
+}
+
+/// Whether the word is the type of a net.
+#[inline]
+fn is_net_type(word: &[u8]) -> bool
+    ensures { result ≡ is_net_type word.now }
+{
+    word == b"wire".as_slice()
+        || (word == b"tri".as_slice()
+            || (word == b"supply0".as_slice() || word == b"supply1".as_slice()))
+}
+
+/// Whether the word begins something that is not read.
+#[inline]
+fn is_unsupported(word: &[u8]) -> bool
+    ensures { result ≡ is_unsupported word.now }
+{
+    word == b"assign".as_slice()
+        || (word == b"inout".as_slice()
+            || (word == b"parameter".as_slice()
+                || (word == b"always".as_slice()
+                    || (word == b"initial".as_slice()
+                        || (word == b"reg".as_slice()
+                            || (word == b"function".as_slice()
+                                || (word == b"task".as_slice()
+                                    || word == b"generate".as_slice())))))))
+}
+
+/// Whether each byte is a printable one other than a space.
+#[inline]
+fn is_printable(bytes: &[u8]) -> bool
+    ensures { result ≡ list_all is_ascii_graphic bytes.now }
+{
+    bytes.iter().all(|b| b.is_ascii_graphic())
+}
+
+/// Whether the bytes may be a name.
+#[inline]
+fn is_name(name: &[u8]) -> bool
+    ensures { result ≡ is_name name.now }
+{
+    !name.is_empty() && (name.len() <= 1024 && is_printable(name))
+}
+
+/// What bytes are that stand where a name may stand.
+#[inline]
+fn name_sort(name: &[u8]) -> Sort
+    ensures { result ≡ name_sort name.now }
+{
+    if is_name(name) {
+        Sort::Name
+    } else {
+        Sort::Other
+    }
+}
+
+/// What digits are, by what stands behind the first of them.
+#[inline]
+fn digits_sort(more: &[u8]) -> Sort
+    ensures { result ≡ digits_sort more.now }
+{
+    match more {
+        [b'\'', ..] => Sort::Constant,
+        _ => Sort::Number,
+    }
+}
+
+/// What a word of letters is.
+#[inline]
+fn letters_sort(word: &[u8]) -> Sort
+    ensures { result ≡ letters_sort word.now }
+{
+    if word == b"module".as_slice() {
+        Sort::Module
+    } else if word == b"endmodule".as_slice() {
+        Sort::Endmodule
+    } else if is_direction(word) {
+        Sort::Direction
+    } else if is_net_type(word) {
+        Sort::NetType
+    } else if is_unsupported(word) {
+        Sort::Unsupported
+    } else {
+        name_sort(word)
+    }
+}
+
+/// What a word is.
+#[tactic(auto, unfolding(crate::specs::Sorts::word_sort))]
+#[inline]
+fn word_sort(word: &[u8]) -> Sort
+    ensures { result ≡ word_sort word.now }
+{
+    match word {
+        [] => Sort::Other,
+        [first, more @ ..] => {
+            if first.is_ascii_digit() {
+                digits_sort(more)
+            } else {
+                letters_sort(word)
+            }
+        }
+    }
+}
+
+/// What a mark is.
+#[tactic(auto, unfolding(crate::specs::Sorts::mark_sort))]
+#[inline]
+fn mark_sort(mark: &[u8]) -> Sort
+    ensures { result ≡ mark_sort mark.now }
+{
+    match mark {
+        b"(" => Sort::LeftParen,
+        b")" => Sort::RightParen,
+        b"[" => Sort::LeftBracket,
+        b"]" => Sort::RightBracket,
+        b"{" => Sort::LeftBrace,
+        b"," => Sort::Comma,
+        b";" => Sort::Semicolon,
+        b":" => Sort::Colon,
+        b"." => Sort::Dot,
+        b"#" => Sort::Unsupported,
+        _ => Sort::Other,
+    }
+}
+
+impl TokenSort for Sort {
+    ghost use Rattle.verilog_net.specs.Sorts.{sort_by};
+    ghost use Rattle.verilog_net.specs.declared.sort.Sort.TheVariants.{End};
+
+    ghost sort_by = { sort_by };
+
+    ghost end = { End };
+
+    #[inline]
+    fn sort_by(kind: Kind, text: &[u8]) -> Sort {
+        match kind {
+            Kind::Word => word_sort(text),
+            Kind::Mark => mark_sort(text),
+            Kind::Escaped => name_sort(text),
+            Kind::Text => Sort::Other,
+            Kind::Break => Sort::Other,
+        }
+    }
+
+    #[inline]
+    fn end() -> Sort {
+        Sort::End
     }
 }

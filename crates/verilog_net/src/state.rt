@@ -2,20 +2,21 @@
 
 ghost use Rattle.std.specs.Prelude.{◌≡◌, ℕ, map, Ok};
 ghost use Rattle.std.specs.List.{list_all};
-ghost use Rattle.verilog_net.specs.Nets.{is_port};
+ghost use Rattle.verilog_net.specs.Nets.{is_port, named_bit};
 ghost use Rattle.verilog_net.specs.Meaning.{nothing, begin_module, name_module, list_name, end_module, declare};
+ghost use Rattle.verilog_net.specs.Meaning.{with_further, declare_new};
 ghost use Rattle.verilog_net.specs.Meaning.{declare_scalar, left_bound, right_bound, begin_further, begin_instance};
 ghost use Rattle.verilog_net.specs.Meaning.{begin_pin, connect, connect_name, connect_bit, end_instance, means};
 ghost use Rattle.verilog_net.specs.View.{said, Changes};
 
 use crate::item::Item;
 use crate::netlist::{Instance, Name, Net, Netlist, PortRole, Wire};
-use crate::nets::{has_bit, has_clash, is_port, named_bit, number_of, same_range};
+use crate::nets::{has_bit, has_bit_net, is_port, named_bit, note_net, number_of, same_range};
 use crate::stop::Stop;
 use std::alloc::Global;
 use std::marker::Model;
 use std::mem;
-use text_forms::{NameTable, Names};
+use text_forms::{NameTable, Named, Names};
 use xt_model::{Code, Row};
 
 /// What the forms of a netlist said so far.
@@ -27,6 +28,7 @@ pub struct Progress<'a> {
     current: &'a [u8],
     header: Vec<&'a [u8]>,
     nets: NameTable<Net>,
+    bit_nets: Named<'a, Row<u32>>,
     instance_names: Names<'a>,
     instances: Vec<Instance>,
     role: PortRole,
@@ -53,6 +55,7 @@ impl<'a> Model for Progress<'a> {
       current = s.current.now;
       header = map (λ n. n.now) s.header.items;
       nets = s.nets;
+      bit_nets = s.bit_nets;
       instance_names = s.instance_names;
       instances = s.instances.items;
       role = s.role;
@@ -93,6 +96,7 @@ impl<'a> Progress<'a> {
             current: b"",
             header: Vec::new(alloc),
             nets: NameTable::new(alloc),
+            bit_nets: Named::new(alloc),
             instance_names: Names::new(alloc),
             instances: Vec::new(alloc),
             role: PortRole::Inner,
@@ -129,6 +133,7 @@ impl<'a> Progress<'a> {
         }
         self.current = name;
         self.header = Vec::new(alloc);
+        let _ = mem::replace(&mut self.bit_nets, Named::new(alloc));
         let _ = mem::replace(&mut self.instance_names, Names::new(alloc));
         Ok(())
     }
@@ -146,9 +151,6 @@ impl<'a> Progress<'a> {
     fn end_module(&mut self, alloc: Global) -> Result<(), Stop>
         ensures { Changes result self.new (end_module self.old) }
     {
-        if has_clash(&self.nets) {
-            return Err(Stop::Refused(Code::V3));
-        }
         if !are_ports(&self.nets, self.header.as_slice()) {
             return Err(Stop::Refused(Code::V4));
         }
@@ -163,28 +165,29 @@ impl<'a> Progress<'a> {
         Ok(())
     }
 
+    /// A further net.
+    fn further_net(&mut self, alloc: Global, name: &'a [u8], net: Net) -> Result<(), Stop>
+        ensures { Changes result self.new (Ok (with_further name.entry.now net self.old)) }
+    {
+        self.nets.set(alloc, name, net)?;
+        note_net(alloc, &mut self.bit_nets, name)?;
+        Ok(())
+    }
+
     /// Declares a name.
     #[tactic(auto, unfolding(crate::specs::Meaning::declare))]
     fn declare(&mut self, alloc: Global, name: &'a [u8]) -> Result<(), Stop>
         ensures { Changes result self.new (declare name.entry.now self.old) }
     {
-        let role = match self.nets.find(name) {
-            Some((_, net)) => {
-                let Some(role) = net.role.joined(self.role) else {
-                    return Err(Stop::Refused(Code::V3));
-                };
-                if !same_range(net.range, self.range) {
-                    return Err(Stop::Refused(Code::V3));
-                }
-                role
-            }
-            None => {
-                if named_bit(&self.nets, name).is_some() {
-                    return Err(Stop::Refused(Code::V3));
-                }
-                self.role
-            }
+        let Some((_, net)) = self.nets.find(name) else {
+            return self.declare_new(alloc, name);
         };
+        let Some(role) = net.role.joined(self.role) else {
+            return Err(Stop::Refused(Code::V3));
+        };
+        if !same_range(net.range, self.range) {
+            return Err(Stop::Refused(Code::V3));
+        }
         let net = Net {
             range: self.range,
             role,
@@ -192,6 +195,24 @@ impl<'a> Progress<'a> {
         };
         self.nets.set(alloc, name, net)?;
         Ok(())
+    }
+
+    /// Declares a name that no net has.
+    fn declare_new(&mut self, alloc: Global, name: &'a [u8]) -> Result<(), Stop>
+        ensures { Changes result self.new (declare_new name.entry.now self.old (named_bit name.entry.now self.old.nets)) }
+    {
+        if named_bit(&self.nets, name).is_some() {
+            return Err(Stop::Refused(Code::V3));
+        }
+        if has_bit_net(&self.bit_nets, name, self.range) {
+            return Err(Stop::Refused(Code::V3));
+        }
+        let net = Net {
+            range: self.range,
+            role: self.role,
+            declared: true,
+        };
+        self.further_net(alloc, name, net)
     }
 
     /// Declares a name without a range.
@@ -303,7 +324,7 @@ impl<'a> Progress<'a> {
             role: PortRole::Inner,
             declared: false,
         };
-        self.nets.set(alloc, name, net)?;
+        self.further_net(alloc, name, net)?;
         self.connect(alloc, Wire::Bit { decl, bit: 0 })
     }
 

@@ -1,7 +1,8 @@
 use Rattle.std.proofs.Common.{◌≡◌, false, true, [], rules, sym, ◌∙◌}
 use Rattle.std.proofs.lemmas.Result.{err_from_is_err_and}
 use Rattle.liberty_groups.specs.Grammar.{is_end}
-use Rattle.liberty_groups.specs.View.{whole_of, unfinished, token_of, refusal_of}
+use Rattle.text_forms.specs.Tokens.{token_of}
+use Rattle.liberty_groups.specs.View.{whole_of, unfinished, refusal_of}
 use Rattle.liberty_groups.proofs.FormByForm.{gives_refusal, goes_on, form_stops, no_form, at_end, behind_end, shorter}
 use Rattle.liberty_groups.proofs.reading.build.Goals as goal
 

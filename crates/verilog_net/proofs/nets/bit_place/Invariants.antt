@@ -1,4 +1,4 @@
-use Rattle.std.proofs.Common.{◌≡◌, ℕ, ◌≤◌, ◌+◌, length}
+use Rattle.std.proofs.Common.{◌≡◌, ◌+◌, length}
 use Rattle.verilog_net.specs.Nets.{bit_from}
 use Rattle.verilog_net.proofs.nets.bit_place.Given as goal
 

@@ -1,4 +1,4 @@
-use Rattle.std.proofs.Common.{◌≡◌, ℕ, ◌≤◌, ◌*◌, ◌+◌, length}
+use Rattle.std.proofs.Common.{◌≡◌, ◌≤◌, ◌*◌, ◌+◌, length}
 use Rattle.verilog_net.specs.Nets.{closed_from, most_bit}
 use Rattle.verilog_net.proofs.nets.closed_from.Given as goal
 

@@ -1,4 +1,4 @@
-use Rattle.std.proofs.Common.{◌≡◌, ℕ, ◌≤◌, ◌*◌, ◌+◌, length}
+use Rattle.std.proofs.Common.{◌≡◌, ◌≤◌, ◌*◌, ◌+◌, length}
 use Rattle.verilog_net.specs.Nets.{number_of, number_from, most_bit}
 use Rattle.verilog_net.proofs.nets.number_of.Given as goal
 

@@ -1,0 +1,12 @@
+use Rattle.std.proofs.Common.{ap, ◌∙◌, refl, map}
+use Rattle.text_forms.proofs.NameLaws.{value_mapped, value_looked_up, named}
+use Rattle.text_forms.proofs.names.Named.replace.Goals as goal
+
+pub returns-clause-given : goal.returns-clause-given
+returns-clause-given g c =
+    let k = ap (map (named (λ k. k.now))) c.in_ok-insert.ensures.entries ∙ value_mapped (λ k. k.now) c.self.inside.table.entries c.args.name c.args.value in
+    k ∙ rw c.self.view_is refl
+
+pub returns-clause-old : goal.returns-clause-old
+returns-clause-old g c =
+    c.in_ok-insert.ensures.old ∙ (value_looked_up (λ k. k.now) c.args.name.now c.self.inside.table.entries ∙ rw c.self.view_is refl)
