@@ -1,0 +1,2 @@
+pub mod NumberForms
+pub mod Steps

@@ -1,0 +1,7 @@
+pub mod Words
+pub mod Sorts
+pub mod Forms
+pub mod Names
+pub mod Meaning
+pub mod Reading
+pub mod View

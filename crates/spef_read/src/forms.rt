@@ -1,0 +1,299 @@
+//! One form of a text outside the sections of nets, by what may come next.
+
+ghost use Rattle.std.specs.Prelude.{◌≡◌, ℕ, false, [], ◌∷◌, MatchResult, IfOk, IfErr};
+ghost use Rattle.spef_read.specs.declared.sort.Sort.TheVariants.{Brackets};
+ghost use Rattle.spef_read.specs.Forms.{misfit, separator_of, quantity_of, first_form, section_forms, start_forms};
+ghost use Rattle.spef_read.specs.Forms.{header_forms, flow_forms, unit_forms, pairs_forms, pair_name_forms};
+ghost use Rattle.spef_read.specs.Forms.{skipped_forms, forms_in, is_done, Only};
+ghost use Rattle.spef_read.specs.View.{token_of, said, whole_of, refusal_of, refusal_at, IsOther, Gives};
+
+use crate::context::Context;
+use crate::item::{FormRead, Item, Quantity, Separator};
+use crate::net_forms::{
+    cap_second, cap_value, capacitors, connection, connections, lists, net_name, net_total,
+    res_second, res_value, resistors, totalled,
+};
+use crate::refusal::Refused;
+use crate::sort::Sort;
+use crate::term::{Term, Terms};
+use xt_model::Code;
+
+/// A form that was read, whose last token stands in this line.
+#[inline]
+pub fn done(item: Item<'_>, line: u32, next: Context) -> FormRead<'_>
+    ensures { whole_of result ≡ record { said = said item.entry; line = line; next = next } }
+{
+    FormRead { item, line, next }
+}
+
+/// The code of a token that does not fit.
+fn misfit(sort: Sort) -> Code
+    ensures { result ≡ misfit sort }
+{
+    match sort {
+        Sort::End => Code::S2,
+        _ => Code::S1,
+    }
+}
+
+/// The refusal of a token that does not fit.
+pub fn refused(term: Term<'_>) -> Refused
+    ensures { refusal_of result ≡ record { line = term.entry.line; code = misfit term.entry.sort } }
+{
+    Refused {
+        line: term.line,
+        code: misfit(term.sort),
+    }
+}
+
+/// Which mark of names the word gives.
+fn separator_of(word: &[u8]) -> Separator
+    ensures { result ≡ separator_of word.now }
+{
+    if word == b"*DIVIDER".as_slice() {
+        Separator::Divider
+    } else {
+        Separator::Delimiter
+    }
+}
+
+/// What the word's unit is of.
+fn quantity_of(word: &[u8]) -> Quantity
+    ensures { result ≡ quantity_of word.now }
+{
+    if word == b"*T_UNIT".as_slice() {
+        Quantity::Time
+    } else if word == b"*C_UNIT".as_slice() {
+        Quantity::Capacitance
+    } else if word == b"*R_UNIT".as_slice() {
+        Quantity::Resistance
+    } else {
+        Quantity::Inductance
+    }
+}
+
+/// The next token.
+#[inline]
+pub fn any<'a>(terms: &mut Terms<'a>) -> Result<Term<'a>, Refused>
+    ensures { MatchResult result (λ t. terms.old ≡ token_of t ∷ terms.new)
+        (λ r. (terms.old ≡ []) × (refusal_of r ≡ refusal_at [])) }
+{
+    terms.next_term().ok_or(Refused {
+        line: 1,
+        code: Code::S2,
+    })
+}
+
+/// The next token, which has to be of this sort.
+#[inline]
+pub fn expect<'a>(sort: Sort, terms: &mut Terms<'a>) -> Result<Term<'a>, Refused>
+    ensures found { IfOk result (λ t. (terms.old ≡ token_of t ∷ terms.new) × (t.sort ≡ sort)) }
+    ensures refused { IfErr result (λ r. refusal_of r ≡ refusal_at terms.old) }
+    ensures other { IfErr result (λ r. IsOther (Only sort) terms.old) }
+{
+    let term = any(terms)?;
+    if sort.same(term.sort) {
+        Ok(term)
+    } else {
+        Err(refused(term))
+    }
+}
+
+/// At the start of a text.
+fn at_start<'a>(terms: &mut Terms<'a>) -> Result<FormRead<'a>, Refused>
+    ensures { Gives (λ r. (whole_of r, terms.new)) result (first_form start_forms terms.old) }
+{
+    expect(Sort::Spef, terms)?;
+    let text = expect(Sort::Text, terms)?;
+    Ok(done(Item::Nothing, text.line, Context::Header))
+}
+
+/// A section, or the end of the text, from its first token on.
+fn section_from<'a>(first: Term<'a>, terms: &Terms<'a>) -> Result<FormRead<'a>, Refused>
+    ensures { Gives (λ r. (whole_of r, terms.now)) result (first_form section_forms (token_of first.entry ∷ terms.now)) }
+{
+    match first.sort {
+        Sort::NameMap => Ok(done(Item::Nothing, first.line, Context::Pairs)),
+        Sort::Skipped => Ok(done(Item::Nothing, first.line, Context::Skipped)),
+        Sort::Net => Ok(done(Item::NetBegins, first.line, Context::NetName)),
+        Sort::Unsupported => Ok(done(Item::Refused(Code::S7), first.line, Context::Done)),
+        Sort::End => Ok(done(Item::TextEnds, first.line, Context::Done)),
+        _ => Err(refused(first)),
+    }
+}
+
+/// The brackets of a bus's bit.
+fn brackets<'a>(first: Term<'a>, terms: &mut Terms<'a>) -> Result<FormRead<'a>, Refused>
+    requires { first.sort ≡ Brackets }
+    ensures { Gives (λ r. (whole_of r, terms.new)) result (first_form header_forms (token_of first.entry ∷ terms.old)) }
+{
+    let second = any(terms)?;
+    match second.sort {
+        Sort::Word => Ok(done(Item::Pair(second.text), second.line, Context::Header)),
+        Sort::Bracket => {
+            let third = any(terms)?;
+            match third.sort {
+                Sort::Text | Sort::End => Err(refused(third)),
+                _ => {
+                    let item = Item::Brackets(second.text, third.text);
+                    Ok(done(item, third.line, Context::Header))
+                }
+            }
+        }
+        _ => Err(refused(second)),
+    }
+}
+
+/// An item of the header, or what comes behind it, from its first token on.
+fn header_from<'a>(first: Term<'a>, terms: &mut Terms<'a>) -> Result<FormRead<'a>, Refused>
+    ensures { Gives (λ r. (whole_of r, terms.new)) result (first_form header_forms (token_of first.entry ∷ terms.old)) }
+{
+    match first.sort {
+        Sort::Title => {
+            let text = expect(Sort::Text, terms)?;
+            Ok(done(Item::Nothing, text.line, Context::Header))
+        }
+        Sort::Flow => {
+            let text = expect(Sort::Text, terms)?;
+            Ok(done(Item::Nothing, text.line, Context::Flow))
+        }
+        Sort::Separator => {
+            let which = separator_of(first.text);
+            let second = any(terms)?;
+            match second.sort {
+                Sort::Text | Sort::End => Err(refused(second)),
+                _ => {
+                    let item = Item::Separator(which, second.text);
+                    Ok(done(item, second.line, Context::Header))
+                }
+            }
+        }
+        Sort::Brackets => brackets(first, terms),
+        Sort::Unit => {
+            let quantity = quantity_of(first.text);
+            let second = any(terms)?;
+            match second.sort {
+                Sort::Text | Sort::End => Err(refused(second)),
+                _ => {
+                    let item = Item::UnitNumber(quantity, second.text);
+                    Ok(done(item, second.line, Context::Unit))
+                }
+            }
+        }
+        _ => section_from(first, &*terms),
+    }
+}
+
+/// An item of the header, or what comes behind it.
+fn header<'a>(terms: &mut Terms<'a>) -> Result<FormRead<'a>, Refused>
+    ensures { Gives (λ r. (whole_of r, terms.new)) result (first_form header_forms terms.old) }
+{
+    let first = any(terms)?;
+    header_from(first, terms)
+}
+
+/// Behind a string of the design's flow.
+fn flow<'a>(terms: &mut Terms<'a>) -> Result<FormRead<'a>, Refused>
+    ensures { Gives (λ r. (whole_of r, terms.new)) result (first_form flow_forms terms.old) }
+{
+    let first = any(terms)?;
+    match first.sort {
+        Sort::Text => Ok(done(Item::Nothing, first.line, Context::Flow)),
+        _ => header_from(first, terms),
+    }
+}
+
+/// Behind the number of a unit.
+fn unit<'a>(terms: &mut Terms<'a>) -> Result<FormRead<'a>, Refused>
+    ensures { Gives (λ r. (whole_of r, terms.new)) result (first_form unit_forms terms.old) }
+{
+    let first = any(terms)?;
+    match first.sort {
+        Sort::Text | Sort::End => Err(refused(first)),
+        _ => Ok(done(Item::Unit(first.text), first.line, Context::Header)),
+    }
+}
+
+/// In the name map.
+fn pairs<'a>(terms: &mut Terms<'a>) -> Result<FormRead<'a>, Refused>
+    ensures { Gives (λ r. (whole_of r, terms.new)) result (first_form pairs_forms terms.old) }
+{
+    let first = any(terms)?;
+    match first.sort {
+        Sort::Index => Ok(done(Item::PairNumber(first.text), first.line, Context::PairName)),
+        _ => section_from(first, &*terms),
+    }
+}
+
+/// Behind the number of a pair.
+fn pair_name<'a>(terms: &mut Terms<'a>) -> Result<FormRead<'a>, Refused>
+    ensures { Gives (λ r. (whole_of r, terms.new)) result (first_form pair_name_forms terms.old) }
+{
+    let first = any(terms)?;
+    match first.sort {
+        Sort::Text | Sort::End => Err(refused(first)),
+        _ => Ok(done(Item::PairName(first.text), first.line, Context::Pairs)),
+    }
+}
+
+/// In a section that is skipped.
+fn skipped<'a>(terms: &mut Terms<'a>) -> Result<FormRead<'a>, Refused>
+    ensures { Gives (λ r. (whole_of r, terms.new)) result (first_form skipped_forms terms.old) }
+{
+    let first = any(terms)?;
+    match first.sort {
+        Sort::NameMap | Sort::Skipped | Sort::Net | Sort::Unsupported | Sort::End => {
+            section_from(first, &*terms)
+        }
+        _ => Ok(done(Item::Nothing, first.line, Context::Skipped)),
+    }
+}
+
+/// Behind the end of a net.
+fn between<'a>(terms: &mut Terms<'a>) -> Result<FormRead<'a>, Refused>
+    ensures { Gives (λ r. (whole_of r, terms.new)) result (first_form section_forms terms.old) }
+{
+    let first = any(terms)?;
+    section_from(first, &*terms)
+}
+
+/// The form that is next in a context.
+pub fn read_form<'a>(context: Context, terms: &mut Terms<'a>) -> Result<FormRead<'a>, Refused>
+    requires { is_done context ≡ false }
+    ensures { Gives (λ r. (whole_of r, terms.new)) result (first_form (forms_in context) terms.old) }
+{
+    match context {
+        Context::Start => at_start(terms),
+        Context::Header => header(terms),
+        Context::Flow => flow(terms),
+        Context::Unit => unit(terms),
+        Context::Pairs => pairs(terms),
+        Context::PairName => pair_name(terms),
+        Context::Skipped => skipped(terms),
+        Context::Between => between(terms),
+        Context::NetName => net_name(terms),
+        Context::NetTotal => net_total(terms),
+        Context::Totalled => totalled(terms),
+        Context::Lists => lists(terms),
+        Context::Connections => connections(terms),
+        Context::Connection => connection(terms),
+        Context::Capacitors => capacitors(terms),
+        Context::CapSecond => cap_second(terms),
+        Context::CapValue => cap_value(terms),
+        Context::Resistors => resistors(terms),
+        Context::ResSecond => res_second(terms),
+        Context::ResValue => res_value(terms),
+        Context::Done => Err(Refused {
+            line: 1,
+            code: Code::S2,
+        }),
+    }
+}
+
+/// Whether the text is at its end.
+#[inline]
+pub fn is_done(context: Context) -> bool
+    ensures { result ≡ is_done context }
+{
+    matches!(context, Context::Done)
+}

@@ -1,0 +1,21 @@
+//! SPEF (IEEE 1481): from the bytes of extracted parasitics to the capacitors and resistors of each net.
+#![tactic(auto)]
+
+mod context;
+mod forms;
+mod item;
+mod marks;
+mod names;
+mod net_forms;
+mod parasitics;
+mod read;
+mod refusal;
+mod sort;
+mod state;
+mod stop;
+mod term;
+mod values;
+mod words;
+
+pub use parasitics::{CapText, Name, Parasitics, ResText, WireText};
+pub use read::read_spef;

@@ -1,0 +1,159 @@
+//! Names as they are meant.
+
+ghost use Rattle.std.specs.Prelude.{◌≡◌, ℕ, List, false, ◌++◌, OnOk};
+ghost use Rattle.spef_read.specs.Names.{meant, unescaped, has_size, sized, mapped_name, whole_name, pair_name};
+ghost use Rattle.spef_read.specs.View.{Changes, Computes};
+
+use crate::marks::Marks;
+use crate::stop::Stop;
+use crate::words::{are_digits, split_at_mark, without_zeros};
+use std::alloc::{AllocError, Global};
+use std::marker::Model;
+use text_forms::Named;
+use xt_model::Code;
+
+/// The greatest number of bytes of a name.
+const MOST_NAME: usize = 2049;
+
+/// A name of the name map, as it is meant.
+#[derive(Debug, Drop)]
+pub struct MapName {
+    bytes: Vec<u8>,
+}
+
+impl Model for MapName {
+    ghost use Rattle.std.specs.Prelude.{ℕ, List};
+
+    ghost Value = { List ℕ };
+
+    ghost view = { λ n. n.bytes.items };
+}
+
+impl MapName {
+    /// The bytes of the name.
+    #[inline]
+    fn bytes(&self) -> &[u8]
+        ensures { result.now ≡ self.now }
+    {
+        self.bytes.as_slice()
+    }
+}
+
+/// What a byte of a name is that has no backslash before it.
+#[inline]
+fn meant(marks: Marks, byte: u8) -> u8
+    ensures { result ≡ meant marks byte }
+{
+    if byte == marks.divider {
+        b'/'
+    } else if byte == marks.left {
+        b'['
+    } else if byte == marks.right {
+        b']'
+    } else {
+        byte
+    }
+}
+
+/// Appends the bytes of a name as they are meant.
+fn push_unescaped(marks: Marks, word: &[u8], out: &mut Vec<u8>) -> Result<(), AllocError>
+    ensures { OnOk result (out.new.items ≡ out.old.items ++ unescaped marks false word.now) }
+{
+    let mut kept = false;
+    let mut rest = word;
+    'bytes: while let [byte, more @ ..] = rest {
+        if *byte == b'\\' {
+            kept = true;
+        } else {
+            let own = if kept { *byte } else { meant(marks, *byte) };
+            out.push(own)?;
+            kept = false;
+        }
+        rest = more;
+    }
+    Ok(())
+}
+
+/// Whether a name has as many bytes as a name may have.
+#[inline]
+fn has_size(name: &[u8]) -> bool
+    ensures { result ≡ has_size name.now }
+{
+    !name.is_empty() && name.len() <= MOST_NAME
+}
+
+/// Refuses a name of another size.
+#[inline]
+fn sized(name: &[u8]) -> Result<(), Stop>
+    ensures { Changes result name.now (sized name.now) }
+{
+    if has_size(name) {
+        Ok(())
+    } else {
+        Err(Stop::Refused(Code::S1))
+    }
+}
+
+/// Makes `out` the name that a word without a `*` in front means.
+fn plain_name(marks: Marks, word: &[u8], out: &mut Vec<u8>) -> Result<(), Stop>
+    ensures { Changes result out.new.items (sized (unescaped marks false word.now)) }
+{
+    out.clear();
+    push_unescaped(marks, word, out)?;
+    sized(out.as_slice())
+}
+
+/// Makes `out` the name that `*` means with these bytes behind it.
+fn mapped_name<'a>(
+    marks: Marks,
+    map: &Named<'a, MapName>,
+    more: &'a [u8],
+    out: &mut Vec<u8>,
+) -> Result<(), Stop>
+    ensures { Changes result out.new.items (mapped_name marks map.now more.entry.now) }
+{
+    let (index, behind) = split_at_mark(marks.delimiter, more);
+    if !are_digits(index) {
+        return Err(Stop::Refused(Code::S1));
+    }
+    let Some((_, name)) = map.find(without_zeros(index)) else {
+        return Err(Stop::Refused(Code::S5));
+    };
+    out.clear();
+    out.extend_from_slice(name.bytes())?;
+    push_unescaped(marks, behind, out)?;
+    sized(out.as_slice())
+}
+
+/// Makes `out` the whole name that a word means.
+#[tactic(auto, unfolding(crate::specs::Names::whole_name))]
+pub fn whole_name<'a>(
+    marks: Marks,
+    map: &Named<'a, MapName>,
+    word: &'a [u8],
+    out: &mut Vec<u8>,
+) -> Result<(), Stop>
+    ensures { Changes result out.new.items (whole_name marks map.now word.entry.now) }
+{
+    match word {
+        [] => Err(Stop::Refused(Code::S1)),
+        [b'*', more @ ..] => mapped_name(marks, map, more, out),
+        [_, ..] => plain_name(marks, word, out),
+    }
+}
+
+/// The name of a pair of the name map.
+#[tactic(auto, unfolding(crate::specs::Names::pair_name))]
+pub fn pair_name(alloc: Global, marks: Marks, word: &[u8]) -> Result<MapName, Stop>
+    ensures { Computes (λ n. n) result (pair_name marks word.now) }
+{
+    match word {
+        [] => Err(Stop::Refused(Code::S1)),
+        [b'*', ..] => Err(Stop::Refused(Code::S1)),
+        [_, ..] => {
+            let mut bytes = Vec::new(alloc);
+            plain_name(marks, word, &mut bytes)?;
+            Ok(MapName { bytes })
+        }
+    }
+}

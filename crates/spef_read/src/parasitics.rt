@@ -1,0 +1,61 @@
+//! Parasitics: the nets of a text with their capacitors and resistors.
+
+ghost use Rattle.std.specs.Prelude.{◌≡◌, map, option_map};
+ghost use Rattle.std.specs.List.{slice_get};
+
+use text_forms::NameTable;
+use xt_model::Row;
+
+/// A name, by its number among the names of its text.
+#[derive(Clone, Copy, Debug, PartialEq, Eq)]
+pub struct Name {
+    pub number: u32,
+}
+
+/// A capacitor from a node to ground, or to the node `b`. `value` is its capacitance in aF.
+#[derive(Clone, Copy, Debug, PartialEq, Eq)]
+pub struct CapText {
+    pub a: Name,
+    pub b: Option<Name>,
+    pub value: i64,
+}
+
+/// A resistor between two nodes. `value` is its resistance in mΩ.
+#[derive(Clone, Copy, Debug, PartialEq, Eq)]
+pub struct ResText {
+    pub a: Name,
+    pub b: Name,
+    pub value: i64,
+}
+
+/// A net with its total capacitance in aF, its capacitors and its resistors, in the order of the text.
+#[derive(Debug, Drop)]
+pub struct WireText {
+    pub name: Name,
+    pub total: i64,
+    pub caps: Row<CapText>,
+    pub resistors: Row<ResText>,
+}
+
+/// The nets of a text in its order. `names` has the names of nets and nodes in the order of their first use, each with
+/// the number of the net that has it: whole, with the names of the name map in the place of their numbers, without
+/// backslashes, with `/` between their parts and `[` and `]` around a bit. In the name of a pin `delimiter` stands
+/// before the pin.
+#[derive(Drop)]
+pub struct Parasitics {
+    pub delimiter: u8,
+    pub names: NameTable<Option<u32>>,
+    pub nets: Row<WireText>,
+}
+
+impl Parasitics {
+    /// The bytes of a name.
+    pub fn bytes(&self, name: Name) -> Option<&[u8]>
+        ensures { option_map (λ b. b.now) result ≡ slice_get (map (λ e. e.0) self.now.names) name.number }
+    {
+        match self.names.get(name.number) {
+            Some((bytes, _)) => Some(bytes),
+            None => None,
+        }
+    }
+}

@@ -1,0 +1,103 @@
+//! From the bytes of a text to its parasitics.
+
+ghost use Rattle.std.specs.Prelude.{◌≡◌, ◌≤◌, length, false};
+ghost use Rattle.spef_read.specs.Forms.{is_done};
+ghost use Rattle.spef_read.specs.Meaning.{nothing};
+ghost use Rattle.spef_read.specs.declared.context.Context.TheVariants.{Start};
+ghost use Rattle.spef_read.specs.Reading.{rest_means, text_state, parasitics_of, Reads, Steps};
+
+use crate::context::Context;
+use crate::forms::{is_done, read_form, refused};
+use crate::parasitics::Parasitics;
+use crate::state::Progress;
+use crate::stop::Stop;
+use crate::term::Terms;
+use std::alloc::Global;
+use xt_lex::{Code, LexFault, MOST_BYTES, Rules, TextFault, find_fault};
+
+/// Reads one form and does what it says.
+fn step<'a>(
+    alloc: Global,
+    context: Context,
+    terms: &mut Terms<'a>,
+    state: &mut Progress<'a>,
+) -> Result<Context, TextFault>
+    requires { is_done context ≡ false }
+    ensures { Steps context terms.old state.old result terms.new state.new }
+{
+    let read = match read_form(context, terms) {
+        Ok(read) => read,
+        Err(refused) => {
+            return Err(TextFault::Refused {
+                line: refused.line,
+                code: refused.code,
+            });
+        }
+    };
+    match state.act(alloc, read.item) {
+        Ok(()) => Ok(read.next),
+        Err(Stop::Refused(code)) => Err(TextFault::Refused {
+            line: read.line,
+            code,
+        }),
+        Err(Stop::NoMemory) => Err(TextFault::NoMemory),
+    }
+}
+
+/// Reads a text without a fault of its tokens to its end.
+fn read_all<'a>(alloc: Global, terms: &mut Terms<'a>) -> Result<Progress<'a>, TextFault>
+    ensures { Reads (λ s. s) result (rest_means Start terms.old nothing) }
+{
+    let mut state = Progress::new(alloc);
+    let mut context = Context::Start;
+    'forms: while !is_done(context) {
+        context = step(alloc, context, terms, &mut state)?;
+    }
+    match terms.next_term() {
+        None => Ok(state),
+        Some(more) => {
+            let refused = refused(more);
+            Err(TextFault::Refused {
+                line: refused.line,
+                code: refused.code,
+            })
+        }
+    }
+}
+
+/// The parasitics of a SPEF text (IEEE 1481).
+///
+/// A header is `*SPEF` and a string, and then titles, the flow, the divider, the delimiter, the brackets and the units
+/// in any order; the last of a kind counts. Sections are `*NAME_MAP`, those of ports and supplies, which are skipped,
+/// and `*D_NET`. A value is a number or three with colons between them, of which the middle one counts; capacitances
+/// are read in aF, resistances in mΩ, each rounded half away from zero.
+///
+/// `S1` is a token that does not fit or a name of no byte or of more than 2,049; `S2` a text that ends early, at its
+/// last line; `S3` a value below 0 or beyond the range; `S4` a unit that is not known, or a missing one of capacitance
+/// or resistance at the first net or at the end of the text; `S5` a number of the name map twice or unknown; `S6` a net
+/// twice; `S7` a section or a list that is not taken. The first refusal counts; one of the tokens themselves comes
+/// before all others. Takes time and memory linear in the bytes.
+#[tactic(auto, unfolding(crate::specs::Reading::text_state))]
+pub fn read_spef(alloc: Global, bytes: &[u8]) -> Result<Parasitics, TextFault>
+    requires { length bytes.now ≤ MOST_BYTES }
+    ensures { Reads (λ p. p) result (parasitics_of bytes.now) }
+{
+    match find_fault(bytes, Rules::Spef) {
+        Some(LexFault::Byte(line)) => {
+            return Err(TextFault::Refused {
+                line,
+                code: Code::S1,
+            });
+        }
+        Some(LexFault::Unended(line)) => {
+            return Err(TextFault::Refused {
+                line,
+                code: Code::S2,
+            });
+        }
+        Some(LexFault::NoMemory) => return Err(TextFault::NoMemory),
+        None => {}
+    }
+    let state = read_all(alloc, &mut Terms::new(bytes))?;
+    Ok(state.into_parasitics())
+}
