@@ -1,5 +1,5 @@
 -- One form of a text: what the rest means.
-use Rattle.std.specs.Prelude.{◌≡◌, refl, ℕ, ◌<◌, Bool, true, false, List, [], ◌∷◌, length, Option, Some, None, Result, Ok, Err}
+use Rattle.std.specs.Prelude.{◌≡◌, refl, ◌<◌, true, false, [], ◌∷◌, length, Some, None, Ok, Err}
 use Rattle.text_forms.specs.Forms.{Token, Refusal}
 use Rattle.text_forms.proofs.ByForms.{goes_on, step_refused, form_refused, fewer_tokens, text_ends, token_behind}
 use Rattle.xt_model.specs.declared.code.Code.{Code}

@@ -1,6 +1,7 @@
 -- The grammar of a SPEF text as tables of forms: what may come next in each context, what it says, and where the text
 -- goes on. Forms are cut where something is meant, so that each refusal is met at a form's last token.
-use Rattle.std.specs.Prelude.{ℕ, Bool, true, false, List, [], ◌∷◌, ◌++◌, Option, Some, None, Result, codes, if◌then◌else◌}
+use Rattle.std.specs.Prelude.{ℕ, Bool, true, false, List, [], ◌∷◌, Option, Some, None, Result, codes}
+use Rattle.std.specs.Prelude.{if◌then◌else◌}
 use Rattle.std.specs.Str.{bytes_eq}
 use Rattle.text_forms.specs.Forms.{Token, Form, Whole, Refusal, Misfits, text_at, form_at}
 use Rattle.xt_model.specs.declared.code.Code.{Code}

@@ -1,11 +1,12 @@
 -- What the forms of a SPEF text mean, one after another. A state has what the header and the name map said, the nets
 -- that ended, and of the net that is being read what its section said so far.
-use Rattle.std.specs.Prelude.{ℕ, Bool, true, false, ◌||◌, ◌&&◌, List, [], ◌∷◌, ◌++◌, length, drop, codes, ◌==◌}
-use Rattle.std.specs.Prelude.{ℤ, pos, neg_ℤ, int_le, ◌+ℤ◌, ◌≤ℤ◌, Option, Some, None, is_some, Result, Ok, Err, if◌then◌else◌}
-use Rattle.std.specs.Str.{bytes_eq, str_eq_ignore_ascii_case}
+use Rattle.std.specs.Prelude.{ℕ, Bool, ◌||◌, ◌&&◌, List, [], ◌∷◌, ◌++◌, length, drop, codes, ◌==◌}
+use Rattle.std.specs.Prelude.{ℤ, pos, neg_ℤ, int_le, ◌+ℤ◌, ◌≤ℤ◌, Option, Some, None, is_some, Result, Ok, Err}
+use Rattle.std.specs.Prelude.{if◌then◌else◌}
+use Rattle.std.specs.Str.{str_eq_ignore_ascii_case}
 use Rattle.text_forms.specs.Names.{found, with_value}
 use Rattle.xt_model.specs.declared.code.Code.{Code}
-use Rattle.xt_model.specs.declared.code.Code.TheVariants.{S1, S2, S3, S4, S5, S6}
+use Rattle.xt_model.specs.declared.code.Code.TheVariants.{S1, S3, S4, S5, S6}
 use Rattle.xt_number.specs.Value.{fixed, power_of, without_zeros}
 use Rattle.xt_number.specs.declared.fault.NumberFault.{NumberFault}
 use Rattle.spef_read.specs.declared.item.Separator.{Separator}

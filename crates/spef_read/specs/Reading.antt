@@ -1,5 +1,5 @@
 -- What a whole text means: its parasitics, or of the refusals of its tokens, its forms and their meanings the first.
-use Rattle.std.specs.Prelude.{◌≡◌, ℕ, ◌<◌, List, [], length, Option, Some, None, Result, Ok, Err}
+use Rattle.std.specs.Prelude.{◌≡◌, ℕ, ◌<◌, List, length, Option, Some, Result, Ok, Err}
 use Rattle.text_forms.specs.Forms.{Refusal}
 use Rattle.text_forms.specs.Meaning.{text_means}
 use Rattle.xt_lex.specs.Faults.{fault_of}

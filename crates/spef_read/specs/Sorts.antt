@@ -1,11 +1,10 @@
--- The sorts of tokens of a SPEF text, and its tokens with the end of the text behind them.
-use Rattle.std.specs.Prelude.{ℕ, Bool, true, false, ◌||◌, List, [], ◌∷◌, codes, ◌==◌, if◌then◌else◌}
+-- The sorts of tokens of a SPEF text.
+use Rattle.std.specs.Prelude.{ℕ, Bool, ◌||◌, List, [], ◌∷◌, codes, ◌==◌, if◌then◌else◌}
 use Rattle.std.specs.Char.{is_ascii_digit}
 use Rattle.std.specs.List.{list_all}
 use Rattle.std.specs.Str.{bytes_eq}
 use Rattle.text_forms.specs.Forms.{Token}
-use Rattle.xt_lex.specs.Bytes.{last_line}
-use Rattle.xt_lex.specs.Tokens.{TokenText, token_texts}
+use Rattle.text_forms.specs.Tokens.{sorted_tokens}
 use Rattle.xt_lex.specs.declared.rules.Rules.TheVariants.{Spef}
 use Rattle.xt_lex.specs.declared.token.Kind.{Kind}
 use Rattle.xt_lex.specs.declared.token.Kind.TheVariants as kinds
@@ -129,20 +128,11 @@ unfoldable pub word_sort : Text → Sort
 word_sort [] = sorts.Word
 word_sort (b ∷ more) = if b == 42 then starred_sort more else plain_sort (b ∷ more)
 
--- a token of a text by its kind
-abbrev pub token_by : Kind → TokenText → Token Sort
-token_by kinds.Text t = record { sort = sorts.Text; text = t.text; from = t.from; line = t.line }
-token_by _ t = record { sort = word_sort t.text; text = t.text; from = t.from; line = t.line }
-
--- the end of a text, at its last line
-abbrev pub end_at : ℕ → Token Sort
-end_at last = record { sort = sorts.End; text = []; from = 0; line = last }
-
--- the tokens of a text, and behind them its end, unless that was read
-abbrev pub tokens_to_end : Bool → ℕ → List TokenText → List (Token Sort)
-tokens_to_end ended last [] = if ended then [] else end_at last ∷ []
-tokens_to_end ended last (t ∷ ts) = token_by t.kind t ∷ tokens_to_end ended last ts
+-- what a token is by its kind
+abbrev pub sort_by : Kind → Text → Sort
+sort_by kinds.Text text = sorts.Text
+sort_by _ text = word_sort text
 
 -- the tokens of a whole text and its end
 abbrev pub spef_tokens : List ℕ → List (Token Sort)
-spef_tokens bytes = tokens_to_end false (last_line bytes) (token_texts Spef bytes)
+spef_tokens bytes = sorted_tokens sort_by sorts.End Spef bytes

@@ -1,9 +1,7 @@
 -- What the values of the code stand for.
-use Rattle.std.specs.Prelude.{◌≡◌, ℕ, Bool, false, List, [], ◌∷◌, Result, Ok, Err}
-use Rattle.text_forms.specs.Forms.{Token, Whole, Refusal}
+use Rattle.std.specs.Prelude.{◌≡◌, false, [], ◌∷◌, Result, Ok, Err}
+use Rattle.text_forms.specs.Forms.{Refusal}
 use Rattle.xt_model.specs.declared.code.Code.{Code}
-use Rattle.spef_read.specs.declared.sort.Sort.{Sort}
-use Rattle.spef_read.specs.declared.term.Term.{Term}
 use Rattle.spef_read.specs.declared.item.Item.{Item}
 use Rattle.spef_read.specs.declared.item.Item.TheVariants as items
 use Rattle.spef_read.specs.declared.item.FormRead.{FormRead}
@@ -12,10 +10,6 @@ use Rattle.spef_read.specs.declared.stop.Stop.{Stop}
 use Rattle.spef_read.specs.declared.stop.Stop.TheVariants as stops
 use Rattle.spef_read.specs.Forms.{Said, WholeForm, Tokens, Slot, fits, misfit, misfits}
 use Rattle.spef_read.specs.Forms as grammar
-
--- a token with its bytes
-abbrev pub token_of : Term → Token Sort
-token_of t = record { sort = t.sort; text = t.text.now; from = t.from; line = t.line }
 
 -- what an item says
 abbrev pub said : Item → Said

@@ -1,6 +1,6 @@
 -- What the words of a SPEF text may be besides its keywords.
 use Rattle.std.specs.Prelude.{ℕ, Bool, true, false, not, ◌&&◌, ◌||◌, ◌==◌, List, [], ◌∷◌, length, take, drop, is_some}
-use Rattle.std.specs.Prelude.{codes, ℤ, Result, Ok, Err}
+use Rattle.std.specs.Prelude.{codes, ℤ, Result, Err}
 use Rattle.std.specs.Char.{is_ascii_digit}
 use Rattle.std.specs.List.{list_all, prefix_len}
 use Rattle.std.specs.Str.{bytes_eq}

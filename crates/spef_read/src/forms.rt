@@ -5,7 +5,8 @@ ghost use Rattle.spef_read.specs.declared.sort.Sort.TheVariants.{Brackets};
 ghost use Rattle.spef_read.specs.Forms.{misfit, separator_of, quantity_of, first_form, section_forms, start_forms};
 ghost use Rattle.spef_read.specs.Forms.{header_forms, flow_forms, unit_forms, pairs_forms, pair_name_forms};
 ghost use Rattle.spef_read.specs.Forms.{skipped_forms, forms_in, is_done, Only};
-ghost use Rattle.spef_read.specs.View.{token_of, said, whole_of, refusal_of, refusal_at, IsOther, Gives};
+ghost use Rattle.text_forms.specs.Tokens.{token_of};
+ghost use Rattle.spef_read.specs.View.{said, whole_of, refusal_of, refusal_at, IsOther, Gives};
 
 use crate::context::Context;
 use crate::item::{FormRead, Item, Quantity, Separator};
@@ -15,7 +16,7 @@ use crate::net_forms::{
 };
 use crate::refusal::Refused;
 use crate::sort::Sort;
-use crate::term::{Term, Terms};
+use text_forms::{Term, Terms};
 use xt_model::Code;
 
 /// A form that was read, whose last token stands in this line.
@@ -37,7 +38,7 @@ fn misfit(sort: Sort) -> Code
 }
 
 /// The refusal of a token that does not fit.
-pub fn refused(term: Term<'_>) -> Refused
+pub fn refused(term: Term<'_, Sort>) -> Refused
     ensures { refusal_of result ≡ record { line = term.entry.line; code = misfit term.entry.sort } }
 {
     Refused {
@@ -74,19 +75,22 @@ fn quantity_of(word: &[u8]) -> Quantity
 
 /// The next token.
 #[inline]
-pub fn any<'a>(terms: &mut Terms<'a>) -> Result<Term<'a>, Refused>
+pub fn any<'a>(terms: &mut Terms<'a, Sort>) -> Result<Term<'a, Sort>, Refused>
     ensures { MatchResult result (λ t. terms.old ≡ token_of t ∷ terms.new)
         (λ r. (terms.old ≡ []) × (refusal_of r ≡ refusal_at [])) }
 {
-    terms.next_term().ok_or(Refused {
-        line: 1,
-        code: Code::S2,
-    })
+    match terms.next_term() {
+        Some(term) => Ok(term),
+        None => Err(Refused {
+            line: 1,
+            code: Code::S2,
+        }),
+    }
 }
 
 /// The next token, which has to be of this sort.
 #[inline]
-pub fn expect<'a>(sort: Sort, terms: &mut Terms<'a>) -> Result<Term<'a>, Refused>
+pub fn expect<'a>(sort: Sort, terms: &mut Terms<'a, Sort>) -> Result<Term<'a, Sort>, Refused>
     ensures found { IfOk result (λ t. (terms.old ≡ token_of t ∷ terms.new) × (t.sort ≡ sort)) }
     ensures refused { IfErr result (λ r. refusal_of r ≡ refusal_at terms.old) }
     ensures other { IfErr result (λ r. IsOther (Only sort) terms.old) }
@@ -100,7 +104,7 @@ pub fn expect<'a>(sort: Sort, terms: &mut Terms<'a>) -> Result<Term<'a>, Refused
 }
 
 /// At the start of a text.
-fn at_start<'a>(terms: &mut Terms<'a>) -> Result<FormRead<'a>, Refused>
+fn at_start<'a>(terms: &mut Terms<'a, Sort>) -> Result<FormRead<'a>, Refused>
     ensures { Gives (λ r. (whole_of r, terms.new)) result (first_form start_forms terms.old) }
 {
     expect(Sort::Spef, terms)?;
@@ -109,8 +113,9 @@ fn at_start<'a>(terms: &mut Terms<'a>) -> Result<FormRead<'a>, Refused>
 }
 
 /// A section, or the end of the text, from its first token on.
-fn section_from<'a>(first: Term<'a>, terms: &Terms<'a>) -> Result<FormRead<'a>, Refused>
-    ensures { Gives (λ r. (whole_of r, terms.now)) result (first_form section_forms (token_of first.entry ∷ terms.now)) }
+fn section_from<'a>(first: Term<'a, Sort>, terms: &Terms<'a, Sort>) -> Result<FormRead<'a>, Refused>
+    ensures { Gives (λ r. (whole_of r, terms.now)) result
+        (first_form section_forms (token_of first.entry ∷ terms.now)) }
 {
     match first.sort {
         Sort::NameMap => Ok(done(Item::Nothing, first.line, Context::Pairs)),
@@ -123,7 +128,7 @@ fn section_from<'a>(first: Term<'a>, terms: &Terms<'a>) -> Result<FormRead<'a>, 
 }
 
 /// The brackets of a bus's bit.
-fn brackets<'a>(first: Term<'a>, terms: &mut Terms<'a>) -> Result<FormRead<'a>, Refused>
+fn brackets<'a>(first: Term<'a, Sort>, terms: &mut Terms<'a, Sort>) -> Result<FormRead<'a>, Refused>
     requires { first.sort ≡ Brackets }
     ensures { Gives (λ r. (whole_of r, terms.new)) result (first_form header_forms (token_of first.entry ∷ terms.old)) }
 {
@@ -145,7 +150,10 @@ fn brackets<'a>(first: Term<'a>, terms: &mut Terms<'a>) -> Result<FormRead<'a>, 
 }
 
 /// An item of the header, or what comes behind it, from its first token on.
-fn header_from<'a>(first: Term<'a>, terms: &mut Terms<'a>) -> Result<FormRead<'a>, Refused>
+fn header_from<'a>(
+    first: Term<'a, Sort>,
+    terms: &mut Terms<'a, Sort>,
+) -> Result<FormRead<'a>, Refused>
     ensures { Gives (λ r. (whole_of r, terms.new)) result (first_form header_forms (token_of first.entry ∷ terms.old)) }
 {
     match first.sort {
@@ -185,7 +193,7 @@ fn header_from<'a>(first: Term<'a>, terms: &mut Terms<'a>) -> Result<FormRead<'a
 }
 
 /// An item of the header, or what comes behind it.
-fn header<'a>(terms: &mut Terms<'a>) -> Result<FormRead<'a>, Refused>
+fn header<'a>(terms: &mut Terms<'a, Sort>) -> Result<FormRead<'a>, Refused>
     ensures { Gives (λ r. (whole_of r, terms.new)) result (first_form header_forms terms.old) }
 {
     let first = any(terms)?;
@@ -193,7 +201,7 @@ fn header<'a>(terms: &mut Terms<'a>) -> Result<FormRead<'a>, Refused>
 }
 
 /// Behind a string of the design's flow.
-fn flow<'a>(terms: &mut Terms<'a>) -> Result<FormRead<'a>, Refused>
+fn flow<'a>(terms: &mut Terms<'a, Sort>) -> Result<FormRead<'a>, Refused>
     ensures { Gives (λ r. (whole_of r, terms.new)) result (first_form flow_forms terms.old) }
 {
     let first = any(terms)?;
@@ -204,7 +212,7 @@ fn flow<'a>(terms: &mut Terms<'a>) -> Result<FormRead<'a>, Refused>
 }
 
 /// Behind the number of a unit.
-fn unit<'a>(terms: &mut Terms<'a>) -> Result<FormRead<'a>, Refused>
+fn unit<'a>(terms: &mut Terms<'a, Sort>) -> Result<FormRead<'a>, Refused>
     ensures { Gives (λ r. (whole_of r, terms.new)) result (first_form unit_forms terms.old) }
 {
     let first = any(terms)?;
@@ -215,7 +223,7 @@ fn unit<'a>(terms: &mut Terms<'a>) -> Result<FormRead<'a>, Refused>
 }
 
 /// In the name map.
-fn pairs<'a>(terms: &mut Terms<'a>) -> Result<FormRead<'a>, Refused>
+fn pairs<'a>(terms: &mut Terms<'a, Sort>) -> Result<FormRead<'a>, Refused>
     ensures { Gives (λ r. (whole_of r, terms.new)) result (first_form pairs_forms terms.old) }
 {
     let first = any(terms)?;
@@ -226,7 +234,7 @@ fn pairs<'a>(terms: &mut Terms<'a>) -> Result<FormRead<'a>, Refused>
 }
 
 /// Behind the number of a pair.
-fn pair_name<'a>(terms: &mut Terms<'a>) -> Result<FormRead<'a>, Refused>
+fn pair_name<'a>(terms: &mut Terms<'a, Sort>) -> Result<FormRead<'a>, Refused>
     ensures { Gives (λ r. (whole_of r, terms.new)) result (first_form pair_name_forms terms.old) }
 {
     let first = any(terms)?;
@@ -237,7 +245,7 @@ fn pair_name<'a>(terms: &mut Terms<'a>) -> Result<FormRead<'a>, Refused>
 }
 
 /// In a section that is skipped.
-fn skipped<'a>(terms: &mut Terms<'a>) -> Result<FormRead<'a>, Refused>
+fn skipped<'a>(terms: &mut Terms<'a, Sort>) -> Result<FormRead<'a>, Refused>
     ensures { Gives (λ r. (whole_of r, terms.new)) result (first_form skipped_forms terms.old) }
 {
     let first = any(terms)?;
@@ -250,7 +258,7 @@ fn skipped<'a>(terms: &mut Terms<'a>) -> Result<FormRead<'a>, Refused>
 }
 
 /// Behind the end of a net.
-fn between<'a>(terms: &mut Terms<'a>) -> Result<FormRead<'a>, Refused>
+fn between<'a>(terms: &mut Terms<'a, Sort>) -> Result<FormRead<'a>, Refused>
     ensures { Gives (λ r. (whole_of r, terms.new)) result (first_form section_forms terms.old) }
 {
     let first = any(terms)?;
@@ -258,7 +266,7 @@ fn between<'a>(terms: &mut Terms<'a>) -> Result<FormRead<'a>, Refused>
 }
 
 /// The form that is next in a context.
-pub fn read_form<'a>(context: Context, terms: &mut Terms<'a>) -> Result<FormRead<'a>, Refused>
+pub fn read_form<'a>(context: Context, terms: &mut Terms<'a, Sort>) -> Result<FormRead<'a>, Refused>
     requires { is_done context ≡ false }
     ensures { Gives (λ r. (whole_of r, terms.new)) result (first_form (forms_in context) terms.old) }
 {

@@ -13,9 +13,11 @@ mod refusal;
 mod sort;
 mod state;
 mod stop;
-mod term;
 mod values;
 mod words;
 
 pub use parasitics::{CapText, Name, Parasitics, ResText, WireText};
 pub use read::read_spef;
+
+#[cfg(test)]
+mod tests;

@@ -5,19 +5,21 @@ ghost use Rattle.spef_read.specs.Forms.{first_form, closing_forms, behind_capaci
 ghost use Rattle.spef_read.specs.Forms.{net_name_forms, net_total_forms, lists_forms, totalled_forms};
 ghost use Rattle.spef_read.specs.Forms.{connections_forms, connection_forms, capacitors_forms, cap_second_forms};
 ghost use Rattle.spef_read.specs.Forms.{cap_value_forms, resistors_forms, res_second_forms, res_value_forms};
-ghost use Rattle.spef_read.specs.View.{token_of, whole_of, Gives};
+ghost use Rattle.text_forms.specs.Tokens.{token_of};
+ghost use Rattle.spef_read.specs.View.{whole_of, Gives};
 
 use crate::context::Context;
 use crate::forms::{any, done, refused};
 use crate::item::{FormRead, Item};
 use crate::refusal::Refused;
 use crate::sort::Sort;
-use crate::term::{Term, Terms};
+use text_forms::{Term, Terms};
 use xt_model::Code;
 
 /// The end of a net, from its token on.
-fn closing_from<'a>(first: Term<'a>, terms: &Terms<'a>) -> Result<FormRead<'a>, Refused>
-    ensures { Gives (λ r. (whole_of r, terms.now)) result (first_form closing_forms (token_of first.entry ∷ terms.now)) }
+fn closing_from<'a>(first: Term<'a, Sort>, terms: &Terms<'a, Sort>) -> Result<FormRead<'a>, Refused>
+    ensures { Gives (λ r. (whole_of r, terms.now)) result
+        (first_form closing_forms (token_of first.entry ∷ terms.now)) }
 {
     match first.sort {
         Sort::NetEnd => Ok(done(Item::NetEnds, first.line, Context::Between)),
@@ -28,7 +30,10 @@ fn closing_from<'a>(first: Term<'a>, terms: &Terms<'a>) -> Result<FormRead<'a>, 
 }
 
 /// What comes behind the capacitors of a net, from its first token on.
-fn behind_capacitors<'a>(first: Term<'a>, terms: &Terms<'a>) -> Result<FormRead<'a>, Refused>
+fn behind_capacitors<'a>(
+    first: Term<'a, Sort>,
+    terms: &Terms<'a, Sort>,
+) -> Result<FormRead<'a>, Refused>
     ensures { Gives (λ r. (whole_of r, terms.now)) result
         (first_form behind_capacitors (token_of first.entry ∷ terms.now)) }
 {
@@ -39,7 +44,10 @@ fn behind_capacitors<'a>(first: Term<'a>, terms: &Terms<'a>) -> Result<FormRead<
 }
 
 /// What comes behind the connections of a net, from its first token on.
-fn behind_connections<'a>(first: Term<'a>, terms: &Terms<'a>) -> Result<FormRead<'a>, Refused>
+fn behind_connections<'a>(
+    first: Term<'a, Sort>,
+    terms: &Terms<'a, Sort>,
+) -> Result<FormRead<'a>, Refused>
     ensures { Gives (λ r. (whole_of r, terms.now)) result
         (first_form behind_connections (token_of first.entry ∷ terms.now)) }
 {
@@ -50,7 +58,7 @@ fn behind_connections<'a>(first: Term<'a>, terms: &Terms<'a>) -> Result<FormRead
 }
 
 /// The name of a net.
-pub fn net_name<'a>(terms: &mut Terms<'a>) -> Result<FormRead<'a>, Refused>
+pub fn net_name<'a>(terms: &mut Terms<'a, Sort>) -> Result<FormRead<'a>, Refused>
     ensures { Gives (λ r. (whole_of r, terms.new)) result (first_form net_name_forms terms.old) }
 {
     let first = any(terms)?;
@@ -61,7 +69,7 @@ pub fn net_name<'a>(terms: &mut Terms<'a>) -> Result<FormRead<'a>, Refused>
 }
 
 /// The total capacitance of a net.
-pub fn net_total<'a>(terms: &mut Terms<'a>) -> Result<FormRead<'a>, Refused>
+pub fn net_total<'a>(terms: &mut Terms<'a, Sort>) -> Result<FormRead<'a>, Refused>
     ensures { Gives (λ r. (whole_of r, terms.new)) result (first_form net_total_forms terms.old) }
 {
     let first = any(terms)?;
@@ -76,7 +84,7 @@ pub fn net_total<'a>(terms: &mut Terms<'a>) -> Result<FormRead<'a>, Refused>
 }
 
 /// The lists of a net, or its end, from the first token on.
-fn lists_from<'a>(first: Term<'a>, terms: &Terms<'a>) -> Result<FormRead<'a>, Refused>
+fn lists_from<'a>(first: Term<'a, Sort>, terms: &Terms<'a, Sort>) -> Result<FormRead<'a>, Refused>
     ensures { Gives (λ r. (whole_of r, terms.now)) result (first_form lists_forms (token_of first.entry ∷ terms.now)) }
 {
     match first.sort {
@@ -86,7 +94,7 @@ fn lists_from<'a>(first: Term<'a>, terms: &Terms<'a>) -> Result<FormRead<'a>, Re
 }
 
 /// Behind the total capacitance of a net.
-pub fn totalled<'a>(terms: &mut Terms<'a>) -> Result<FormRead<'a>, Refused>
+pub fn totalled<'a>(terms: &mut Terms<'a, Sort>) -> Result<FormRead<'a>, Refused>
     ensures { Gives (λ r. (whole_of r, terms.new)) result (first_form totalled_forms terms.old) }
 {
     let first = any(terms)?;
@@ -103,7 +111,7 @@ pub fn totalled<'a>(terms: &mut Terms<'a>) -> Result<FormRead<'a>, Refused>
 }
 
 /// The lists of a net, or its end.
-pub fn lists<'a>(terms: &mut Terms<'a>) -> Result<FormRead<'a>, Refused>
+pub fn lists<'a>(terms: &mut Terms<'a, Sort>) -> Result<FormRead<'a>, Refused>
     ensures { Gives (λ r. (whole_of r, terms.new)) result (first_form lists_forms terms.old) }
 {
     let first = any(terms)?;
@@ -111,7 +119,7 @@ pub fn lists<'a>(terms: &mut Terms<'a>) -> Result<FormRead<'a>, Refused>
 }
 
 /// Behind `*CONN`.
-pub fn connections<'a>(terms: &mut Terms<'a>) -> Result<FormRead<'a>, Refused>
+pub fn connections<'a>(terms: &mut Terms<'a, Sort>) -> Result<FormRead<'a>, Refused>
     ensures { Gives (λ r. (whole_of r, terms.new)) result (first_form connections_forms terms.old) }
 {
     let first = any(terms)?;
@@ -122,7 +130,7 @@ pub fn connections<'a>(terms: &mut Terms<'a>) -> Result<FormRead<'a>, Refused>
 }
 
 /// In a connection.
-pub fn connection<'a>(terms: &mut Terms<'a>) -> Result<FormRead<'a>, Refused>
+pub fn connection<'a>(terms: &mut Terms<'a, Sort>) -> Result<FormRead<'a>, Refused>
     ensures { Gives (λ r. (whole_of r, terms.new)) result (first_form connection_forms terms.old) }
 {
     let first = any(terms)?;
@@ -135,7 +143,7 @@ pub fn connection<'a>(terms: &mut Terms<'a>) -> Result<FormRead<'a>, Refused>
 }
 
 /// A capacitor, or what comes behind the last one.
-pub fn capacitors<'a>(terms: &mut Terms<'a>) -> Result<FormRead<'a>, Refused>
+pub fn capacitors<'a>(terms: &mut Terms<'a, Sort>) -> Result<FormRead<'a>, Refused>
     ensures { Gives (λ r. (whole_of r, terms.new)) result (first_form capacitors_forms terms.old) }
 {
     let first = any(terms)?;
@@ -156,7 +164,7 @@ pub fn capacitors<'a>(terms: &mut Terms<'a>) -> Result<FormRead<'a>, Refused>
 }
 
 /// Behind the first node of a capacitor.
-pub fn cap_second<'a>(terms: &mut Terms<'a>) -> Result<FormRead<'a>, Refused>
+pub fn cap_second<'a>(terms: &mut Terms<'a, Sort>) -> Result<FormRead<'a>, Refused>
     ensures { Gives (λ r. (whole_of r, terms.new)) result (first_form cap_second_forms terms.old) }
 {
     let first = any(terms)?;
@@ -172,7 +180,7 @@ pub fn cap_second<'a>(terms: &mut Terms<'a>) -> Result<FormRead<'a>, Refused>
 }
 
 /// Behind the second node of a capacitor.
-pub fn cap_value<'a>(terms: &mut Terms<'a>) -> Result<FormRead<'a>, Refused>
+pub fn cap_value<'a>(terms: &mut Terms<'a, Sort>) -> Result<FormRead<'a>, Refused>
     ensures { Gives (λ r. (whole_of r, terms.new)) result (first_form cap_value_forms terms.old) }
 {
     let first = any(terms)?;
@@ -187,7 +195,7 @@ pub fn cap_value<'a>(terms: &mut Terms<'a>) -> Result<FormRead<'a>, Refused>
 }
 
 /// A resistor, or what comes behind the last one.
-pub fn resistors<'a>(terms: &mut Terms<'a>) -> Result<FormRead<'a>, Refused>
+pub fn resistors<'a>(terms: &mut Terms<'a, Sort>) -> Result<FormRead<'a>, Refused>
     ensures { Gives (λ r. (whole_of r, terms.new)) result (first_form resistors_forms terms.old) }
 {
     let first = any(terms)?;
@@ -208,7 +216,7 @@ pub fn resistors<'a>(terms: &mut Terms<'a>) -> Result<FormRead<'a>, Refused>
 }
 
 /// Behind the first node of a resistor.
-pub fn res_second<'a>(terms: &mut Terms<'a>) -> Result<FormRead<'a>, Refused>
+pub fn res_second<'a>(terms: &mut Terms<'a, Sort>) -> Result<FormRead<'a>, Refused>
     ensures { Gives (λ r. (whole_of r, terms.new)) result (first_form res_second_forms terms.old) }
 {
     let first = any(terms)?;
@@ -219,7 +227,7 @@ pub fn res_second<'a>(terms: &mut Terms<'a>) -> Result<FormRead<'a>, Refused>
 }
 
 /// Behind the second node of a resistor.
-pub fn res_value<'a>(terms: &mut Terms<'a>) -> Result<FormRead<'a>, Refused>
+pub fn res_value<'a>(terms: &mut Terms<'a, Sort>) -> Result<FormRead<'a>, Refused>
     ensures { Gives (λ r. (whole_of r, terms.new)) result (first_form res_value_forms terms.old) }
 {
     let first = any(terms)?;

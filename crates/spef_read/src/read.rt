@@ -9,17 +9,18 @@ ghost use Rattle.spef_read.specs.Reading.{rest_means, text_state, parasitics_of,
 use crate::context::Context;
 use crate::forms::{is_done, read_form, refused};
 use crate::parasitics::Parasitics;
+use crate::sort::Sort;
 use crate::state::Progress;
 use crate::stop::Stop;
-use crate::term::Terms;
 use std::alloc::Global;
+use text_forms::Terms;
 use xt_lex::{Code, LexFault, MOST_BYTES, Rules, TextFault, find_fault};
 
 /// Reads one form and does what it says.
 fn step<'a>(
     alloc: Global,
     context: Context,
-    terms: &mut Terms<'a>,
+    terms: &mut Terms<'a, Sort>,
     state: &mut Progress<'a>,
 ) -> Result<Context, TextFault>
     requires { is_done context ≡ false }
@@ -45,7 +46,7 @@ fn step<'a>(
 }
 
 /// Reads a text without a fault of its tokens to its end.
-fn read_all<'a>(alloc: Global, terms: &mut Terms<'a>) -> Result<Progress<'a>, TextFault>
+fn read_all<'a>(alloc: Global, terms: &mut Terms<'a, Sort>) -> Result<Progress<'a>, TextFault>
     ensures { Reads (λ s. s) result (rest_means Start terms.old nothing) }
 {
     let mut state = Progress::new(alloc);
@@ -98,6 +99,6 @@ pub fn read_spef(alloc: Global, bytes: &[u8]) -> Result<Parasitics, TextFault>
         Some(LexFault::NoMemory) => return Err(TextFault::NoMemory),
         None => {}
     }
-    let state = read_all(alloc, &mut Terms::new(bytes))?;
+    let state = read_all(alloc, &mut Terms::new(bytes, Rules::Spef))?;
     Ok(state.into_parasitics())
 }

@@ -1,4 +1,3 @@
-use Rattle.std.proofs.Common.{refl}
 use Rattle.spef_read.specs.View.{whole_of, refusal_of}
 use Rattle.spef_read.proofs.Steps.{form_goes_on, meaning_refused, form_is_refused, fewer}
 use Rattle.spef_read.proofs.read.step.Goals as goal

@@ -1,4 +1,4 @@
-use Rattle.std.proofs.Common.{ℤ, pos, not, ap, ◌∙◌}
+use Rattle.std.proofs.Common.{pos, not, ap, ◌∙◌}
 use Rattle.spef_read.proofs.NumberForms.{number_form}
 use Rattle.spef_read.proofs.words.is_number.Goals as goal
 
