@@ -5,14 +5,19 @@ use Rattle.xt_model.specs.Miller.{IsMiller}
 use Rattle.xt_model.specs.Parts.{Parts}
 use Rattle.xt_model.specs.Sound.{IsSound}
 use Rattle.linked_text.proofs.Refusals.{texts_differ}
+use Rattle.design_gen.specs.Laws.{IsCount}
+use Rattle.design_gen.specs.Generated.{generated}
+use Rattle.design_gen.proofs.Soundness.{sound}
 use Rattle.report_text.specs.declared.kind.ReportKind.{ReportKind}
-use Rattle.xtalk_top.specs.Words.{Text, job_of}
-use Rattle.xtalk_top.specs.Outcome.{Contents, Outcome, prints, refuses, unread, FileMeans, LinkedMeans, DesignMeans, IsDesignText, counted_by, most_bytes}
+use Rattle.xtalk_top.specs.Words.{Text, HasCount, job_of}
+use Rattle.xtalk_top.specs.Outcome.{Contents, Outcome, prints, refuses, unread, FileMeans, LinkedMeans, DesignMeans, SolvedMeans, IsSolution, IsDesignText, counted_by, most_bytes}
+use Rattle.xtalk_top.specs.Gen.{GenMeans, IsSummed}
 use Rattle.xtalk_top.specs.Solve.{SolveMeans}
 use Rattle.xtalk_top.specs.Call.{JobMeans, Means, AreKnown, IsStop, status_of}
 use Rattle.xtalk_top.specs.declared.words.Job.{Job}
-use Rattle.xtalk_top.specs.declared.words.Job.TheVariants.{Solve}
+use Rattle.xtalk_top.specs.declared.words.Job.TheVariants.{Solve, Gen}
 use Rattle.xtalk_top.specs.declared.words.SolveJob.{SolveJob}
+use Rattle.xtalk_top.specs.declared.words.GenJob.{GenJob}
 use Rattle.xtalk_top.specs.declared.refusal.Refusal.{Refusal}
 use Rattle.xtalk_top.specs.declared.refusal.Refusal.TheVariants.{Words}
 use Rattle.xtalk_top.specs.declared.refusal.Stop.{Stop}
@@ -20,6 +25,7 @@ use Rattle.xtalk_top.specs.declared.refusal.Stop.TheVariants.{Refused, Unread, N
 use Rattle.xtalk_top.specs.declared.refusal.Failure.TheVariants.{NoText}
 use Rattle.xtalk_top.proofs.Given.{HasRising, counted_sound, job_rises}
 use Rattle.xtalk_top.proofs.Within.{within_or_passed}
+use Rattle.xtalk_top.proofs.Counts.{job_counts}
 
 -- both print, or both refuse with one status; a file that cannot be read stands beside any outcome
 abbrev pub Agree : Outcome → Outcome → Type 0
@@ -43,11 +49,14 @@ unread_agrees (unread g) f = tt
 agree_as : (o p x y : Outcome) → o ≡ x → p ≡ y → Agree x y → Agree o p
 agree_as o p x y e f a = subst (λ z. Agree z p) (sym e) (subst (Agree x) (sym f) a)
 
+one_of_solved : (IsText : Text → Type 0) (d : Parts) → IsSound d → LeavesOne (SolvedMeans IsText d)
+one_of_solved IsText d s o p (inl a) (inl b) = agree_as o p _ _ a.2 b.2 refl
+one_of_solved IsText d s o p (inl a) (inr b) = absurd (within_or_passed d a.0 s b.0 a.1)
+one_of_solved IsText d s o p (inr a) (inl b) = absurd (within_or_passed d b.0 s a.0 b.1)
+one_of_solved IsText d s o p (inr a) (inr b) = agree_as o p _ _ a.3 b.3 tt
+
 pub one_of_design : (kind : ReportKind) (d : Parts) → IsSound d → LeavesOne (DesignMeans kind d)
-one_of_design kind d s o p (inl a) (inl b) = agree_as o p _ _ a.2 b.2 refl
-one_of_design kind d s o p (inl a) (inr b) = absurd (within_or_passed d a.0 s b.0 a.1)
-one_of_design kind d s o p (inr a) (inl b) = absurd (within_or_passed d b.0 s a.0 b.1)
-one_of_design kind d s o p (inr a) (inr b) = agree_as o p _ _ a.3 b.3 tt
+one_of_design kind d s = one_of_solved (IsSolution kind d) d s
 
 -- a text is of one design
 pub one_design : (bytes : Text) (d e : Parts) → IsDesignText bytes d → IsDesignText bytes e → d ≡ e
@@ -88,13 +97,18 @@ one_of_solve job content rising known =
     one_of_file job.file content (λ bytes o. LinkedMeans job.file bytes (λ d. DesignMeans job.kind (counted_by job.miller d) o) o) (known job.file (inl refl)) (λ bytes.
     one_of_linked job.file bytes (λ d. DesignMeans job.kind (counted_by job.miller d)) (λ d t. one_of_design job.kind (counted_by job.miller d) (counted_sound job.miller d rising t.sound)))
 
+pub one_of_gen : (job : GenJob) → IsCount job.nets → LeavesOne (GenMeans job)
+one_of_gen job count = one_of_solved (IsSummed (generated job.number job.nets)) (generated job.number job.nets) (sound job.number job.nets count)
+
 pub one_outcome : (words : List Text) (content : Contents) → AreKnown words content → LeavesOne (Means words content)
-one_outcome words content known = go (job_of words) (job_rises words) known
+one_outcome words content known = go (job_of words) (job_rises words) (job_counts words) known
   where
-    go : (j : Option Job) → IfSome j HasRising → ((f : Text) → MatchOption j (unread f ≡ refuses Words) (λ job. JobMeans job content (unread f)) → IsSome (content f))
+    go : (j : Option Job) → IfSome j HasRising → IfSome j HasCount
+        → ((f : Text) → MatchOption j (unread f ≡ refuses Words) (λ job. JobMeans job content (unread f)) → IsSome (content f))
         → LeavesOne (λ o. MatchOption j (o ≡ refuses Words) (λ job. JobMeans job content o))
-    go None rising known o p a b = agree_as o p _ _ a b refl
-    go (Some (Solve job)) rising known o p a b = one_of_solve job content rising known o p a b
+    go None rising counts known o p a b = agree_as o p _ _ a b refl
+    go (Some (Solve job)) rising counts known o p a b = one_of_solve job content rising known o p a b
+    go (Some (Gen job)) rising counts known o p a b = one_of_gen job counts o p a b
 
 -- ---- the status of a call without a text
 

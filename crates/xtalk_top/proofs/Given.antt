@@ -22,7 +22,7 @@ use Rattle.xtalk_top.specs.declared.words.CommandName.{CommandName}
 use Rattle.xtalk_top.specs.declared.words.CommandName.TheVariants as command
 use Rattle.xtalk_top.specs.declared.words.SolveJob.{SolveJob}
 use Rattle.xtalk_top.specs.declared.words.Job.{Job}
-use Rattle.xtalk_top.specs.declared.words.Job.TheVariants.{Solve}
+use Rattle.xtalk_top.specs.declared.words.Job.TheVariants.{Gen, Solve}
 use Rattle.xtalk_top.proofs.Lifts.{file_leads}
 
 -- three numbers that are Miller numbers rise
@@ -47,6 +47,7 @@ given_rises (Some text) = go (three_of text)
 -- the Miller numbers of a job, if it has any, rise
 abbrev pub HasRising : Job → Type 0
 HasRising (Solve job) = IfSome job.miller IsMiller
+HasRising (Gen job) = Unit {0}
 
 pub job_rises : (words : List Text) → IfSome (job_of words) HasRising
 job_rises [] = tt
@@ -55,6 +56,7 @@ job_rises (word ∷ rest) = by_name (command_named word)
     by_items : (name : CommandName) (items : Option (List Item)) → IfSome (option_and_then (λ is. Some (job_for name (value_of is))) items) HasRising
     by_items name None = tt
     by_items command.Solve (Some items) = given_rises (value_of items (codes "miller"))
+    by_items command.Gen (Some items) = tt
 
     by_name : (name : Option CommandName) → IfSome (option_and_then (λ n. option_and_then (λ is. Some (job_for n (value_of is))) (given_of (form_of_command n) rest)) name) HasRising
     by_name None = tt

@@ -12,3 +12,4 @@ pub mod Digits
 pub mod Accepted
 pub mod Given
 mod Jobs
+pub mod Counts

@@ -8,9 +8,10 @@ use Rattle.envelope.specs.declared.fault.What.TheVariants.{Time, Slew}
 use Rattle.xt_io.specs.Outside.{Rose, ChangesOnly, IsPrefixAppended, appended}
 use Rattle.xtalk_top.specs.Outcome.{Contents, Outcome, prints, refuses, unread, most_bytes}
 use Rattle.xtalk_top.specs.Solve.{SolveMeans}
+use Rattle.xtalk_top.specs.Gen.{GenMeans}
 use Rattle.xtalk_top.specs.Words.{Text, job_of}
 use Rattle.xtalk_top.specs.declared.words.Job.{Job}
-use Rattle.xtalk_top.specs.declared.words.Job.TheVariants.{Solve}
+use Rattle.xtalk_top.specs.declared.words.Job.TheVariants.{Solve, Gen}
 use Rattle.xtalk_top.specs.declared.refusal.PassedLimit.{PassedLimit}
 use Rattle.xtalk_top.specs.declared.refusal.DesignRefusal.TheVariants.{Limit}
 use Rattle.xtalk_top.specs.declared.refusal.TextRefusal.TheVariants.{At}
@@ -26,6 +27,7 @@ use Rattle.xtalk_top.specs.declared.refusal.Failure.TheVariants.{NoText, Unwritt
 -- each command has a page of its own
 abbrev pub JobMeans : Job → Contents → Outcome → Type 0
 JobMeans (Solve job) content outcome = SolveMeans job content outcome
+JobMeans (Gen job) content outcome = GenMeans job outcome
 
 -- the words are outside the grammar; or they ask for a job, whose files and design lead to the outcome
 abbrev pub Means : List Text → Contents → Outcome → Type 0

@@ -4,4 +4,5 @@ pub mod Reading
 pub mod Words
 pub mod Outcome
 pub mod Solve
+pub mod Gen
 pub mod Call

@@ -91,16 +91,25 @@ pub record KeepsLimits (d : Parts) : Type 0 where
   pub widest : IsWidest d envelope
   pub accepted : IsAccepted d envelope
 
+-- every fixpoint contains the one and lies within the other; and all transitions that explain one another lie within
+-- the other
+pub record AreBounds (d : Parts) (low high : List Pair) : Type 0 where
+  pub above : (v : List Pair) → IsFixpoint d v → IsContained (assigned low) (assigned v)
+  pub below : (v : List Pair) → IsFixpoint d v → IsContained (assigned v) (assigned high)
+  pub consistent : (xs : List Transition) → AreConsistent d xs → LieWithin (assigned high) xs
+
 -- the text is the report, of this kind, of the design's least and greatest fixpoint; every fixpoint contains the least
 -- and lies within the greatest; and all transitions that explain one another lie within the greatest
 pub record IsSolution (kind : ReportKind) (d : Parts) (text : Text) : Type 0 where
   pub report : IsReport (of_checks kind) d text
-  pub above : (v : List Pair) → IsFixpoint d v → IsContained (assigned report.low) (assigned v)
-  pub below : (v : List Pair) → IsFixpoint d v → IsContained (assigned v) (assigned report.high)
-  pub consistent : (xs : List Transition) → AreConsistent d xs → LieWithin (assigned report.high) xs
+  pub bounds : AreBounds d report.low report.high
 
--- a design that is solved: its envelope passes a limit; or it keeps the limits, and its report is printed
-abbrev pub DesignMeans : ReportKind → Parts → Outcome → Type 0
-DesignMeans kind d outcome =
+-- a design that is solved: its envelope passes a limit; or it keeps the limits, and such a text is printed
+abbrev pub SolvedMeans : (Text → Type 0) → Parts → Outcome → Type 0
+SolvedMeans IsText d outcome =
     ((passed : PassedLimit) × IsPassed d passed × (outcome ≡ refuses (Design (Limit passed))))
-    ⊎ (KeepsLimits d × (text : Text) × IsSolution kind d text × (outcome ≡ prints text))
+    ⊎ (KeepsLimits d × (text : Text) × IsText text × (outcome ≡ prints text))
+
+-- the text is its report
+abbrev pub DesignMeans : ReportKind → Parts → Outcome → Type 0
+DesignMeans kind d outcome = SolvedMeans (IsSolution kind d) d outcome

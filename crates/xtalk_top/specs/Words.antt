@@ -1,11 +1,12 @@
 -- The commands, what may stand behind the word of each, and the job that the words ask for.
-use Rattle.std.specs.Prelude.{ℕ, nat_le, false, ◌&&◌, if◌then◌else◌, List, [], ◌∷◌, codes}
+use Rattle.std.specs.Prelude.{ℕ, nat_le, true, false, ◌&&◌, if◌then◌else◌, List, [], ◌∷◌, codes}
 use Rattle.std.specs.Prelude.{Option, Some, None, option_and_then, unwrap_or}
 use Rattle.std.specs.Str.{bytes_eq}
 use Rattle.xt_model.specs.Limits.{most_factor}
 use Rattle.xt_model.specs.Miller.{MillerNumbers}
 use Rattle.report_text.specs.declared.kind.ReportKind.{ReportKind}
 use Rattle.report_text.specs.declared.kind.ReportKind.TheVariants.{All, Checks}
+use Rattle.design_gen.specs.Laws.{IsCount}
 pub use Rattle.xtalk_top.specs.Forms.{bytes_of}
 pub use Rattle.xtalk_top.specs.Grammar.{Text}
 use Rattle.xtalk_top.specs.Grammar.{CommandForm, OptionForm, given_of, number, number_of, one_of, rising_three}
@@ -13,8 +14,9 @@ use Rattle.xtalk_top.specs.Grammar.{three_of, value_of, ◌>>=◌}
 use Rattle.xtalk_top.specs.declared.words.CommandName.{CommandName}
 use Rattle.xtalk_top.specs.declared.words.CommandName.TheVariants as command
 use Rattle.xtalk_top.specs.declared.words.SolveJob.{SolveJob}
+use Rattle.xtalk_top.specs.declared.words.GenJob.{GenJob}
 use Rattle.xtalk_top.specs.declared.words.Job.{Job}
-use Rattle.xtalk_top.specs.declared.words.Job.TheVariants.{Solve}
+use Rattle.xtalk_top.specs.declared.words.Job.TheVariants.{Solve, Gen}
 
 -- ---- the table
 
@@ -34,13 +36,28 @@ miller = record { name = codes "miller"; is_required = false; value = rising_thr
 abbrev pub solve_form : CommandForm
 solve_form = record { positionals = codes "file" ∷ []; options = workers ∷ kind ∷ miller ∷ [] }
 
+-- `--number N`, below 2^64
+abbrev pub seed : OptionForm
+seed = record { name = codes "number"; is_required = true; value = number 0 18446744073709551615 }
+
+-- `--nets K`, from 1 to 100,000
+abbrev pub net_count : OptionForm
+net_count = record { name = codes "nets"; is_required = true; value = number 1 100000 }
+
+-- `gen --number N --nets K [--workers W]`
+abbrev pub gen_form : CommandForm
+gen_form = record { positionals = []; options = seed ∷ net_count ∷ workers ∷ [] }
+
 -- the command of this name
 abbrev pub command_named : Text → Option CommandName
-command_named word = if bytes_eq word (codes "solve") then Some command.Solve else None
+command_named word =
+    if bytes_eq word (codes "solve") then Some command.Solve
+    else if bytes_eq word (codes "gen") then Some command.Gen else None
 
 -- the form of the words behind the command's own
 abbrev pub form_of_command : CommandName → CommandForm
 form_of_command command.Solve = solve_form
+form_of_command command.Gen = gen_form
 
 -- ---- the jobs, where each name has this word
 
@@ -76,8 +93,26 @@ solve_job given = record {
   miller = miller_or_none (given (codes "miller"));
 }
 
+-- the number that is given, or zero
+abbrev pub number_or_zero : Option Text → ℕ
+number_or_zero text = unwrap_or (option_and_then (number_of 64) text) 0
+
+-- the count of nets, where it is one that a design can be generated for; no other is of the form
+abbrev pub count_or_one : Option Text → ℕ
+count_or_one text =
+    if nat_le 1 (number_or_one text) && nat_le (number_or_one text) 100000 then number_or_one text else 1
+
+-- a design to generate and to solve, by one worker where nothing else is given
+abbrev pub gen_job : (Text → Option Text) → GenJob
+gen_job given = record {
+  number = number_or_zero (given (codes "number"));
+  nets = count_or_one (given (codes "nets"));
+  workers = number_or_one (given (codes "workers"));
+}
+
 abbrev pub job_for : CommandName → (Text → Option Text) → Job
 job_for command.Solve given = Solve (solve_job given)
+job_for command.Gen given = Gen (gen_job given)
 
 -- the job that the words ask for: the first word names a command, and those behind it are of its form
 abbrev pub job_of : List Text → Option Job
@@ -86,3 +121,8 @@ job_of (word ∷ rest) = do
   name ← command_named word
   items ← given_of (form_of_command name) rest
   Some (job_for name (value_of items))
+
+-- a design can be generated for the count of nets of the job, if it has one
+abbrev pub HasCount : Job → Type 0
+HasCount (Solve job) = Unit {0}
+HasCount (Gen job) = IsCount job.nets

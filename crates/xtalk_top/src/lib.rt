@@ -5,17 +5,19 @@ mod counted;
 mod design_report;
 mod file_name;
 mod fixpoints;
+mod generated;
 mod grammar;
 mod input;
 mod refusal;
 mod refuse;
+mod solution;
 mod solve;
 mod top;
 mod words;
 
 pub use file_name::FileName;
 pub use top::xtalk;
-pub use words::{Job, SolveJob, WordsFault, parse_words};
+pub use words::{GenJob, Job, SolveJob, WordsFault, parse_words};
 
 #[cfg(test)]
 mod grammar_tests;

@@ -456,7 +456,9 @@ fn reads_the_options(rt: HostRuntime) -> Result<(), Fail> {
     ];
     for (words, count, checks) in cases {
         let words = strings(rt.alloc(), words)?;
-        let Job::Solve(job) = parse_words(rt.alloc(), &words)?;
+        let Job::Solve(job) = parse_words(rt.alloc(), &words)? else {
+            panic!(rt; "another job");
+        };
         assert_eq!(rt; job.file.as_str(), "f");
         assert_eq!(rt; job.workers, count);
         assert_eq!(rt; matches!(job.kind, ReportKind::Checks), checks);

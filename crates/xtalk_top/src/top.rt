@@ -1,6 +1,6 @@
 ghost use Rattle.std.specs.Prelude.{◌≡◌, ◌≢◌, ◌⊎◌, IfOk, IfErr};
 ghost use Rattle.xt_io.specs.Outside.{Rose, KeepsCounts, appended};
-ghost use Rattle.xtalk_top.specs.Words.{Text, bytes_of};
+ghost use Rattle.xtalk_top.specs.Words.{Text, HasCount, bytes_of};
 ghost use Rattle.xtalk_top.specs.Outcome.{prints, refuses, unread};
 ghost use Rattle.xtalk_top.specs.Call.{JobMeans, Means, AreKnown, IsStop, IsFailure, HasFault, IsCutOff};
 ghost use Rattle.xtalk_top.specs.Call.{WritesLine, line_of, status_of};
@@ -9,6 +9,7 @@ ghost use Rattle.xtalk_top.specs.declared.refusal.Failure.{Failure};
 ghost use Rattle.xtalk_top.specs.declared.refusal.Failure.TheVariants.{NoText};
 ghost use Rattle.xtalk_top.specs.declared.refusal.Stop.TheVariants.{Refused};
 
+use crate::generated::summary_of_generated;
 use crate::refusal::{Failure, Refusal, Stop};
 use crate::refuse::refuse;
 use crate::solve::solve;
@@ -84,6 +85,7 @@ fn text_of<F: Files>(alloc: Global, words: &[String], files: &mut F) -> Result<V
 
 // The text that a job and the files mean.
 fn job_text<F: Files>(alloc: Global, files: &mut F, job: Job) -> Result<Vec<u8>, Stop>
+    requires { HasCount job }
     ensures ok { IfOk result (λ text. JobMeans job (F.content files.old) (prints text.items)) }
     ensures stop { IfErr result (IsStop (JobMeans job (F.content files.old))
         (HasFault (F.faults files.old) (F.faults files.new))) }
@@ -93,5 +95,6 @@ fn job_text<F: Files>(alloc: Global, files: &mut F, job: Job) -> Result<Vec<u8>,
 {
     match job {
         Job::Solve(job) => solve(alloc, files, job),
+        Job::Gen(job) => summary_of_generated(alloc, job),
     }
 }

@@ -19,6 +19,8 @@ use xt_model::Miller;
 pub enum Job {
     /// The report of the design in a linked text.
     Solve(SolveJob),
+    /// The summary of a generated design.
+    Gen(GenJob),
 }
 
 /// A linked text to solve: by how many workers, which report of it, and by which Miller numbers in place of its own.
@@ -30,10 +32,19 @@ pub struct SolveJob {
     pub miller: Option<Miller>,
 }
 
+/// A design to generate and to solve: of which number, of how many nets, from 1 to 100,000, and by how many workers.
+#[derive(Debug, Drop)]
+pub struct GenJob {
+    pub number: u64,
+    pub nets: u32,
+    pub workers: u32,
+}
+
 /// The command that the first word names.
 #[derive(Debug, Clone, Copy)]
 enum CommandName {
     Solve,
+    Gen,
 }
 
 // ---- the table
@@ -63,12 +74,36 @@ const SOLVE: CommandRule = CommandRule {
     options: &[WORKERS, KIND, MILLER],
 };
 
+const NUMBER: OptionRule = OptionRule {
+    name: "number",
+    is_required: true,
+    value: ValueRule::Number {
+        least: 0,
+        most: 18_446_744_073_709_551_615,
+    },
+};
+
+const NETS: OptionRule = OptionRule {
+    name: "nets",
+    is_required: true,
+    value: ValueRule::Number {
+        least: 1,
+        most: 100_000,
+    },
+};
+
+const GEN: CommandRule = CommandRule {
+    positionals: &[],
+    options: &[NUMBER, NETS, WORKERS],
+};
+
 // The command of this name.
 fn command_named(word: &str) -> Option<CommandName>
     ensures { result ≡ Words.command_named word.now }
 {
     match word {
         "solve" => Some(CommandName::Solve),
+        "gen" => Some(CommandName::Gen),
         _ => None,
     }
 }
@@ -79,6 +114,7 @@ fn rule_of(command: CommandName) -> CommandRule
 {
     match command {
         CommandName::Solve => SOLVE,
+        CommandName::Gen => GEN,
     }
 }
 
@@ -122,6 +158,28 @@ fn miller_or_none(text: Option<&str>) -> Option<Miller>
     miller_of(low, mid, high)
 }
 
+// The number that is given, or zero.
+fn number_or_zero(text: Option<&str>) -> u64
+    ensures { result ≡ Words.number_or_zero (option_map (λ t. t.now) text.entry) }
+{
+    match text {
+        Some(text) => number(text).unwrap_or(0),
+        None => 0,
+    }
+}
+
+// The count of nets that is given: from 1 to 100,000.
+fn count_or_one(text: Option<&str>) -> u32
+    ensures { result ≡ Words.count_or_one (option_map (λ t. t.now) text.entry) }
+{
+    let count = number_or_one(text);
+    if 1 <= count && count <= 100_000 {
+        count
+    } else {
+        1
+    }
+}
+
 fn file_name(alloc: Global, text: Option<&str>) -> Result<FileName, AllocError>
     ensures { IfOk result (λ name. name ≡ Words.text_or_empty (option_map (λ t. t.now) text.entry)) }
 {
@@ -141,12 +199,23 @@ fn solve_job(alloc: Global, matches: &ArgMatches) -> Result<SolveJob, AllocError
     })
 }
 
+fn gen_job(matches: &ArgMatches) -> GenJob
+    ensures { result ≡ Words.gen_job (first_value (found_of matches.now)) }
+{
+    GenJob {
+        number: number_or_zero(matches.get_str("number")),
+        nets: count_or_one(matches.get_str("nets")),
+        workers: number_or_one(matches.get_str("workers")),
+    }
+}
+
 // The job of a command whose words give this.
 fn job_for(alloc: Global, command: CommandName, matches: &ArgMatches) -> Result<Job, AllocError>
     ensures { IfOk result (λ job. job ≡ Words.job_for command (first_value (found_of matches.now))) }
 {
     match command {
         CommandName::Solve => Ok(Job::Solve(solve_job(alloc, matches)?)),
+        CommandName::Gen => Ok(Job::Gen(gen_job(matches))),
     }
 }
 

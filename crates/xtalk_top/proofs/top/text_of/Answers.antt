@@ -1,9 +1,17 @@
 use Rattle.std.proofs.lemmas.Result.{IfOk-weaker, IfErr-weaker}
-use Rattle.xtalk_top.specs.Words.{bytes_of}
+use Rattle.std.proofs.Common.{Option, IfSome, subst}
+use Rattle.xtalk_top.specs.Words.{HasCount, bytes_of}
+use Rattle.xtalk_top.specs.declared.words.Job.{Job}
+use Rattle.xtalk_top.proofs.Counts.{job_counts}
 use Rattle.xtalk_top.specs.Outcome.{prints}
 use Rattle.xtalk_top.specs.Call.{JobMeans, Means, HasFault}
 use Rattle.xtalk_top.proofs.Lifts.{job_means, lift_stop}
 use Rattle.xtalk_top.proofs.top.text_of.Goals as goal
+
+pub job_text-requires : goal.job_text-requires
+job_text-requires g c =
+    let P : Option Job → Type 0 = λ j. IfSome j HasCount in
+    subst P c.in-Ok.ensures.parsed (job_counts (bytes_of c.args.words.now))
 
 pub returns-in-Ok-clause-ok : goal.returns-in-Ok-clause-ok
 returns-in-Ok-clause-ok g c =

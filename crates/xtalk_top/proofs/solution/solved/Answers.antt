@@ -1,0 +1,8 @@
+use Rattle.xtalk_top.proofs.Within.{are_bounds}
+use Rattle.xtalk_top.proofs.solution.solved.Goals as goal
+
+pub returns-in-Ok-least_and_greatest-clause-bounds :
+    goal.returns-in-Ok-least_and_greatest-clause-bounds
+returns-in-Ok-least_and_greatest-clause-bounds c =
+    are_bounds c.args.design.now c.in-Ok.top c.in-Ok-least_and_greatest.found.low c.in-Ok-least_and_greatest.found.high c.requires.sound c.requires.levelled
+    c.in-Ok.ensures.envelope c.in-Ok-least_and_greatest.ensures.least c.in-Ok-least_and_greatest.ensures.greatest

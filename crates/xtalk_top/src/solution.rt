@@ -1,0 +1,54 @@
+//! The least and the greatest windows of a design, or the limit that it passes.
+
+ghost use Rattle.std.specs.Prelude.{IfOk, IfErr};
+ghost use Rattle.envelope.specs.Firsts.{IsFirstPassed};
+ghost use Rattle.xt_meaning.specs.Fixpoint.{IsLeastFixpoint, IsGreatestFixpoint};
+ghost use Rattle.xt_model.specs.Levels.{AreLevelled};
+ghost use Rattle.xt_model.specs.Sound.{IsSound};
+ghost use Rattle.xtalk_top.specs.Outcome.{AreBounds, KeepsLimits, SolvedMeans};
+ghost use Rattle.xtalk_top.specs.Call.{IsStop};
+
+use crate::fixpoints::{Fixpoints, least_and_greatest};
+use crate::refusal::{DesignRefusal, PassedLimit, Refusal, Stop};
+use envelope::{EnvelopeFault, What, envelope};
+use std::alloc::Global;
+use xt_model::{Design, Name, NetId};
+
+/// The least and the greatest windows of a design.
+pub fn solved(alloc: Global, design: &Design) -> Result<Fixpoints, Stop>
+    requires sound { IsSound design.now }
+    requires levelled { AreLevelled design.now.nets }
+    ensures least { IfOk result (λ found. IsLeastFixpoint design.now found.low) }
+    ensures greatest { IfOk result (λ found. IsGreatestFixpoint design.now found.high) }
+    ensures bounds { IfOk result (λ found. AreBounds design.now found.low found.high) }
+    ensures within { IfOk result (λ _. KeepsLimits design.now) }
+    ensures stop { IfErr result (IsStop (SolvedMeans (λ _. ⊥) design.now) (λ _. ⊥)) }
+{
+    let top = match envelope(alloc, design) {
+        Ok(top) => top,
+        Err(EnvelopeFault::Limit { net, what, value }) => {
+            return Err(passed(alloc, design, net, what, value));
+        }
+        Err(EnvelopeFault::NoMemory) => return Err(Stop::NoMemory),
+    };
+    match least_and_greatest(alloc, design, top) {
+        Ok(found) => Ok(found),
+        Err(_) => Err(Stop::NoMemory),
+    }
+}
+
+// The refusal for the first limit that is passed, with the name of the net.
+fn passed(alloc: Global, design: &Design, net: NetId, what: What, value: i128) -> Stop
+    requires { IsFirstPassed design.now net.0 what value }
+    ensures { IsStop (SolvedMeans (λ _. ⊥) design.now) (λ _. ⊥) result }
+{
+    let name = design.net(net.0 as usize).name.bytes();
+    match Vec::from_slice(alloc, name) {
+        Ok(bytes) => Stop::Refused(Refusal::Design(DesignRefusal::Limit(PassedLimit {
+            what,
+            name: Some(Name::new(bytes)),
+            value,
+        }))),
+        Err(_) => Stop::NoMemory,
+    }
+}
