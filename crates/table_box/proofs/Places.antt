@@ -1,9 +1,10 @@
 -- The places that the code finds are those of the definitions.
-use Rattle.std.proofs.Common.{◌≡◌, ℕ, ◌+◌, ◌-◌, ◌<◌, sym, ◌∙◌, ap, subst, List, length, get_or, min, ℤ, pos, ◌-ℤ◌, ◌≤ℤ◌, ◌<ℤ◌, arith, to_z, of_z, to_z-of_z, w64, SFits}
+use Rattle.std.proofs.Common.{◌≡◌, inl, inr, ℕ, ◌+◌, ◌-◌, ◌<◌, refl, sym, ◌∙◌, ap, subst, List, length, get_or, min, ℤ, pos, ◌-ℤ◌, ◌≤ℤ◌, ◌<ℤ◌, arith, to_z, of_z, to_z-of_z, w64, SFits}
 use Rattle.std.specs.Int.{int_min, int_max}
+use Rattle.std.proofs.lemmas.Bool.{cases_lt}
 use Rattle.std.proofs.lemmas.Int.{ints, clamps}
 use Rattle.xt_model.specs.Tables.{IsIndex, IsTableNumber}
-use Rattle.xt_meaning.specs.Lookup.{Span, clamped, span_of}
+use Rattle.xt_meaning.specs.Lookup.{Box, Span, clamped, span_of}
 use Rattle.table_box.specs.Spans.{IsSpan, LieBelow, ReachUpTo}
 use Rattle.table_box.proofs.Cells.{IsCell, rises}
 use Rattle.table_box.proofs.Axis.{ends_at_least, span_of_sound}
@@ -48,9 +49,6 @@ found_cell xs x n i ok h found e =
           below_end first last (get_or xs (i + 1) (pos 0)) x a b;
     }
 
-pub reach_back : (xs : List ℤ) (x : ℤ) (n : ℕ) → SFits w64 x → ReachUpTo xs (to_z w64 (of_z w64 x)) n → ReachUpTo xs x n
-reach_back xs x n fits r = subst (λ (y : ℤ). ReachUpTo xs y n) (to_z-of_z fits) r
-
 least_fits : (x l : ℤ) → SFits w64 x → SFits w64 l → SFits w64 (int_min x l)
 least_fits x l p q = omega (arith, ints, clamps)
 
@@ -68,10 +66,9 @@ within_back f l x m r h p q fits e g =
     let r_fits : SFits w64 r = subst (SFits w64) (sym r_is) (number_word (int_max f (int_min x l)) (ends_number f l x h p q)) in
     to_z-of_z r_fits ∙ r_is
 
--- the cell and the number that the code finds, from words
-pub cell_found : (xs : List ℤ) (x : ℤ) (n m i : ℕ) → IsIndex xs → (length xs ≡ 1 → ⊥) → SFits w64 x → ReachUpTo xs (to_z w64 (of_z w64 x)) n
-    → m ≡ n - 1 → i ≡ min m (length xs - 2) → IsCell xs (clamped xs x) i
-cell_found xs x n m i ok not_one fits reach e f = let some = ok.some in found_cell xs x n i ok (omega arith) (reach_back xs x n fits reach) (omega arith)
+-- the cell and the number that the code finds
+pub cell_among : (xs : List ℤ) (x : ℤ) (n m i : ℕ) → IsIndex xs → (length xs ≡ 1 → ⊥) → ReachUpTo xs x n → m ≡ n - 1 → i ≡ min m (length xs - 2) → IsCell xs (clamped xs x) i
+cell_among xs x n m i ok not_one reach e f = let some = ok.some in found_cell xs x n i ok (omega arith) reach (omega arith)
 
 pub number_found : (xs : List ℤ) (x y : ℤ) → SFits w64 x → y ≡ clamped xs (to_z w64 (of_z w64 x)) → IsTableNumber y → to_z w64 (of_z w64 y) ≡ clamped xs x
 number_found xs x y fits e p = to_z-of_z (number_word y p) ∙ (e ∙ ap (clamped xs) (to_z-of_z fits))
@@ -83,23 +80,42 @@ placed xs ys x p e fits h = h ∙ (ap (λ (zs : List ℤ). span_of zs (to_z w64 
 pub placed_sound : (xs : List ℤ) (x : ℤ) (p : Span) → IsIndex xs → p ≡ span_of xs x → IsSpan (length xs) p
 placed_sound xs x p ok e = subst (IsSpan (length xs)) (sym e) (span_of_sound xs ok x)
 
--- what the searches over a caller's index found
-pub reach_placed : (xs ys : List ℤ) (x : ℤ) (n : ℕ) → ys ≡ xs → SFits w64 x → ReachUpTo ys (to_z w64 (of_z w64 x)) n → ReachUpTo xs x n
-reach_placed xs ys x n e fits r = subst (λ (y : ℤ). ReachUpTo xs y n) (to_z-of_z fits) (subst (λ (zs : List ℤ). ReachUpTo zs (to_z w64 (of_z w64 x)) n) e r)
+-- ---- a range of numbers on an axis
+-- the lines below x, where the first n lie at or below it: all of them, or all but the last
+pub below_none : (xs : List ℤ) (x : ℤ) (n : ℕ) → ReachUpTo xs x n → n ≡ 0 → LieBelow xs x 0
+below_none xs x n r none = record {
+  within = omega arith;
+  reached = λ j h. absurd (omega arith);
+  beyond = λ j h k. let b = r.beyond j (omega arith) k in omega (arith, ints, b);
+}
 
-pub below_placed : (xs ys : List ℤ) (x : ℤ) (n : ℕ) → ys ≡ xs → SFits w64 x → LieBelow ys (to_z w64 (of_z w64 x)) n → LieBelow xs x n
-below_placed xs ys x n e fits r = subst (λ (y : ℤ). LieBelow xs y n) (to_z-of_z fits) (subst (λ (zs : List ℤ). LieBelow zs (to_z w64 (of_z w64 x)) n) e r)
+pub below_one_less : (xs : List ℤ) (x : ℤ) (n : ℕ) → IsIndex xs → ReachUpTo xs x n → 0 < n → get_or xs (n - 1) (pos 0) ≡ x → LieBelow xs x (n - 1)
+below_one_less xs x n ok r some is = record {
+  within = let w = r.within in omega arith;
+  reached = λ j h. let w = r.within in let b = ok.rising.each j (n - 1) h (omega arith) in omega (arith, ints, b, is);
+  beyond = λ j h k. elim (cases_lt j n) [
+    | inl p ↦ let e : n - 1 ≡ j = omega arith in let P : ℕ → Type 0 = λ i. x ≤ℤ get_or xs i (pos 0) in subst P e (omega (arith, ints, is))
+    | inr p ↦ let b = r.beyond j p k in omega (arith, ints, b)
+  ];
+}
+
+strictly : (a x : ℤ) → a ≤ℤ x → (a ≡ x → ⊥) → a <ℤ x
+strictly a x h is_not = omega (arith, ints, h, is_not)
+
+pub below_all : (xs : List ℤ) (x : ℤ) (n : ℕ) → IsIndex xs → ReachUpTo xs x n → 0 < n → (get_or xs (n - 1) (pos 0) ≡ x → ⊥) → LieBelow xs x n
+below_all xs x n ok r some is_not = record {
+  within = r.within;
+  reached = λ j h.
+      let w = r.within in
+      let top = strictly (get_or xs (n - 1) (pos 0)) x (r.reached (n - 1) (omega arith)) is_not in
+      let b = rises xs ok j (n - 1) (omega arith) (omega arith) in
+      omega (arith, ints, top, b);
+  beyond = λ j h k. let b = r.beyond j h k in omega (arith, ints, b);
+}
 
 -- the place of a line of a caller's index
 pub line_placed : (xs ys : List ℤ) (j : ℕ) (p : Span) → ys ≡ xs → p ≡ span_of ys (get_or ys j (pos 0)) → p ≡ span_of xs (get_or xs j (pos 0))
 line_placed xs ys j p e h = h ∙ ap (λ (zs : List ℤ). span_of zs (get_or zs j (pos 0))) e
-
--- what holds of two numbers of 64 bits holds of them as the machine reads them, and back
-pub as_words : (P : ℤ → ℤ → Type 0) (x y : ℤ) → SFits w64 x → SFits w64 y → P x y → P (to_z w64 (of_z w64 x)) (to_z w64 (of_z w64 y))
-as_words P x y p q h = subst (λ (n : ℤ). P (to_z w64 (of_z w64 x)) n) (sym (to_z-of_z q)) (subst (λ (n : ℤ). P n y) (sym (to_z-of_z p)) h)
-
-pub from_words : (P : ℤ → ℤ → Type 0) (x y : ℤ) → SFits w64 x → SFits w64 y → P (to_z w64 (of_z w64 x)) (to_z w64 (of_z w64 y)) → P x y
-from_words P x y p q h = subst (λ (n : ℤ). P n y) (to_z-of_z p) (subst (λ (n : ℤ). P (to_z w64 (of_z w64 x)) n) (to_z-of_z q) h)
 
 -- the least and the greatest of two numbers of a table, as the machine reads them
 pub least_back : (a b : ℤ) → IsTableNumber a → IsTableNumber b → int_min (to_z w64 (of_z w64 a)) (to_z w64 (of_z w64 b)) ≡ int_min a b
@@ -108,11 +124,6 @@ least_back a b p q = ap (λ n. int_min n (to_z w64 (of_z w64 b))) (to_z-of_z (nu
 pub greatest_back : (a b : ℤ) → IsTableNumber a → IsTableNumber b → int_max (to_z w64 (of_z w64 a)) (to_z w64 (of_z w64 b)) ≡ int_max a b
 greatest_back a b p q = ap (λ n. int_max n (to_z w64 (of_z w64 b))) (to_z-of_z (number_word a p)) ∙ ap (λ n. int_max a n) (to_z-of_z (number_word b q))
 
--- the same of four numbers
-pub as_four_words : (P : ℤ → ℤ → ℤ → ℤ → Type 0) (x y u v : ℤ) → SFits w64 x → SFits w64 y → SFits w64 u → SFits w64 v → P x y u v
-    → P (to_z w64 (of_z w64 x)) (to_z w64 (of_z w64 y)) (to_z w64 (of_z w64 u)) (to_z w64 (of_z w64 v))
-as_four_words P x y u v p q r s h = as_words (λ (a b : ℤ). P a b (to_z w64 (of_z w64 u)) (to_z w64 (of_z w64 v))) x y p q (as_words (P x y) u v r s h)
-
-pub from_four_words : (P : ℤ → ℤ → ℤ → ℤ → Type 0) (x y u v : ℤ) → SFits w64 x → SFits w64 y → SFits w64 u → SFits w64 v
-    → P (to_z w64 (of_z w64 x)) (to_z w64 (of_z w64 y)) (to_z w64 (of_z w64 u)) (to_z w64 (of_z w64 v)) → P x y u v
-from_four_words P x y u v p q r s h = from_words (P x y) u v r s (from_words (λ (a b : ℤ). P a b (to_z w64 (of_z w64 u)) (to_z w64 (of_z w64 v))) x y p q h)
+-- boxes with the same ends are the same
+pub same_box : (a b x y a' b' x' y' : ℤ) → a ≡ a' → b ≡ b' → x ≡ x' → y ≡ y' → ◌≡◌ {A = Box} (record { s0 = a; s1 = b; c0 = x; c1 = y }) (record { s0 = a'; s1 = b'; c0 = x'; c1 = y' })
+same_box a b x y a' b' x' y' p q r s = rw (p, q, r, s) refl

@@ -4,6 +4,7 @@
 mod lines;
 mod place;
 mod ranges;
+mod stretch;
 #[cfg(test)]
 mod tests;
 mod values;

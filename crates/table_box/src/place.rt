@@ -2,13 +2,13 @@ ghost use Rattle.std.specs.Prelude.{◌≡◌, ◌+◌, ◌<◌, ◌≤ℤ◌, p
 ghost use Rattle.std.specs.List.{slice_index_or};
 ghost use Rattle.xt_model.specs.Tables.{IsIndex, IsTableNumber};
 ghost use Rattle.xt_meaning.specs.Lookup.{clamped, span_at, span_of, whole_span};
-ghost use Rattle.table_box.specs.Spans.{span_in};
+ghost use Rattle.table_box.specs.Spans.{ReachUpTo, span_in};
 
 use crate::lines::lines_up_to;
 
 /// Where a number lies on an axis: the numbers of the two grid lines beside it, how far it lies above the
 /// first and below the second, and how far they are apart, in the unit of the axis.
-#[derive(Debug, Drop)]
+#[derive(Clone, Copy, Debug)]
 pub(crate) struct Place {
     pub first: usize,
     pub second: usize,
@@ -64,10 +64,19 @@ impl Place {
         requires { IsIndex index.now }
         ensures { span_in result ≡ span_of index.now x }
     {
+        Place::among(index, x, lines_up_to(index, x))
+    }
+
+    /// The place of `x`, where so many grid lines lie at or below it.
+    pub fn among(index: &[i64], x: i64, lines: usize) -> Place
+        requires index { IsIndex index.now }
+        requires lines { ReachUpTo index.now x lines }
+        ensures { span_in result ≡ span_of index.now x }
+    {
         if index.len() == 1 {
             return whole();
         }
-        let cell = lines_up_to(index, x).saturating_sub(1).min(index.len() - 2);
+        let cell = lines.saturating_sub(1).min(index.len() - 2);
         between(index, brought_within(index, x), cell)
     }
 

@@ -1,12 +1,13 @@
 ghost use Rattle.std.specs.Prelude.{◌≡◌, ◌≤ℤ◌, length};
 ghost use Rattle.std.specs.Int.{int_min, int_max};
-ghost use Rattle.xt_model.specs.Tables.{IsTableNumber};
-ghost use Rattle.xt_meaning.specs.Lookup.{greatest_over, least_over, table_value};
+ghost use Rattle.xt_model.specs.Tables.{IsTable, IsTableNumber};
+ghost use Rattle.xt_meaning.specs.Lookup.{greatest_over, least_over, span_of, table_value, value_in};
 ghost use Rattle.table_box.specs.Spans.{IsSpan, span_in};
+ghost use Rattle.table_box.specs.Stretches.{IsStretch, box_of};
 ghost use Rattle.table_box.specs.Rows.{row_least, row_greatest};
 
-use crate::lines::{lines_below, lines_up_to};
 use crate::place::Place;
+use crate::stretch::Stretch;
 use crate::values::value;
 use xt_model::Table;
 
@@ -18,23 +19,80 @@ fn joined(a: (i64, i64), b: (i64, i64)) -> (i64, i64)
     (a.0.min(b.0), a.1.max(b.1))
 }
 
-/// The least and the greatest value at one slew, over the loads from `c0` to `c1`. Between neighbouring grid
-/// lines the values go one way, so it looks at both ends and at the lines between them.
-fn row_range(table: &Table, slew: &Place, c0: i64, c1: i64) -> (i64, i64)
+/// The value at one slew and the greatest of several loads, where that at the least of them is `start`.
+fn end_value(table: &Table, slew: &Place, loads: &Stretch, start: i64) -> i64
+    requires table { IsTable table.now }
     requires slew { IsSpan (length table.now.slews) (span_in slew.now) }
-    requires loads { c0 ≤ℤ c1 }
-    ensures least { result.0 ≡ row_least table.now (span_in slew.now) c0 c1 }
-    ensures greatest { result.1 ≡ row_greatest table.now (span_in slew.now) c0 c1 }
+    requires loads { IsStretch table.now.loads loads.now }
+    requires start { start ≡ value_in table.now (span_in slew.now) (span_of table.now.loads loads.now.from) }
+    requires number { IsTableNumber start }
+    ensures value { result ≡ value_in table.now (span_in slew.now) (span_of table.now.loads loads.now.to) }
+    ensures number { IsTableNumber result }
 {
-    let loads = table.loads();
-    let start = value(table, slew, &Place::of(loads, c0));
-    let end = value(table, slew, &Place::of(loads, c1));
+    if loads.single {
+        return start;
+    }
+    value(table, slew, &loads.end)
+}
+
+/// The least and the greatest value at one slew, over several loads. Between neighbouring grid lines the values go one
+/// way, so it looks at both ends and at the lines between them.
+fn row_range(table: &Table, slew: &Place, loads: &Stretch) -> (i64, i64)
+    requires table { IsTable table.now }
+    requires slew { IsSpan (length table.now.slews) (span_in slew.now) }
+    requires loads { IsStretch table.now.loads loads.now }
+    ensures least { result.0 ≡ row_least table.now (span_in slew.now) loads.now.from loads.now.to }
+    ensures greatest { result.1 ≡ row_greatest table.now (span_in slew.now) loads.now.from loads.now.to }
+{
+    let start = value(table, slew, &loads.start);
+    let end = end_value(table, slew, loads, start);
     let mut range = joined((start, start), (end, end));
-    let first = lines_up_to(loads, c0);
-    let last = lines_below(loads, c1);
-    for line in first..last {
-        let value = value(table, slew, &Place::on_line(loads, line));
+    for line in loads.first..loads.last {
+        let value = value(table, slew, &Place::on_line(table.loads(), line));
         range = joined(range, (value, value));
+    }
+    range
+}
+
+/// The range of values at the greatest of several slews and several loads, where that at the least slew is `start`.
+fn end_range(table: &Table, slews: &Stretch, loads: &Stretch, start: (i64, i64)) -> (i64, i64)
+    requires table { IsTable table.now }
+    requires slews { IsStretch table.now.slews slews.now }
+    requires loads { IsStretch table.now.loads loads.now }
+    requires least { start.0
+        ≡ row_least table.now (span_of table.now.slews slews.now.from) loads.now.from loads.now.to }
+    requires greatest { start.1
+        ≡ row_greatest table.now (span_of table.now.slews slews.now.from) loads.now.from loads.now.to }
+    ensures least { result.0
+        ≡ row_least table.now (span_of table.now.slews slews.now.to) loads.now.from loads.now.to }
+    ensures greatest { result.1
+        ≡ row_greatest table.now (span_of table.now.slews slews.now.to) loads.now.from loads.now.to }
+{
+    if slews.single {
+        return start;
+    }
+    row_range(table, &slews.end, loads)
+}
+
+/// The least and the greatest value over several slews and several loads, which looks at the ends and at the grid lines
+/// between them.
+fn box_range(table: &Table, slews: &Stretch, loads: &Stretch) -> (i64, i64)
+    requires table { IsTable table.now }
+    requires slews { IsStretch table.now.slews slews.now }
+    requires loads { IsStretch table.now.loads loads.now }
+    ensures least { result.0 ≡ least_over (table_value table.now) (box_of slews.now loads.now) }
+    ensures greatest { result.1 ≡ greatest_over (table_value table.now) (box_of slews.now loads.now) }
+    ensures least_number { IsTableNumber result.0 }
+    ensures greatest_number { IsTableNumber result.1 }
+{
+    let start = row_range(table, &slews.start, loads);
+    let end = end_range(table, slews, loads, start);
+    let mut range = joined(start, end);
+    for line in slews.first..slews.last {
+        range = joined(
+            range,
+            row_range(table, &Place::on_line(table.slews(), line), loads),
+        );
     }
     range
 }
@@ -51,17 +109,7 @@ pub fn range(table: &Table, s0: i64, s1: i64, c0: i64, c1: i64) -> (i64, i64)
     ensures least_number { IsTableNumber result.0 }
     ensures greatest_number { IsTableNumber result.1 }
 {
-    let slews = table.slews();
-    let start = row_range(table, &Place::of(slews, s0), c0, c1);
-    let end = row_range(table, &Place::of(slews, s1), c0, c1);
-    let mut range = joined(start, end);
-    let first = lines_up_to(slews, s0);
-    let last = lines_below(slews, s1);
-    for line in first..last {
-        range = joined(
-            range,
-            row_range(table, &Place::on_line(slews, line), c0, c1),
-        );
-    }
-    range
+    let slews = Stretch::of(table.slews(), s0, s1);
+    let loads = Stretch::of(table.loads(), c0, c1);
+    box_range(table, &slews, &loads)
 }

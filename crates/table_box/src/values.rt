@@ -1,4 +1,5 @@
 ghost use Rattle.std.specs.Prelude.{◌≡◌, ◌<◌, ◌^◌, ◌≤ℤ◌, ◌<ℤ◌, ◌+ℤ◌, ◌*ℤ◌, pos, neg_ℤ, length};
+ghost use Rattle.std.specs.Int.{int_div_euclid};
 ghost use Rattle.xt_model.specs.Tables.{IsTable, IsTableNumber};
 ghost use Rattle.xt_meaning.specs.Lookup.{cell_value, table_value, value_in, weighted};
 ghost use Rattle.table_box.specs.Spans.{IsSpan, span_in};
@@ -80,6 +81,17 @@ fn area(slew_width: i64, load_width: i64) -> i128
     i128::from(slew_width) * i128::from(load_width)
 }
 
+/// A fraction, rounded down, by 64 bits where its numbers fit.
+fn floor(sum: i128, area: i128) -> i128
+    requires { pos 0 <ℤ area }
+    ensures { result ≡ int_div_euclid sum area }
+{
+    if let (Ok(sum), Ok(area)) = (i64::try_from(sum), i64::try_from(area)) {
+        return i128::from(sum.div_euclid(area));
+    }
+    sum.div_euclid(area)
+}
+
 /// The value at a place of the slews and one of the loads: the floor of the exact bilinear fraction.
 pub(crate) fn value(table: &Table, slew: &Place, load: &Place) -> i64
     requires table { IsTable table.now }
@@ -90,7 +102,7 @@ pub(crate) fn value(table: &Table, slew: &Place, load: &Place) -> i64
 {
     let sum = weighted_sum(table, slew, load);
     let area = area(slew.width, load.width);
-    sum.div_euclid(area) as i64
+    floor(sum, area) as i64
 }
 
 /// The value of a table at a slew in fs and a load in aF, each brought within the ends of its index:

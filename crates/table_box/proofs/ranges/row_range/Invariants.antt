@@ -3,4 +3,4 @@ use Rattle.table_box.proofs.Sweeps.{IsRowSoFar}
 use Rattle.table_box.proofs.ranges.row_range.Given as goal
 
 abbrev pub invariant-loop-line : goal.invariant-loop-line
-invariant-loop-line l = IsRowSoFar l.table (span_in l.slew) l.c0 l.c1 l.first l.line l.range.0 l.range.1
+invariant-loop-line l = IsRowSoFar l.table (span_in l.slew) l.loads.from l.loads.to l.loads.first l.line l.range.0 l.range.1
