@@ -84,7 +84,7 @@ miller_of t =
 abbrev pub miller_or_none : Option Text → Option MillerNumbers
 miller_or_none text = text >>= three_of >>= miller_of
 
--- a linked text to solve, by one worker, with the whole report and by its own Miller numbers where nothing else is given
+-- a linked text to solve, by one worker, with the whole report and by its own Miller numbers unless others are given
 abbrev pub solve_job : (Text → Option Text) → SolveJob
 solve_job given = record {
   file = text_or_empty (given (codes "file"));

@@ -6,8 +6,8 @@ use std::alloc::{AllocError, Global};
 use std::test::Fail;
 use std::thread::Threads;
 
-/// Two sources, s and t, that rise at 1 ps, and a gate of 500 fs behind each, c and d. Each source's wire is coupled with
-/// the other's gate: 200 fs for a whole Miller factor.
+/// Two sources, s and t, that rise at 1 ps, and a gate of 500 fs behind each, c and d. Each source's wire is coupled
+/// with the other's gate: 200 fs for a whole Miller factor.
 const CROSS: &[u8] = b"\
     table 1 1\n\
     slews 0\n\
@@ -33,8 +33,8 @@ const CROSS: &[u8] = b"\
     arc 1 0 rise rise 0 1\n\
     end\n";
 
-/// Two gates, a that rises from 1 ps on and b that falls from 1.1 ps on, coupled with each other: a delay of 800 fs, and
-/// 200 fs more for a whole Miller factor.
+/// Two gates, a that rises from 1 ps on and b that falls from 1.1 ps on, coupled with each other: a delay of 800 fs,
+/// and 200 fs more for a whole Miller factor.
 const LOAD_PAIR: &[u8] = b"\
     table 1 2\n\
     slews 0\n\
@@ -117,8 +117,8 @@ fn prints<R: Threads + Sync>(
     Ok(ended.status == 0 && ended.out.as_slice() == report && ended.err.is_empty())
 }
 
-// Half a slew is 300 fs, so the sources are under way until 1.3 ps. At 2 quarters a gate that is met can rise at 1.6 ps,
-// and is under way from 1.3 ps on, so that it is met; at 3 quarters at 1.65 ps, and is under way too late.
+// Half a slew is 300 fs, so the sources are under way until 1.3 ps. At 2 quarters a gate that is met can rise at 1.6
+// ps, and is under way from 1.3 ps on, so that it is met; at 3 quarters at 1.65 ps, and is under way too late.
 #[test]
 fn a_text_has_numbers_of_its_own(rt: HostRuntime) -> Result<(), Fail> {
     let alloc = rt.alloc();
@@ -172,8 +172,8 @@ fn the_words_replace_them(rt: HostRuntime) -> Result<(), Fail> {
     Ok(())
 }
 
-/// The report of the coupled gates: the lines of the period and of the Miller numbers, until when a rises and b falls in
-/// the least windows and in the greatest, and the mark by which each slows the other down.
+/// The report of the coupled gates: the lines of the period and of the Miller numbers, until when a rises and b falls
+/// in the least windows and in the greatest, and the mark by which each slows the other down.
 fn pair_report(
     alloc: Global,
     clock: &str,
