@@ -12,6 +12,8 @@ mod refusal;
 mod sort;
 mod state;
 mod stop;
+#[cfg(test)]
+mod tests;
 
 pub use netlist::{Instance, Modules, Name, Net, Netlist, PortRole, Wire};
 pub use port::PortFound;

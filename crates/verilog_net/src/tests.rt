@@ -1,0 +1,456 @@
+//! Short netlists, worked out by hand.
+
+use crate::{Instance, Netlist, PortFound, PortRole, Wire, read_modules, read_netlist};
+use std::alloc::Global;
+use std::process::Abort;
+use std::test::*;
+use xt_lex::{Code, MOST_BYTES, TextFault};
+
+/// A text and the line and code of its refusal, if it has one.
+type Refusal = (&'static str, Option<(u32, Code)>);
+
+/// The line and code of the refusal of a text of one module, if it has one.
+fn refusal(rt: &impl Abort, alloc: Global, text: &str) -> Option<(u32, Code)> {
+    if text.len() > MOST_BYTES {
+        return None;
+    }
+    match read_netlist(alloc, text.as_bytes()) {
+        Ok(_) => None,
+        Err(TextFault::NoMemory) => panic!(rt; "out of memory at {text}"),
+        Err(TextFault::Refused { line, code }) => Some((line, code)),
+    }
+}
+
+/// Compares the refusal of each text of one module.
+fn compare(rt: &impl Abort, alloc: Global, texts: &[Refusal]) {
+    for (text, want) in texts {
+        assert_eq!(rt; refusal(rt, alloc, text), *want, "at {text}");
+    }
+}
+
+/// Compares the refusal of each text of modules.
+fn compare_modules(rt: &impl Abort, alloc: Global, texts: &[Refusal]) {
+    for (text, want) in texts {
+        if text.len() <= MOST_BYTES {
+            match read_modules(alloc, text.as_bytes()) {
+                Ok(_) => assert_eq!(rt; *want, None, "at {text}"),
+                Err(TextFault::NoMemory) => panic!(rt; "out of memory at {text}"),
+                Err(TextFault::Refused { line, code }) => {
+                    assert_eq!(rt; *want, Some((line, code)), "at {text}");
+                }
+            }
+        }
+    }
+}
+
+/// The one module of a text.
+fn netlist(rt: &impl Abort, alloc: Global, text: &str) -> Netlist {
+    if text.len() > MOST_BYTES {
+        panic!(rt; "too long");
+    }
+    match read_netlist(alloc, text.as_bytes()) {
+        Ok(netlist) => netlist,
+        Err(fault) => panic!(rt; "{fault:?} at {text}"),
+    }
+}
+
+/// Compares the nets of a module: their names, their roles and their ranges.
+fn compare_nets(
+    rt: &impl Abort,
+    netlist: &Netlist,
+    want: &[(&'static str, PortRole, Option<(u32, u32)>)],
+) {
+    let mut number: u32 = 0;
+    for (name, role, range) in want {
+        let Some((found, net)) = netlist.nets.get(number) else {
+            panic!(rt; "no net {name}");
+        };
+        assert_eq!(rt; found, name.as_bytes());
+        assert_eq!(rt; (net.role, net.range), (*role, *range), "at {name}");
+        number = number.saturating_add(1);
+    }
+    assert_eq!(rt; netlist.nets.len(), number);
+}
+
+/// Compares an instance: its cell, its name, its line, its pins and what they are connected to.
+fn compare_instance(
+    rt: &impl Abort,
+    instance: &Instance,
+    want: (&'static str, &'static str, u32),
+    pins: &[(&'static str, Wire)],
+) {
+    let (cell, name, line) = want;
+    assert_eq!(rt; instance.cell.bytes(), cell.as_bytes());
+    assert_eq!(rt; instance.name.bytes(), name.as_bytes());
+    assert_eq!(rt; instance.line, line, "at {name}");
+    assert_eq!(rt; instance.pins.len(), pins.len(), "at {name}");
+    for ((pin, wire), (want_pin, want_wire)) in instance.pins.as_slice().iter().zip(pins.iter()) {
+        assert_eq!(rt; pin.bytes(), want_pin.as_bytes());
+        assert_eq!(rt; *wire, *want_wire, "at {name}, {want_pin}");
+    }
+}
+
+#[test]
+fn a_token_that_does_not_fit_is_refused(rt: HostRuntime) {
+    let texts: [Refusal; 16] = [
+        ("module m; endmodule", None),
+        ("module m (a); input a; endmodule // end", None),
+        ("", Some((1, Code::V2))),
+        ("\n\n", Some((3, Code::V2))),
+        ("module m;\n", Some((2, Code::V2))),
+        ("module m; INV u (.A(", Some((1, Code::V2))),
+        ("module m; /* \n", Some((2, Code::V2))),
+        ("module m; (* \n", Some((2, Code::V2))),
+        ("module m (a);\n\u{1} /*", Some((2, Code::V1))),
+        ("assign", Some((1, Code::V1))),
+        ("wire a;", Some((1, Code::V1))),
+        ("module m ();\nendmodule", Some((1, Code::V1))),
+        ("module m (a,); input a; endmodule", Some((1, Code::V1))),
+        ("module wire; endmodule", Some((1, Code::V1))),
+        ("module m; endmodule\nassign", Some((2, Code::V1))),
+        ("module m; endmodule\nendmodule", Some((2, Code::V1))),
+    ];
+    compare(&rt, rt.alloc(), &texts);
+}
+
+#[test]
+fn a_statement_is_refused_where_it_goes_wrong(rt: HostRuntime) {
+    let texts: [Refusal; 16] = [
+        ("module m; input wire a; endmodule", Some((1, Code::V1))),
+        ("module m; wire a\nb; endmodule", Some((2, Code::V1))),
+        ("module m; wire [3] a; endmodule", Some((1, Code::V1))),
+        (
+            "module m; wire [3:0] a, [3:0] b; endmodule",
+            Some((1, Code::V1)),
+        ),
+        ("module m; INV (.A(a)); endmodule", Some((1, Code::V1))),
+        ("module m; INV u; endmodule", Some((1, Code::V1))),
+        ("module m; INV u (.A(a),); endmodule", Some((1, Code::V1))),
+        ("module m; INV u (.A(0)); endmodule", Some((1, Code::V1))),
+        ("module m; INV u (.A(2'b0)); endmodule", Some((1, Code::V1))),
+        ("module m; INV u (.A(a b)); endmodule", Some((1, Code::V1))),
+        ("module m; INV u (0); endmodule", Some((1, Code::V1))),
+        ("module m; wire \\ ; endmodule", Some((1, Code::V1))),
+        ("module m; = endmodule", Some((1, Code::V1))),
+        ("module m; module n; endmodule", Some((1, Code::V1))),
+        ("module m; wire tri; endmodule", Some((1, Code::V1))),
+        (
+            "module m; wire \\tri ; begin \\wire (.or(not)); endmodule",
+            None,
+        ),
+    ];
+    compare(&rt, rt.alloc(), &texts);
+}
+
+#[test]
+fn what_is_not_read_is_refused_as_such(rt: HostRuntime) {
+    let texts: [Refusal; 20] = [
+        ("module m; assign a = b; endmodule", Some((1, Code::V3))),
+        ("module m;\ninout a; endmodule", Some((2, Code::V3))),
+        ("module m #(1); endmodule", Some((1, Code::V3))),
+        ("module m; INV\n#(2) u (.A(a));", Some((2, Code::V3))),
+        ("module m; wire a,\nreg;", Some((2, Code::V3))),
+        ("module m (a,\ninput b);", Some((2, Code::V3))),
+        ("module m\noutput a;", Some((2, Code::V3))),
+        ("module m (wire a);", Some((1, Code::V1))),
+        ("module m; INV u\n[3:0] (.A(a));", Some((2, Code::V3))),
+        ("module m; INV u (\na, b);", Some((2, Code::V3))),
+        ("module m; INV u (.A(a),\n1'b0);", Some((2, Code::V3))),
+        ("module m; INV u (.A(\n{a, b}));", Some((2, Code::V3))),
+        ("module m; wire {a, b};", Some((1, Code::V1))),
+        (
+            "module m; wire [3:0] b; INV u (.A(b[1\n:0]));",
+            Some((2, Code::V3)),
+        ),
+        (
+            "module m; wire [3:0] b; INV u (.A(b\n));",
+            Some((2, Code::V3)),
+        ),
+        (
+            "module m; wire [3:0] b; INV u (.A(b\n.",
+            Some((2, Code::V1)),
+        ),
+        ("module m; INV u (.A(b[1\n:", Some((2, Code::V3))),
+        ("module m; INV u (.A(b[1\n.", Some((2, Code::V1))),
+        (
+            "module m; endmodule\nmodule n; endmodule",
+            Some((2, Code::V3)),
+        ),
+        ("module m; \\assign u (.\\inout (a)); endmodule", None),
+    ];
+    compare(&rt, rt.alloc(), &texts);
+}
+
+#[test]
+fn names_and_bits_are_refused_at_their_last_token(rt: HostRuntime) {
+    let texts: [Refusal; 20] = [
+        ("module m (a); endmodule", Some((1, Code::V4))),
+        ("module m (a); wire a;\nendmodule", Some((2, Code::V4))),
+        ("module m; INV u (.A(b[0\n]));", Some((2, Code::V4))),
+        ("module m; INV u (.A(b[0\n[", Some((2, Code::V1))),
+        ("module m; INV u (.A(b), .Y(b[0]));", Some((1, Code::V4))),
+        (
+            "module m; INV u (.A(b[0])); wire [1:0] b;",
+            Some((1, Code::V4)),
+        ),
+        (
+            "module m; wire [3:0] b; INV u (.A(b[4\n]));",
+            Some((2, Code::V6)),
+        ),
+        (
+            "module m; wire [0:3] b; INV u (.A(b[4\n]));",
+            Some((2, Code::V6)),
+        ),
+        (
+            "module m; wire [3:0] b; INV u (.A(b[4\n;",
+            Some((2, Code::V1)),
+        ),
+        ("module m; wire b; INV u (.A(b[0\n]));", Some((2, Code::V6))),
+        ("module m; wire [\n1048576:0] b;", Some((2, Code::V6))),
+        ("module m; wire [0:\n1048576\n]", Some((2, Code::V6))),
+        ("module m; wire [1048575:01048575] b; endmodule", None),
+        ("module m; INV u (.A(x), .A\n(y));", Some((1, Code::V5))),
+        (
+            "module m; INV u (.A(x), .B(y),\n.A(y));",
+            Some((2, Code::V5)),
+        ),
+        ("module m; INV u (.A(x)),\nu (.A(y));", Some((2, Code::V5))),
+        (
+            "module m; INV u (); INV v ();\nBUF u [",
+            Some((2, Code::V5)),
+        ),
+        (
+            "module m; INV u (); INV v ();\nBUF w [",
+            Some((2, Code::V3)),
+        ),
+        (
+            "module m (b[0]); input [1:0] b; endmodule",
+            Some((1, Code::V1)),
+        ),
+        ("module m (\\b[0] ); input [1:0] b; endmodule", None),
+    ];
+    compare(&rt, rt.alloc(), &texts);
+}
+
+#[test]
+fn two_declarations_of_a_name_agree(rt: HostRuntime) {
+    let texts: [Refusal; 13] = [
+        ("module m; input a; output\na;", Some((2, Code::V3))),
+        (
+            "module m; wire [1:0] a; wire [0:1]\na;",
+            Some((2, Code::V3)),
+        ),
+        ("module m; wire [1:0] a; input\na;", Some((2, Code::V3))),
+        (
+            "module m; INV u (.A(a)); wire [1:0]\na;",
+            Some((2, Code::V3)),
+        ),
+        ("module m; INV u (.A(a)); wire a; input a; endmodule", None),
+        ("module m (a); wire a; input a; supply0 a; endmodule", None),
+        ("module m; wire [1:0] a; output [01:00] a; endmodule", None),
+        (
+            "module m; wire [1:0] a; wire\n\\a[0] ;",
+            Some((2, Code::V3)),
+        ),
+        (
+            "module m; wire [1:0] a; wire \\a[2] , \\a[00] ; endmodule",
+            None,
+        ),
+        (
+            "module m; wire \\a[0] ; wire [1:0]\na\n;",
+            Some((2, Code::V3)),
+        ),
+        (
+            "module m; INV u (.A(\\a[0] )); wire [1:0]\na\n;",
+            Some((2, Code::V3)),
+        ),
+        (
+            "module m; INV u (.A(\\a[2] )); wire [1:0] a; endmodule",
+            None,
+        ),
+        (
+            "module m; INV u (.A(\\a[2] ), .B(\\a[0] )); wire [1:0]\na\n;",
+            Some((2, Code::V3)),
+        ),
+    ];
+    compare(&rt, rt.alloc(), &texts);
+}
+
+#[test]
+fn several_modules_are_read_apart(rt: HostRuntime) {
+    let texts: [Refusal; 8] = [
+        (
+            "module a; wire x; endmodule module b; wire [1:0] x; endmodule",
+            None,
+        ),
+        (
+            "module a; INV u (); endmodule module b; INV u (); endmodule",
+            None,
+        ),
+        ("module a; wire [1:0] x; b u (.x(x)); endmodule", None),
+        (
+            "module a; endmodule module\na; endmodule",
+            Some((2, Code::V5)),
+        ),
+        ("module a; endmodule\nassign", Some((2, Code::V1))),
+        (
+            "module a; input x; endmodule module b (x);\nendmodule",
+            Some((2, Code::V4)),
+        ),
+        (
+            "module a; wire [1:0] x; b u (.x(x[1\n:0]));",
+            Some((2, Code::V3)),
+        ),
+        ("", Some((1, Code::V2))),
+    ];
+    compare_modules(&rt, rt.alloc(), &texts);
+}
+
+#[test]
+fn a_name_has_at_most_1024_bytes(rt: HostRuntime) {
+    let alloc = rt.alloc();
+    for length in 1023..1026 {
+        let Ok(mut text) = Vec::from_slice(alloc, b"module ".as_slice()) else {
+            panic!(rt; "out of memory");
+        };
+        for _ in 0..length {
+            if text.push(b'n').is_err() {
+                panic!(rt; "out of memory");
+            }
+        }
+        if text.extend_from_slice(b"; endmodule").is_err() {
+            panic!(rt; "out of memory");
+        }
+        if text.len() <= MOST_BYTES {
+            match read_netlist(alloc, text.as_slice()) {
+                Ok(_) => assert!(rt; length <= 1024),
+                Err(fault) => {
+                    assert_eq!(rt; length, 1025);
+                    assert_eq!(rt;
+                        fault,
+                        TextFault::Refused {
+                            line: 1,
+                            code: Code::V1
+                        }
+                    );
+                }
+            }
+        }
+    }
+}
+
+#[test]
+fn ports_are_found_by_name(rt: HostRuntime) {
+    let text = "module m (a, b); input a; output [0:3] b; wire c; wire [1:0] d; endmodule";
+    let m = netlist(&rt, rt.alloc(), text);
+    let bits = |decl: u32, first: u32, last: u32, role: PortRole| PortFound::Bits {
+        decl,
+        first,
+        last,
+        role,
+    };
+    assert_eq!(rt; m.port(b"a"), bits(0, 0, 0, PortRole::Input));
+    assert_eq!(rt; m.port(b"b"), bits(1, 0, 3, PortRole::Output));
+    assert_eq!(rt; m.port(b"b[2]"), bits(1, 2, 2, PortRole::Output));
+    assert_eq!(rt; m.port(b"d[1]"), bits(3, 1, 1, PortRole::Inner));
+    assert_eq!(rt; m.port(b"b[4]"), PortFound::Absent);
+    assert_eq!(rt; m.port(b"b[02]"), PortFound::Absent);
+    assert_eq!(rt; m.port(b"a[0]"), PortFound::Absent);
+    assert_eq!(rt; m.port(b"c"), PortFound::Absent);
+    assert_eq!(rt; m.port(b"e"), PortFound::Absent);
+}
+
+#[test]
+fn what_a_synthesiser_may_write_is_read(rt: HostRuntime) {
+    let text = concat!(
+        "`timescale 1ns/1ps\n",
+        "module top (ck, \\in[0] , y);\n",
+        "  input ck; input \\in[0] ; output [11:8] y;\n",
+        "  wire ck; wire [0:3] b; supply0 g; tri \\t\\x ;\n",
+        "  (* keep = \"1\" *) DFF \\f[1] (.CK(ck), .D(\\in[0] ), .Q(b[2]));\n",
+        "  CELL c1 (.A(1'h0), .B(), .C(\\b[1] ), .D(g), .E(n)), c2 ();\n",
+        "  wire n; /* late */ BUF\n  c3 (.Z(y[8]));\n",
+        "endmodule\n"
+    );
+    let m = netlist(&rt, rt.alloc(), text);
+    assert_eq!(rt; m.module.bytes(), b"top".as_slice());
+    compare_nets(
+        &rt,
+        &m,
+        &[
+            ("ck", PortRole::Input, None),
+            ("in[0]", PortRole::Input, None),
+            ("y", PortRole::Output, Some((11, 8))),
+            ("b", PortRole::Inner, Some((0, 3))),
+            ("g", PortRole::Inner, None),
+            ("t\\x", PortRole::Inner, None),
+            ("n", PortRole::Inner, None),
+        ],
+    );
+    let bit = |decl: u32, bit: u32| Wire::Bit { decl, bit };
+    let [f, c1, c2, c3] = m.instances.as_slice() else {
+        panic!(rt; "not four instances");
+    };
+    compare_instance(
+        &rt,
+        f,
+        ("DFF", "f[1]", 5),
+        &[("CK", bit(0, 0)), ("D", bit(1, 0)), ("Q", bit(3, 2))],
+    );
+    compare_instance(
+        &rt,
+        c1,
+        ("CELL", "c1", 6),
+        &[
+            ("A", Wire::Constant),
+            ("B", Wire::Open),
+            ("C", bit(3, 1)),
+            ("D", bit(4, 0)),
+            ("E", bit(6, 0)),
+        ],
+    );
+    compare_instance(&rt, c2, ("CELL", "c2", 6), &[]);
+    compare_instance(&rt, c3, ("BUF", "c3", 8), &[("Z", bit(2, 8))]);
+}
+
+#[test]
+fn a_small_netlist_is_read_whole(rt: HostRuntime) {
+    let text = concat!(
+        "`timescale 1ns/1ps\nmodule top (ck, d, y);\n  input ck; input d; output y; // ports\n",
+        "  wire q1, n1;\n  wire \\bus[0] ;\n",
+        "  (* keep = 1 *) DFF f1 (.CK(ck), .D(\\bus[0] ), .Q(q1));\n",
+        "  DFF f2 (.CK(ck), .D(n1), .Q(y));\n  INV g1 (.A(q1), .Y(n1));\n",
+        "  INV g2 (.A(d), .Y(\\bus[0] ));\nendmodule\n"
+    );
+    let m = netlist(&rt, rt.alloc(), text);
+    compare_nets(
+        &rt,
+        &m,
+        &[
+            ("ck", PortRole::Input, None),
+            ("d", PortRole::Input, None),
+            ("y", PortRole::Output, None),
+            ("q1", PortRole::Inner, None),
+            ("n1", PortRole::Inner, None),
+            ("bus[0]", PortRole::Inner, None),
+        ],
+    );
+    let net = |decl: u32| Wire::Bit { decl, bit: 0 };
+    let [f1, f2, g1, g2] = m.instances.as_slice() else {
+        panic!(rt; "not four instances");
+    };
+    compare_instance(
+        &rt,
+        f1,
+        ("DFF", "f1", 6),
+        &[("CK", net(0)), ("D", net(5)), ("Q", net(3))],
+    );
+    compare_instance(
+        &rt,
+        f2,
+        ("DFF", "f2", 7),
+        &[("CK", net(0)), ("D", net(4)), ("Q", net(2))],
+    );
+    compare_instance(&rt, g1, ("INV", "g1", 8), &[("A", net(3)), ("Y", net(4))]);
+    compare_instance(&rt, g2, ("INV", "g2", 9), &[("A", net(1)), ("Y", net(5))]);
+}
