@@ -20,7 +20,9 @@ token_of t = record { sort = t.sort; text = t.text.now; from = t.from; line = t.
 module _ {Sort : Type 0} (sort_by : Kind → List ℕ → Sort) (end : Sort) where
   -- a token of a text with its sort
   abbrev pub token_by : Kind → TokenText → Token Sort
-  token_by kind t = record { sort = sort_by kind (seen_by kind t.text); text = seen_by kind t.text; from = t.from; line = t.line }
+  token_by kind t =
+      let text = seen_by kind t.text in
+      record { sort = sort_by kind text; text = text; from = t.from; line = t.line }
 
   -- the end of a text, at its last line
   abbrev pub end_at : ℕ → Token Sort

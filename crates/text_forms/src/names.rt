@@ -40,6 +40,13 @@ impl<'a> Names<'a> {
         Ok(self.set.insert_full(name)?)
     }
 
+    /// Forgets the names. Those that are seen from now on are numbered from 0 again, in the memory of these.
+    pub fn clear(&mut self)
+        ensures { self.new ≡ [] }
+    {
+        self.set.clear();
+    }
+
     /// How many names were seen.
     pub fn len(&self) -> usize
         ensures { result ≡ length self.now }

@@ -1,6 +1,6 @@
 //! What the forms of a netlist mean, one after another.
 
-ghost use Rattle.std.specs.Prelude.{◌≡◌, ℕ, map, Ok};
+ghost use Rattle.std.specs.Prelude.{◌≡◌, ℕ, [], map, Ok};
 ghost use Rattle.std.specs.List.{list_all};
 ghost use Rattle.verilog_net.specs.Nets.{is_port, named_bit};
 ghost use Rattle.verilog_net.specs.Meaning.{nothing, begin_module, name_module, list_name, end_module, declare};
@@ -18,6 +18,9 @@ use std::marker::Model;
 use std::mem;
 use text_forms::{NameTable, Named, Names};
 use xt_model::{Code, Row};
+
+/// The greatest number of names whose memory serves again for the pins of the next instance.
+const FEW_NAMES: usize = 16;
 
 /// What the forms of a netlist said so far.
 #[derive(Drop)]
@@ -199,7 +202,8 @@ impl<'a> Progress<'a> {
 
     /// Declares a name that no net has.
     fn declare_new(&mut self, alloc: Global, name: &'a [u8]) -> Result<(), Stop>
-        ensures { Changes result self.new (declare_new name.entry.now self.old (named_bit name.entry.now self.old.nets)) }
+        ensures { Changes result self.new
+            (declare_new name.entry.now self.old (named_bit name.entry.now self.old.nets)) }
     {
         if named_bit(&self.nets, name).is_some() {
             return Err(Stop::Refused(Code::V3));
@@ -260,8 +264,20 @@ impl<'a> Progress<'a> {
         }
         self.instance = name;
         self.line = line;
-        let _ = mem::replace(&mut self.pin_names, Names::new(alloc));
+        self.forget_pins(alloc);
         Ok(())
+    }
+
+    /// No pin. The memory of few names serves again; that of many is given back, since to empty it takes as long as it is
+    /// large.
+    fn forget_pins(&mut self, alloc: Global)
+        ensures { self.new ≡ record self.old { pin_names = [] } }
+    {
+        if self.pin_names.len() > FEW_NAMES {
+            let _ = mem::replace(&mut self.pin_names, Names::new(alloc));
+        } else {
+            self.pin_names.clear();
+        }
     }
 
     /// An instance of a cell.
