@@ -1,5 +1,5 @@
 -- A Liberty text is read form by form.
-use Rattle.std.specs.Prelude.{◌≡◌, refl, ℕ, ◌<◌, true, false, List, [], ◌∷◌, length, Some, None, Result, Ok, Err}
+use Rattle.std.specs.Prelude.{◌≡◌, refl, ℕ, ◌<◌, true, false, [], ◌∷◌, length, Some, None, Result, Ok, Err}
 use Rattle.std.proofs.Common.{ap, ◌∙◌}
 use Rattle.text_forms.specs.Forms.{Token, Refusal}
 use Rattle.text_forms.specs.Meaning.{next_state, text_means}

@@ -1,11 +1,11 @@
 -- Groups of the code and the trees that they stand for.
-use Rattle.std.specs.Prelude.{◌≡◌, refl, List, [], ◌∷◌, ◌++◌, length, map, reverse}
+use Rattle.std.specs.Prelude.{◌≡◌, refl, List, [], ◌∷◌, ◌++◌, length, map}
 use Rattle.std.proofs.Common.{ap, arith, ◌∙◌}
 use Rattle.std.proofs.lemmas.List.{map-append, reverse-append}
 use Rattle.liberty_groups.specs.declared.group.Group.{Group}
 use Rattle.liberty_groups.specs.declared.group.Group.TheOpen.{Group-F}
 use Rattle.liberty_groups.specs.declared.group.Group.TheViews.{out-Group, roll-Group}
-use Rattle.liberty_groups.specs.declared.group.Group.TheFolds.{fold-roll-Group, fold_out-Group, map-Group}
+use Rattle.liberty_groups.specs.declared.group.Group.TheFolds.{fold-roll-Group, fold_out-Group}
 use Rattle.liberty_groups.specs.Trees.{Tree, node, head_of, attributes_of, groups_of, trees, forest, tree_and, followed_by, tree_step, tree_of, entry_of}
 use Rattle.liberty_groups.specs.View.{innermost_first}
 

@@ -1,9 +1,9 @@
 -- The group that a Liberty text is.
-use Rattle.std.specs.Prelude.{ℕ, List, [], ◌∷◌, Option, Some, None, Result, Ok, Err}
+use Rattle.std.specs.Prelude.{ℕ, List, [], ◌∷◌, Option, Some, Result, Ok, Err}
 use Rattle.text_forms.specs.Forms.{Refusal}
 use Rattle.text_forms.specs.Meaning.{text_means}
 use Rattle.xt_lex.specs.declared.fault.LexFault.{LexFault}
-use Rattle.xt_lex.specs.declared.fault.LexFault.TheVariants.{Byte, Unended, NoMemory}
+use Rattle.xt_lex.specs.declared.fault.LexFault.TheVariants.{Byte, Unended}
 use Rattle.xt_lex.specs.declared.rules.Rules.TheVariants.{Liberty}
 use Rattle.xt_lex.specs.Faults.{fault_of}
 use Rattle.xt_model.specs.declared.code.Code.{Code}

@@ -1,5 +1,5 @@
 -- The groups of a Liberty text as trees.
-use Rattle.std.specs.Prelude.{ℕ, List, [], ◌∷◌, ◌++◌, map, Option, Some, None}
+use Rattle.std.specs.Prelude.{ℕ, List, [], ◌∷◌, ◌++◌, map}
 use Rattle.liberty_groups.specs.declared.span.Span.{Span}
 use Rattle.liberty_groups.specs.declared.group.Attribute.{Attribute}
 use Rattle.liberty_groups.specs.declared.group.Group.{Group}

@@ -1,5 +1,5 @@
 -- What the values of the code stand for.
-use Rattle.std.specs.Prelude.{◌≡◌, ℕ, List, [], ◌∷◌, map, reverse, Option, Some, None, option_map, Result, Ok, Err}
+use Rattle.std.specs.Prelude.{◌≡◌, List, [], ◌∷◌, map, reverse, Option, Some, None, option_map, Result, Ok, Err}
 use Rattle.text_forms.specs.Forms.{Refusal}
 use Rattle.xt_lex.specs.declared.text_fault.TextFault.{TextFault}
 use Rattle.xt_lex.specs.declared.text_fault.TextFault.TheVariants.{Refused, NoMemory}
