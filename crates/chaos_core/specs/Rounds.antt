@@ -100,8 +100,8 @@ pub record Settles (a : Setting) (lists : List (List NetId)) (order : List ℕ) 
       (record { source = source; words = numbers_of windows })
   pub closed : AreClosed a.design (numbers_of windows)
 
--- words at or past others, and at or past what the operator makes of those, that are still no further than what it makes
--- of themselves
+-- words at or past others, and at or past what the operator makes of those, that are still no further than what it
+-- makes of themselves
 pub record HasCarried (a : Setting) (before after : List ℕ) : Type 0 where
   pub kept : AreKept a after
   pub past : AreNoFurther a.way (onward a.design (bounds_in before)) (bounds_in after)

@@ -83,8 +83,8 @@ pub fn settle_picked(
     ensures rounds { IfOk result (λ settled. (order : List ℕ) → IsOrder design.now.nets order
         → Settles (record { design = design.now; way = direction; start = start.now })
         lists.now order workers number settled.windows settled.rounds) }
-    ensures consistent { direction ≡ Narrow → IfOk result (λ settled. (xs : List Transition) → AreConsistent design.now xs
-        → LieWithin (assigned settled.windows) xs) }
+    ensures consistent { direction ≡ Narrow → IfOk result (λ settled.
+        (xs : List Transition) → AreConsistent design.now xs → LieWithin (assigned settled.windows) xs) }
 {
     let _order = design.order();
     let mut board = MemoryBoard::new(alloc, design, direction, start)?;

@@ -1,5 +1,6 @@
 -- The units of a library, as powers of ten of the base units: femtoseconds and attofarads.
-use Rattle.std.specs.Prelude.{ℕ, List, [], ◌∷◌, codes, ℤ, pos, ◌≤ℤ◌, ◌+ℤ◌, Option, Some, None, Result, Ok, Err, if◌then◌else◌}
+use Rattle.std.specs.Prelude.{ℕ, List, [], ◌∷◌, codes, ℤ, pos, ◌≤ℤ◌, ◌+ℤ◌, Option, Some, None, Result, Ok, Err}
+use Rattle.std.specs.Prelude.{if◌then◌else◌}
 use Rattle.std.specs.Str.{bytes_eq, str_eq_ignore_ascii_case}
 use Rattle.text_forms.specs.Names.{Text}
 use Rattle.xt_model.specs.declared.code.Code.TheVariants.{L8}

@@ -354,13 +354,13 @@ fn table_on(
     table_by(alloc, axes, line, values)
 }
 
-/// A table group of an arc, or of a check: slews of rows in fs, loads of columns in aF, or for a check the transitions of
-/// the related pin and of the constrained pin, and the values in fs.
+/// A table group of an arc, or of a check: slews of rows in fs, loads of columns in aF, or for a check the transitions
+/// of the related pin and of the constrained pin, and the values in fs.
 ///
 /// `L6` is a template that is not known, `L3` a number that can't be read or is too large, `L5` an index that does not
-/// increase, and `L4` an index of no number or more than 64, a variable that does not fit or stands without an index, an
-/// index without a variable, and a wrong number of values. They are met in this order, each at the first line where one
-/// of its kind stands: that of an attribute, or the group's where there is none.
+/// increase, and `L4` an index of no number or more than 64, a variable that does not fit or stands without an index,
+/// an index without a variable, and a wrong number of values. They are met in this order, each at the first line where
+/// one of its kind stands: that of an attribute, or the group's where there is none.
 #[tactic(auto, unfolding(crate::specs::Tables::table_of))]
 pub fn table_of(
     alloc: Global,

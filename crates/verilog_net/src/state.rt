@@ -268,8 +268,8 @@ impl<'a> Progress<'a> {
         Ok(())
     }
 
-    /// No pin. The memory of few names serves again; that of many is given back, since to empty it takes as long as it is
-    /// large.
+    /// No pin. The memory of few names serves again; that of many is given back, since to empty it takes as long as it
+    /// is large.
     fn forget_pins(&mut self, alloc: Global)
         ensures { self.new ≡ record self.old { pin_names = [] } }
     {

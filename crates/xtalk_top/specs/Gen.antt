@@ -6,8 +6,8 @@ use Rattle.xtalk_top.specs.Words.{Text}
 use Rattle.xtalk_top.specs.Outcome.{Outcome, AreBounds, SolvedMeans}
 use Rattle.xtalk_top.specs.declared.words.GenJob.{GenJob}
 
--- the text is the summary of the design's least and greatest fixpoint; every fixpoint contains the least and lies within
--- the greatest; and all transitions that explain one another lie within the greatest
+-- the text is the summary of the design's least and greatest fixpoint; every fixpoint contains the least and lies
+-- within the greatest; and all transitions that explain one another lie within the greatest
 pub record IsSummed (d : Parts) (text : Text) : Type 0 where
   pub summary : IsSummary d text
   pub bounds : AreBounds d summary.low summary.high
