@@ -17,4 +17,5 @@ pub mod Countdown
 pub mod Starting
 pub mod Turns
 pub mod Workers
+pub mod Chained
 pub mod Settling

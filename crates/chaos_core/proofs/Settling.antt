@@ -1,5 +1,5 @@
 -- A run by rounds: its words are closed exactly where its windows are a fixpoint, and each round leaves less room.
-use Rattle.std.proofs.Common.{◌≡◌, ℕ, suc, ◌+◌, ◌/◌, ◌%◌, ◌<◌, ◌⊎◌, inl, inr, refl, sym, ap, subst, ◌∙◌, List, min, ℤ, arith}
+use Rattle.std.proofs.Common.{◌≡◌, ℕ, suc, ◌+◌, ◌/◌, ◌%◌, ◌<◌, ◌⊎◌, inl, inr, refl, sym, ap, subst, ◌∙◌, List, ℤ, arith}
 use Rattle.std.specs.List.{All}
 use Rattle.xt_model.specs.declared.direction.Direction.{Direction}
 use Rattle.xt_model.specs.declared.edge.Edge.{Edge}
@@ -21,7 +21,7 @@ use Rattle.xt_meaning.proofs.Runs.{round_less}
 use Rattle.net_eval.specs.ReadLists.{AreReadLists}
 use Rattle.chaos_core.specs.declared.setting.Setting.{Setting}
 use Rattle.chaos_core.specs.Memories.{AreKept}
-use Rattle.chaos_core.specs.Rounds.{Pause, IsRound, AreClosed, AreRounds, HasCarried, counted, Settles}
+use Rattle.chaos_core.specs.Rounds.{Pause, IsRound, AreClosed, AreRounds, HasCarried, Settles}
 use Rattle.chaos_core.proofs.Carrying.{round_carries}
 use Rattle.chaos_core.proofs.Starting.{words_here, onward_here}
 
@@ -71,30 +71,27 @@ run_nearer a d way v w words later own same before after is was carry open_words
     let there : F d way = subst (λ x. F x way) own (subst (λ y. F a.design y) same base) in
     elim (there before after) [ inl f ↦ absurd (open_words f.fixed) | inr less ↦ less ]
 
--- ---- the count
-pub counted_more : (rounds after n : ℕ) → rounds ≡ counted n → after ≡ min (rounds + 1) 18446744073709551615 → after ≡ counted (suc n)
-counted_more rounds after n is e = omega (arith, is, e)
-
+-- ---- all rounds
 -- one round more, from words that are not closed
 pub one_more : (a : Setting) (d : Parts) (lists : List (List NetId)) (order : List ℕ) (workers n : ℕ) (p m q : Pause) (v : List Pair) → a.design ≡ d → All IsPairInRange v → numbers_of v ≡ m.words → (IsSteady d v → ⊥)
-    → AreRounds a lists order workers n p m → IsRound a lists order workers m q → AreRounds a lists order workers (suc n) p q
+    → AreRounds a lists order workers n p m → IsRound a lists order workers m q → AreRounds a lists order workers (n + 1) p q
 one_more a d lists order workers n p m q v own range is open_words path round =
     let P : Parts → Type 0 = λ x. AreClosed x m.words → ⊥ in
     let never : AreClosed a.design m.words → ⊥ = subst P (sym own) (λ c. open_words (steady_from d m.words v range is c)) in
-    (m, path, never, round)
+    let e : suc n ≡ n + 1 = omega arith in
+    subst (λ k. AreRounds a lists order workers k p q) e (m, path, never, round)
 
 pub settles_there : (a : Setting) (d : Parts) (lists : List (List NetId)) (order words : List ℕ) (workers number n source rounds : ℕ) (begin : List ℕ) (v : List Pair) → a.design ≡ d → begin ≡ numbers_of a.start
-    → All IsPairInRange v → numbers_of v ≡ words → IsSteady d v → rounds ≡ counted n
+    → All IsPairInRange v → numbers_of v ≡ words → IsSteady d v → n ≡ rounds
     → AreRounds a lists order workers n (record { source = number; words = begin }) (record { source = source; words = words }) → Settles a lists order workers number v rounds
 settles_there a d lists order words workers number n source rounds begin v own from range is steady counts path =
     let P : List ℕ → Type 0 = λ xs. AreRounds a lists order workers n (record { source = number; words = xs }) (record { source = source; words = words }) in
     let Q : List ℕ → Type 0 = λ xs. AreRounds a lists order workers n (record { source = number; words = numbers_of a.start }) (record { source = source; words = xs }) in
     let R : Parts → Type 0 = λ x. AreClosed x (numbers_of v) in
+    let S : ℕ → Type 0 = λ k. AreRounds a lists order workers k (record { source = number; words = numbers_of a.start }) (record { source = source; words = numbers_of v }) in
     record {
-      count = n;
-      counts = counts;
       source = source;
-      path = subst Q (sym is) (subst P from path);
+      path = subst S counts (subst Q (sym is) (subst P from path));
       closed = subst R (sym own) (closed_from d (numbers_of v) v range refl steady);
     }
 

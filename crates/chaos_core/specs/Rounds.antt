@@ -1,5 +1,5 @@
 -- Rounds of workers that take turns at words in memory, as a source of numbers picks them.
-use Rattle.std.specs.Prelude.{◌≡◌, ℕ, ◌+◌, ◌*◌, ◌%◌, ◌<◌, ◌≤◌, zero, suc, min, List, length, replicate, vec_capacity}
+use Rattle.std.specs.Prelude.{◌≡◌, ℕ, ◌+◌, ◌*◌, ◌%◌, ◌<◌, ◌≤◌, zero, suc, List, length, replicate, vec_capacity}
 use Rattle.std.specs.List.{All, slice_index_or}
 use Rattle.xt_model.specs.declared.net.NetId.{NetId}
 use Rattle.xt_model.specs.declared.quad.Pair.{Pair}
@@ -84,18 +84,12 @@ AreRounds a lists order workers (suc n) p q =
     (m : Pause) × AreRounds a lists order workers n p m × (AreClosed a.design m.words → ⊥)
     × IsRound a lists order workers m q
 
--- a count that stops at the greatest number of 64 bits
-abbrev pub counted : ℕ → ℕ
-counted count = min count 18446744073709551615
-
--- rounds from the start on, with a source that starts at this number, until the words are closed: they are those of
--- these windows, and closed after no fewer rounds
+-- so many rounds from the start on, with a source that starts at this number, until the words are closed: they are
+-- those of these windows, and closed after no fewer rounds
 pub record Settles (a : Setting) (lists : List (List NetId)) (order : List ℕ) (workers number : ℕ) (windows : List Pair)
     (rounds : ℕ) : Type 0 where
-  pub count : ℕ
-  pub counts : rounds ≡ counted count
   pub source : ℕ
-  pub path : AreRounds a lists order workers count
+  pub path : AreRounds a lists order workers rounds
       (record { source = number; words = numbers_of a.start })
       (record { source = source; words = numbers_of windows })
   pub closed : AreClosed a.design (numbers_of windows)

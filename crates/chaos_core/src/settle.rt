@@ -4,6 +4,7 @@ ghost use Rattle.std.specs.Prelude.{◌≡◌, ℕ, ◌<◌, ◌≤◌, List, le
 ghost use Rattle.std.specs.List.{All};
 ghost use Rattle.xt_model.specs.declared.direction.Direction.TheVariants.{Narrow};
 ghost use Rattle.xt_model.specs.Levels.{IsOrder};
+ghost use Rattle.xt_model.specs.Build.{IsRoundBound};
 ghost use Rattle.xt_model.specs.Assign.{assigned};
 ghost use Rattle.xt_meaning.specs.Barrier.{IsFittingStart};
 ghost use Rattle.xt_meaning.specs.Laws.{IsExtremeFixpoint};
@@ -21,7 +22,7 @@ use net_eval::{ReadLists, closed};
 use std::alloc::{AllocError, Global};
 use xt_model::{Design, Direction, Windows};
 
-/// The windows in which a run ended, and the rounds that it made, or 2^64 - 1 where they are more.
+/// The windows in which a run ended, and the rounds that it made.
 #[derive(Debug, Drop)]
 pub struct Settled {
     pub windows: Windows,
@@ -48,7 +49,9 @@ fn settle_on(
     ensures extreme { IfOk result (λ settled. IsExtremeFixpoint direction design.now settled.windows) }
     ensures rounds { IfOk result (λ settled. (order : List ℕ) → IsOrder design.now.nets order
         → Settles board.old.setting lists.now order (length workers.old) number settled.windows settled.rounds) }
+    ensures few { IfOk result (λ settled. (bound : ℕ) → IsRoundBound design.now.nets bound → settled.rounds ≤ bound) }
 {
+    let _bound = design.bound();
     let _words = board.words();
     let _order = design.order();
     let mut source = Source::new(number);
@@ -57,7 +60,7 @@ fn settle_on(
     'rounds: while !closed(design, &windows) {
         round(board, workers, design, lists, direction, &mut source);
         windows = board.windows(alloc)?;
-        rounds = rounds.saturating_add(1);
+        rounds += 1;
     }
     Ok(Settled { windows, rounds })
 }
@@ -65,7 +68,7 @@ fn settle_on(
 /// Makes rounds from a fitting start, in each of which so many workers take turns until all are done, as numbers from
 /// a source that starts at `number` pick them, until the words are closed. The windows are then the least fixpoint in
 /// widening and the greatest in narrowing, whatever the workers and the number, and in narrowing all transitions that
-/// explain one another lie within them.
+/// explain one another lie within them. No run makes more rounds than the design's bound.
 pub fn settle_picked(
     alloc: Global,
     design: &Design,
@@ -83,8 +86,9 @@ pub fn settle_picked(
     ensures rounds { IfOk result (λ settled. (order : List ℕ) → IsOrder design.now.nets order
         → Settles (record { design = design.now; way = direction; start = start.now })
         lists.now order workers number settled.windows settled.rounds) }
-    ensures consistent { direction ≡ Narrow → IfOk result (λ settled.
-        (xs : List Transition) → AreConsistent design.now xs → LieWithin (assigned settled.windows) xs) }
+    ensures few { IfOk result (λ settled. (bound : ℕ) → IsRoundBound design.now.nets bound → settled.rounds ≤ bound) }
+    ensures consistent { direction ≡ Narrow → IfOk result (λ settled. (xs : List Transition)
+        → AreConsistent design.now xs → LieWithin (assigned settled.windows) xs) }
 {
     let _order = design.order();
     let mut board = MemoryBoard::new(alloc, design, direction, start)?;

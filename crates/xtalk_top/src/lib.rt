@@ -20,6 +20,8 @@ pub use top::xtalk;
 pub use words::{GenJob, Job, SolveJob, WordsFault, parse_words};
 
 #[cfg(test)]
+mod generated_tests;
+#[cfg(test)]
 mod grammar_tests;
 #[cfg(test)]
 mod miller_tests;

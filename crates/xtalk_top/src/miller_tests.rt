@@ -286,7 +286,9 @@ fn strings(alloc: Global, words: &[&str]) -> Result<Vec<String>, AllocError> {
 /// The Miller numbers that a value of the option gives.
 fn numbers_in(alloc: Global, value: &str) -> Result<(u8, u8, u8), Fail> {
     let words = strings(alloc, &["solve", "--miller", value, "f"])?;
-    let Job::Solve(job) = parse_words(alloc, &words)?;
+    let Job::Solve(job) = parse_words(alloc, &words)? else {
+        return Err(Fail::from("the job is to solve"));
+    };
     let miller = job.miller.ok_or("the option is there")?;
     Ok((miller.low(), miller.mid(), miller.high()))
 }

@@ -14,7 +14,7 @@ returns-clause-setting c =
 pub returns-clause-pick : goal.returns-clause-pick
 returns-clause-pick c = λ order o.
     let one = one_state c.args.design.now c.args.lists.now order c.args.board.now c.worker_step.new.board c.args.workers.now c.next_open-place.result c.index-workers-place.result c.worker_step.new.worker c.worker_step.result
-        c.requires.design c.next_open-place.ensures.inside (c.worker_step.ensures.step order o) in
+    c.requires.design c.next_open-place.ensures.inside (c.worker_step.ensures.step order o) in
     record {
       pick = c.next_open-place.result;
       picked = picked_here c.args.workers.now c.draw-number.result _ c.next_open-place.result c.draw-number.ensures.value c.next_open-place.ensures.picked;

@@ -1,10 +1,11 @@
-use Rattle.std.proofs.Common.{◌≡◌, ℕ, suc, subst, ◌∙◌, List, length}
+use Rattle.std.proofs.Common.{◌≡◌, ℕ, ◌+◌, arith, subst, ◌∙◌, List, length}
 use Rattle.std.proofs.lemmas.Bool.{both_ways}
 use Rattle.xt_meaning.proofs.Extremes.{extreme_from_fixpoint}
 use Rattle.xt_model.specs.declared.net.NetId.{NetId}
 use Rattle.chaos_core.specs.declared.setting.Setting.{Setting}
 use Rattle.chaos_core.specs.Rounds.{Pause, IsRound, pause_at}
-use Rattle.chaos_core.proofs.Settling.{carried, run_nearer, fits_under, counted_more, one_more, settles_there}
+use Rattle.chaos_core.proofs.Chained.{few_here}
+use Rattle.chaos_core.proofs.Settling.{carried, run_nearer, fits_under, one_more, settles_there}
 use Rattle.chaos_core.proofs.settle.settle_on.Goals as goal
 
 -- each round is one under the setting at the start
@@ -52,14 +53,10 @@ rounds-preserved c =
       numbers = c.in_ok-windows-2.ensures.numbers;
       kept = carry.kept;
       path = λ order oo.
-          let path = inv.path order oo in
           let round = rounds_here a b lists order m n p q inv.setting inv.count (c.round.ensures.round order oo) in
           let begin : Pause = record { source = c.args.number; words = c.args.board.now.words } in
-          (
-            suc path.0,
-            counted_more c.rounds.rounds c.saturating_add-rounds.result path.0 path.1 c.saturating_add-rounds.ensures,
-            one_more a d lists order n path.0 begin p q c.rounds.windows c.requires.design inv.fits.windows.in_range inv.numbers (λ h. both_ways c.closed.result c.rounds-test.true (c.closed.ensures.1 h)) path.2 round,
-          );
+          one_more a d lists order n c.rounds.rounds begin p q c.rounds.windows c.requires.design inv.fits.windows.in_range inv.numbers (λ h. both_ways c.closed.result c.rounds-test.true (c.closed.ensures.1 h))
+          (inv.path order oo) round;
     }
 
 pub returns-clause-extreme : goal.returns-clause-extreme
@@ -69,6 +66,33 @@ returns-clause-extreme c =
 pub returns-clause-rounds : goal.returns-clause-rounds
 returns-clause-rounds c = λ order o.
     let inv = c.rounds.invariant in
-    let path = inv.path order o in
-    settles_there c.args.board.now.setting c.args.design.now c.args.lists.now order c.rounds.board.words (length c.args.workers.now) c.args.number path.0 c.rounds.source.state c.rounds.rounds c.args.board.now.words c.rounds.windows
-    c.requires.design c.requires.start inv.fits.windows.in_range inv.numbers (c.closed.ensures.0 c.rounds-test.false) path.1 path.2
+    settles_there c.args.board.now.setting c.args.design.now c.args.lists.now order c.rounds.board.words (length c.args.workers.now) c.args.number c.rounds.rounds c.rounds.source.state c.rounds.rounds c.args.board.now.words
+    c.rounds.windows c.requires.design c.requires.start inv.fits.windows.in_range inv.numbers (c.closed.ensures.0 c.rounds-test.false) (λ i. c.rounds.rounds) (inv.path order o)
+
+pub returns-clause-few : goal.returns-clause-few
+returns-clause-few c = λ bound b.
+    let order = c.order-order.result.now in
+    let o = c.order-order.ensures.value in
+    let begin : Pause = record { source = c.args.number; words = c.args.board.now.words } in
+    let end = pause_at c.rounds.source.state c.rounds.board in
+    few_here c.args.board.now.setting c.args.design.now c.args.lists.now order (length c.args.workers.now) c.rounds.rounds bound begin end c.requires.design c.requires.some c.requires.lists o
+    c.words-words.ensures.kept.words (c.rounds.invariant.path order o) b
+
+pub overflow_add-rounds : goal.overflow_add-rounds
+overflow_add-rounds c =
+    let a = c.args.board.now.setting in
+    let d = c.args.design.now in
+    let lists = c.args.lists.now in
+    let inv = c.rounds.invariant in
+    let n = length c.args.workers.now in
+    let p = pause_at c.rounds.source.state c.rounds.board in
+    let q = pause_at c.round.new.source.state c.round.new.board in
+    let order = c.order-order.result.now in
+    let o = c.order-order.ensures.value in
+    let begin : Pause = record { source = c.args.number; words = c.args.board.now.words } in
+    let round = rounds_here a c.rounds.board.setting lists order (length c.rounds.workers) n p q inv.setting inv.count (c.round.ensures.round order o) in
+    let longer = one_more a d lists order n c.rounds.rounds begin p q c.rounds.windows c.requires.design inv.fits.windows.in_range inv.numbers (λ h. both_ways c.closed.result c.rounds-test.true (c.closed.ensures.1 h))
+    (inv.path order o) round in
+    let few = few_here a d lists order n (c.rounds.rounds + 1) c.bound-bound.result begin q c.requires.design c.requires.some c.requires.lists o c.words-words.ensures.kept.words longer c.bound-bound.ensures in
+    let most = c.bound-bound.type_inv in
+    omega (arith, few, most)

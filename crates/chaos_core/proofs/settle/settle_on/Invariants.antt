@@ -5,7 +5,7 @@ use Rattle.xt_meaning.specs.Barrier.{IsFittingStart}
 use Rattle.xt_meaning.specs.Measure.{room}
 use Rattle.xt_meaning.specs.Words.{numbers_of}
 use Rattle.chaos_core.specs.Memories.{AreKept}
-use Rattle.chaos_core.specs.Rounds.{HasRoom, AreRounds, counted, pause_at}
+use Rattle.chaos_core.specs.Rounds.{HasRoom, AreRounds, pause_at}
 use Rattle.chaos_core.proofs.settle.settle_on.Given as goal
 
 abbrev pub invariant-rounds : goal.invariant-rounds
@@ -16,8 +16,8 @@ invariant-rounds l = record {
   fits : IsFittingStart l.direction l.design l.windows;
   numbers : numbers_of l.windows ≡ l.board.words;
   kept : AreKept l.fn.board.setting l.board.words;
-  path : (order : List ℕ) → IsOrder l.design.nets order → (n : ℕ) × (l.rounds ≡ counted n)
-      × AreRounds l.fn.board.setting l.lists order (length l.fn.workers) n (record { source = l.number; words = l.fn.board.words }) (pause_at l.source.state l.board);
+  path : (order : List ℕ) → IsOrder l.design.nets order
+      → AreRounds l.fn.board.setting l.lists order (length l.fn.workers) l.rounds (record { source = l.number; words = l.fn.board.words }) (pause_at l.source.state l.board);
 }
 
 abbrev pub decreases-rounds : goal.decreases-rounds

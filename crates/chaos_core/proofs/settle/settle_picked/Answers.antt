@@ -20,10 +20,10 @@ returns-clause-rounds c =
     let n : length c.as_mut_slice.result.now ≡ c.args.workers = ap length c.as_mut_slice.ensures.value ∙ c.in_ok-workers.ensures.count in
     let lists = c.args.lists.now in
     subst (λ (k : ℕ). IfOk c.settle_on.result
-        (λ settled. (order : List ℕ) → IsOrder c.args.design.now.nets order → Settles a lists order k c.args.number settled.windows settled.rounds)) n
+    (λ settled. (order : List ℕ) → IsOrder c.args.design.now.nets order → Settles a lists order k c.args.number settled.windows settled.rounds)) n
     (subst (λ (x : Setting). IfOk c.settle_on.result
-        (λ settled. (order : List ℕ) → IsOrder c.args.design.now.nets order
-            → Settles x lists order (length c.as_mut_slice.result.now) c.args.number settled.windows settled.rounds)) s c.settle_on.ensures.rounds)
+    (λ settled. (order : List ℕ) → IsOrder c.args.design.now.nets order
+    → Settles x lists order (length c.as_mut_slice.result.now) c.args.number settled.windows settled.rounds)) s c.settle_on.ensures.rounds)
 
 pub returns-clause-consistent : goal.returns-clause-consistent
 returns-clause-consistent c = λ narrow.
