@@ -37,8 +37,8 @@ victim_of o d f n e net = record {
 
 -- net number n, which is `net`, is sound, its window at edge e is `own`, and the words of the nets at the other ends of
 -- its couplings are at hand
-pub record IsAtHand (has : ℕ → Type 0) (f : ℕ → ℤ) (d : Parts) (n : ℕ) (e : Edge) (own : Quad)
-    (net : Net) : Type 0 where
+pub record IsAtHand (has : ℕ → Type 0) (f : ℕ → ℤ)
+    (d : Parts) (n : ℕ) (e : Edge) (own : Quad) (net : Net) : Type 0 where
   pub window : own ≡ quads_of f n e
   pub range : IsInRange own
   pub sound : IsSoundNet d n net
