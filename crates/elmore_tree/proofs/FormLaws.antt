@@ -13,7 +13,6 @@ use Rattle.std.specs.Int.{w128}
 use Rattle.std.proofs.Math.Nat.{mul-le-mul_left}
 use Rattle.elmore_tree.specs.declared.walk.Step.{Step}
 use Rattle.elmore_tree.specs.declared.part.Tap.{Tap}
-use Rattle.elmore_tree.specs.declared.form.WireForm.{WireForm}
 use Rattle.elmore_tree.specs.Trees.{TreeParts, IsSoundTree, ground_at, ground_sum, tap_sum, is_needed}
 use Rattle.elmore_tree.specs.Paths.{IsPart, IsMeshed, IsLeastUnreached, is_in, nodes_in, resistors_in}
 use Rattle.elmore_tree.specs.Sums.{sum_below, shared, base_of, coefficient_of, IsSinkSums, sink_sums}
@@ -21,10 +20,9 @@ use Rattle.elmore_tree.specs.Walks.{is_visited, IsGrown, IsWalked, path_of}
 use Rattle.elmore_tree.specs.declared.order.TapOrder.{TapOrder}
 use Rattle.elmore_tree.specs.Orders.{is_tapped, IsTapOrder, IsRowOf, IsPreorderWalk}
 use Rattle.elmore_tree.specs.Gathering.{elmore_sum, cap_sum, IsFirstUnreached, IsAllReached}
-use Rattle.elmore_tree.specs.Forms.{IsFormOf}
 use Rattle.elmore_tree.proofs.Bools.{true_or_false, not_both, or_left, or_right, eqb_same}
 use Rattle.elmore_tree.proofs.SumLaws.{below_same}
-use Rattle.elmore_tree.proofs.PathLaws.{take_whole, path_is, visited_joined, joined_visited}
+use Rattle.elmore_tree.proofs.PathLaws.{visited_joined, joined_visited}
 use Rattle.elmore_tree.proofs.GatherLaws.{small, shared_fits, elmore_most}
 
 -- ---- sums over lists
@@ -153,19 +151,6 @@ least_unreached t needed reached steps n w each u = record {
 pub needed_visited : (t : TreeParts) (needed reached : List Bool) (steps : List Step) → IsWalked t reached steps → ((k : ℕ) → is_in needed k ≡ is_needed t k)
     → IsAllReached needed reached → (k : ℕ) → is_needed t k ≡ true → is_visited t steps k ≡ true
 needed_visited t needed reached steps w each all k h = sym (w.marks k) ∙ all.each k (each k ∙ h)
-
-pub form_is : (t : TreeParts) (needed reached : List Bool) (steps : List Step) (form : WireForm) → IsWalked t reached steps → resistors_in reached t.resistors ≤ length steps
-    → ((k : ℕ) → is_in needed k ≡ is_needed t k) → IsAllReached needed reached
-    → form.load ≡ pos (ground_sum t.ground) → form.sinks ≡ map (sink_sums t (path_of steps)) t.sinks → IsFormOf t form
-form_is t needed reached steps form w tree each all load sinks = record {
-  tree = not_meshed t reached steps w tree;
-  reached = λ k h. ((part_is t reached steps w).each k).0 (all.each k (each k ∙ h));
-  sums = (
-    path_of steps,
-    record { each = λ k joined. path_is t steps w.grown (length steps) k (omega arith) (ap (λ ss. is_visited t ss k) (take_whole steps) ∙ joined_visited t reached steps w joined.0 k joined.1) },
-    record { load = load; sinks = sinks },
-  );
-}
 
 pub few_steps_walked : (t : TreeParts) (reached : List Bool) (steps : List Step) → IsSoundTree t → IsWalked t reached steps → length steps < 65536
 few_steps_walked t reached steps sound w =

@@ -9,4 +9,5 @@ pub mod SumLaws
 pub mod GatherLaws
 pub mod QuarterLaws
 pub mod FormLaws
+pub mod UniqueLaws
 pub mod Soundness

@@ -1,6 +1,7 @@
 use Rattle.std.proofs.Common.{◌≡◌, ◌∙◌, ◌≤◌, ◌<◌, arith, length}
 use Rattle.elmore_tree.specs.Paths.{resistors_in}
-use Rattle.elmore_tree.proofs.FormLaws.{preorder_walk, is_meshed, not_meshed, least_unreached, form_is, stored_load, load_fits}
+use Rattle.elmore_tree.proofs.FormLaws.{preorder_walk, is_meshed, not_meshed, least_unreached, stored_load, load_fits}
+use Rattle.elmore_tree.proofs.UniqueLaws.{form_is}
 use Rattle.elmore_tree.proofs.elmore.coefficients.Goals as goal
 
 pub returns-then-resistors_in-len-clause-fault : goal.returns-then-resistors_in-len-clause-fault
@@ -30,5 +31,5 @@ returns-clause-ok c =
     let tree : resistors_in c.in_ok-walked.walked.reached.items t.resistors ≤ length c.in_ok-walked.walked.steps.items = omega (arith, e) in
     let all = rw (c.deref-2.ensures.value, c.deref-3.ensures.value) at c.in_default.ensures in
     let forms = rw c.deref-4.ensures.value at c.in_ok-sinks.ensures in
-    form_is t c.in_ok-needed.needed.items c.in_ok-walked.walked.reached.items c.in_ok-walked.walked.steps.items _ c.in_ok-walked.ensures tree c.in_ok-needed.ensures.each all
+    form_is t c.in_ok-needed.needed.items c.in_ok-walked.walked.reached.items c.in_ok-walked.walked.steps.items _ c.resistors.ensures.sound c.in_ok-walked.ensures tree c.in_ok-needed.ensures.each all
     (stored_load _ c.load.result c.load.ensures (load_fits t c.resistors.ensures.sound)) (c.from_vec.ensures ∙ forms)
