@@ -240,8 +240,8 @@ class Meaning:
         """A timing group of a pin with a role."""
         related = []
         if b"related_pin" in group.attributes:
-            values, line = group.attributes[b"related_pin"]
-            related = [name for value in values for name in re.findall(rb"[^ \t\r\n]+", value)]
+            _, line = group.attributes[b"related_pin"]
+            related = re.findall(rb"[^ \t\r\n]+", group.one(b"related_pin") or b"")
             if not related or not all(is_name(name) for name in related):
                 raise Refusal("L1", line)
         sense = SENSES.get(group.one(b"timing_sense"), "Non")
@@ -277,12 +277,13 @@ class Meaning:
                 line = template.attributes[b"variable_" + axis][1]
                 variable = template.one(b"variable_" + axis)
                 if variable not in (rows, columns) or variable in variables:
+                    variable = None
                     faults.append(("L4", line))
             holder = group if b"index_" + axis in group.attributes else template
             items = [0]
             if b"index_" + axis in holder.attributes:
                 values, index_line = holder.attributes[b"index_" + axis]
-                scale = self.cap_scale if variable == OF_CAPACITANCE and variable in (rows, columns) else self.time_scale
+                scale = self.cap_scale if variable == OF_CAPACITANCE else self.time_scale
                 items = self.items(values, scale, index_line, faults)
                 if None not in items and any(a >= b for a, b in zip(items, items[1:])):
                     faults.append(("L5", index_line))
