@@ -85,11 +85,19 @@ fn one_net(rt: HostRuntime) -> Result<(), Fail> {
         .ok()
         .ok_or("there is memory")?;
     assert_eq!(rt; text.as_slice(), steady_report());
-    let of_checks = write_report(alloc, &design, &windows, &windows, ReportKind::Checks)
+    Ok(())
+}
+
+#[test]
+fn one_net_by_its_checks(rt: HostRuntime) -> Result<(), Fail> {
+    let alloc = rt.alloc();
+    let design = steady_design(alloc).ok().ok_or("a source makes a design")?;
+    let windows = steady_windows(alloc)?;
+    let text = write_report(alloc, &design, &windows, &windows, ReportKind::Checks)
         .ok()
         .ok_or("there is memory")?;
     assert_eq!(rt;
-        of_checks.as_slice(),
+        text.as_slice(),
         b"xtalk 1\nnets 1 couplings 0 pairs 0 levels 1 bound 1\nperiod none\nend\n".as_slice()
     );
     Ok(())
