@@ -32,9 +32,9 @@ several f n (j ∷ js) once h =
     let gone : g j ≡ 0 = ap (λ b. cond b 0 (f j)) (eqb_same j) in
     let bumped : sum_below f n ≡ sum_below g n + 1 = below_bumped g f n j 1 here.0 (omega (arith, gone, here.1)) (λ k ne. sym (ap (λ b. cond b 0 (f k)) (eqb_apart k j ne))) in
     let rest : length js ≤ sum_below g n = several g n js once.1 (λ k on.
-        let old = h k (or_right (eqb j k) (is_on js k) on) in
-        let ne : k ≢ j = λ e. not_both {A = ⊥} (is_on js j) (ap (is_on js) (sym e) ∙ on) once.0 in
-        (old.0, ap (λ b. cond b 0 (f k)) (eqb_apart k j ne) ∙ old.1)) in
+    let old = h k (or_right (eqb j k) (is_on js k) on) in
+    let ne : k ≢ j = λ e. not_both {A = ⊥} (is_on js j) (ap (is_on js) (sym e) ∙ on) once.0 in
+    (old.0, ap (λ b. cond b 0 (f k)) (eqb_apart k j ne) ∙ old.1)) in
     omega (arith, bumped, rest)
 
 -- the numbers of the resistors of the first steps
@@ -128,7 +128,7 @@ module _ (t : TreeParts) (reached : List Bool) (steps : List Step) (sound : IsSo
                   let found = by_step t steps w.grown sound n k (omega arith) other in
                   let s = found.1 in
                   let still : is_visited t steps s.from ≡ true =
-                      ap (λ ss. is_visited t ss s.from) (sym (take_whole steps)) ∙ (path_kept t steps w.grown found.0 n s.from (omega (arith, found.2)) (omega arith) (w.grown.from found.0 s found.3)).1 in
+                  ap (λ ss. is_visited t ss s.from) (sym (take_whole steps)) ∙ (path_kept t steps w.grown found.0 n s.from (omega (arith, found.2)) (omega arith) (w.grown.from found.0 s found.3)).1 in
                   let P : ℕ → Type 0 = λ i. (i < length t.resistors) × (f i ≡ 1) in
                   subst P found.4 (passes s.resistor s.from s.to (w.grown.joins found.0 s found.3) still)
             ]) in
@@ -181,10 +181,10 @@ module _ (t : TreeParts) (reached : List Bool) (steps : List Step) (sound : IsSo
     same_sums p need =
         let base : pos (base_of t paths p) ≡ pos (base_of t (path_of steps) p) = ap pos (same_base p need) in
         let coefs : map (λ tap. pos (coefficient_of t paths p tap)) t.taps ≡ map (λ tap. pos (coefficient_of t (path_of steps) p tap)) t.taps =
-            map_same (λ (tap : Tap). pos (coefficient_of t paths p tap)) (λ (tap : Tap). pos (coefficient_of t (path_of steps) p tap)) no_tap t.taps (λ i lt.
-            let k : ℕ = (get_or t.taps i no_tap).node in
-            ap (λ q. pos (shared t q (paths k) * unsigned_abs (get_or t.taps i no_tap).cap)) (agree p need)
-            ∙ ap (λ q. pos (shared t (path_of steps p) q * unsigned_abs (get_or t.taps i no_tap).cap)) (agree k (needed_tap t i no_tap lt))) in
+        map_same (λ (tap : Tap). pos (coefficient_of t paths p tap)) (λ (tap : Tap). pos (coefficient_of t (path_of steps) p tap)) no_tap t.taps (λ i lt.
+        let k : ℕ = (get_or t.taps i no_tap).node in
+        ap (λ q. pos (shared t q (paths k) * unsigned_abs (get_or t.taps i no_tap).cap)) (agree p need)
+        ∙ ap (λ q. pos (shared t (path_of steps p) q * unsigned_abs (get_or t.taps i no_tap).cap)) (agree k (needed_tap t i no_tap lt))) in
         ap (λ z. sums_by z (map (λ tap. pos (coefficient_of t paths p tap)) t.taps)) base ∙ ap (sums_by (pos (base_of t (path_of steps) p))) coefs
 
     pub same_forms : map (sink_sums t paths) t.sinks ≡ map (sink_sums t (path_of steps)) t.sinks
