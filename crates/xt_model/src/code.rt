@@ -61,8 +61,6 @@ pub enum Code {
     X2,
     /// Of a linked text: a name or a reference that does not hold.
     X3,
-    /// Of a linked text: the text is no linked text of a design that can be analysed yet.
-    X9,
 }
 
 impl Code {
@@ -104,7 +102,6 @@ impl Code {
             Code::X1 => "X1",
             Code::X2 => "X2",
             Code::X3 => "X3",
-            Code::X9 => "X9",
         }
     }
 }

@@ -41,6 +41,8 @@ impl<T: Drop> From<AllocFailed<T>> for BuildFault {
 #[derive(Clone, Copy, Debug, PartialEq, Eq)]
 pub enum LimitKind {
     Nets,
+    Instances,
+    Nodes,
     Load,
     Couplings,
     Coefficients,

@@ -20,8 +20,6 @@ mod parts;
 mod quad;
 mod row;
 mod table;
-#[cfg(test)]
-mod tests;
 mod visits;
 mod windows;
 
