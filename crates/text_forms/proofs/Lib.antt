@@ -1,2 +1,1 @@
 pub mod ByForms
-pub mod NameLaws

@@ -1,7 +1,7 @@
 use Rattle.std.proofs.Common.{ap, ◌∙◌, refl, not, map}
 use Rattle.std.specs.Str.{bytes_eq}
-use Rattle.text_forms.proofs.NameLaws.{any_mapped, number_mapped, entered_mapped}
-use Rattle.text_forms.proofs.names.Names.enter.Goals as goal
+use Rattle.name_numbers.proofs.NameLaws.{any_mapped, number_mapped, entered_mapped}
+use Rattle.name_numbers.proofs.names.Names.enter.Goals as goal
 
 pub returns-clause-number : goal.returns-clause-number
 returns-clause-number c =

@@ -1,5 +1,5 @@
 ghost use Rattle.std.specs.Prelude.{◌≡◌, List, ℕ, not, length, map, option_map, IfOk, OnOk, OnErr};
-ghost use Rattle.text_forms.specs.Names.{found, has_name, number_of, value_of, with_name, with_value};
+ghost use Rattle.name_numbers.specs.Names.{found, has_name, number_of, value_of, with_name, with_value};
 
 use indexmap::{IndexMap, IndexSet};
 use std::alloc::{AllocError, Global};

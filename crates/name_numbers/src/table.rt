@@ -1,5 +1,5 @@
 ghost use Rattle.std.specs.Prelude.{◌≡◌, ◌<◌, ◌^◌, List, ℕ, length, map, option_map, OnOk, OnErr};
-ghost use Rattle.text_forms.specs.Names.{found, with_value};
+ghost use Rattle.name_numbers.specs.Names.{found, with_value};
 
 use indexmap::IndexMap;
 use std::alloc::{AllocError, Global};

@@ -1,6 +1,6 @@
 use Rattle.std.proofs.Common.{sym, ◌∙◌, refl}
-use Rattle.text_forms.proofs.NameLaws.{not_found, found_at}
-use Rattle.text_forms.proofs.table.NameTable.find.Goals as goal
+use Rattle.name_numbers.proofs.NameLaws.{not_found, found_at}
+use Rattle.name_numbers.proofs.table.NameTable.find.Goals as goal
 
 pub returns-in-None : goal.returns-in-None
 returns-in-None g c =

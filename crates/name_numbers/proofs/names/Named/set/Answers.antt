@@ -1,6 +1,6 @@
 use Rattle.std.proofs.Common.{ap, ◌∙◌, refl, map}
-use Rattle.text_forms.proofs.NameLaws.{value_mapped, named}
-use Rattle.text_forms.proofs.names.Named.set.Goals as goal
+use Rattle.name_numbers.proofs.NameLaws.{value_mapped, named}
+use Rattle.name_numbers.proofs.names.Named.set.Goals as goal
 
 pub returns-clause-given : goal.returns-clause-given
 returns-clause-given g c =

@@ -8,7 +8,7 @@ use Rattle.std.proofs.lemmas.List.{map-append, length-map}
 use Rattle.std.proofs.lemmas.Option.{slice_get-map}
 use Rattle.std.proofs.lemmas.Slice.Eq.{bytes_eq-Decides}
 use Rattle.indexmap.specs.IndexMap.{insert_entry}
-use Rattle.text_forms.specs.Names.{Text, with_name, found, value_of, with_value}
+use Rattle.name_numbers.specs.Names.{Text, with_name, found, value_of, with_value}
 
 module _ {A B : Type 0} (p : B → Bool) (f : A → B) where
   pub any_mapped : (xs : List A) → list_any (λ x. p (f x)) xs ≡ list_any p (map f xs)

@@ -1,6 +1,6 @@
 use Rattle.std.proofs.Common.{◌∙◌, refl}
-use Rattle.text_forms.proofs.NameLaws.{value_looked_up}
-use Rattle.text_forms.proofs.names.Named.get.Goals as goal
+use Rattle.name_numbers.proofs.NameLaws.{value_looked_up}
+use Rattle.name_numbers.proofs.names.Named.get.Goals as goal
 
 pub returns : goal.returns
 returns g c =
