@@ -2,6 +2,7 @@ pub mod Bytes
 pub mod Runs
 pub mod Fronts
 pub mod Liberty
+pub mod Openings
 pub mod Verilog
 pub mod Spef
 pub mod Sdc

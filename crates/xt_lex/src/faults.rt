@@ -4,12 +4,13 @@ ghost use Rattle.std.specs.Prelude.{◌≡◌, ℕ, ◌+◌, ◌<◌, ◌≤◌,
 ghost use Rattle.std.specs.List.{list_any};
 ghost use Rattle.xt_lex.specs.Bytes.{is_foreign};
 ghost use Rattle.xt_lex.specs.Pieces.{pieces_of};
-ghost use Rattle.xt_lex.specs.Faults.{fault_of, foreign_line, first_foreign, any_unclosed};
+ghost use Rattle.xt_lex.specs.Faults.{fault_of, foreign_line, first_foreign};
 
 use crate::bytes::{is_foreign, is_newline, last_line};
 use crate::fault::LexFault;
 use crate::pieces::Pieces;
 use crate::rules::{MOST_BYTES, Rules};
+use crate::unclosed::any_unclosed;
 
 /// The line of the first foreign byte, where the bytes begin in this line.
 #[inline]
@@ -38,9 +39,7 @@ fn has_foreign(bytes: &[u8]) -> bool
     let mut foreign = false;
     let mut rest = bytes;
     'bytes: while let [byte, more @ ..] = rest {
-        if is_foreign(*byte) {
-            foreign = true;
-        }
+        foreign |= is_foreign(*byte);
         rest = more;
     }
     foreign
@@ -64,20 +63,6 @@ fn first_foreign(bytes: &[u8], rules: Rules) -> Option<u32>
         }
     }
     None
-}
-
-/// Whether some piece is not closed.
-fn any_unclosed(bytes: &[u8], rules: Rules) -> bool
-    requires { length bytes.now ≤ MOST_BYTES }
-    ensures { result ≡ any_unclosed (pieces_of rules bytes.now) }
-{
-    let mut pieces = Pieces::new(bytes, rules);
-    'pieces: while let Some(piece) = pieces.next_piece() {
-        if piece.class.is_unclosed() {
-            return true;
-        }
-    }
-    false
 }
 
 /// The fault of a text's tokens, if there is one.

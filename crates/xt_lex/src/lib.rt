@@ -20,6 +20,7 @@ mod spef;
 mod text_fault;
 mod token;
 mod token_texts;
+mod unclosed;
 mod verilog;
 
 pub use bytes::last_line;

@@ -7,6 +7,7 @@ use crate::bytes::{is_white, joins_lines, opens_comment};
 use crate::class::Class;
 use crate::front::Front;
 use crate::runs::whites;
+use memchr::memchr2;
 
 /// Whether a byte is a mark.
 #[inline]
@@ -17,24 +18,22 @@ fn is_mark(byte: u8) -> bool
 }
 
 /// The number of bytes up to and with the quote that ends a string.
-#[inline]
 fn past_quote(bytes: &[u8]) -> Option<usize>
     ensures value { result ≡ past_quote false bytes.now }
     ensures within { IfSome result (λ n. n ≤ length bytes.now) }
 {
     let mut passed: usize = 0;
-    let mut kept = false;
-    let mut rest = bytes;
-    'bytes: while let [byte, more @ ..] = rest {
-        passed += 1;
-        if kept {
-            kept = false;
-        } else if *byte == b'"' {
-            return Some(passed);
-        } else {
-            kept = *byte == b'\\';
+    'marks: while passed < bytes.len() {
+        let (_, rest) = bytes.split_at(passed);
+        match memchr2(b'"', b'\\', rest) {
+            None => return None,
+            Some(place) => {
+                if rest[place] == b'"' {
+                    return Some(passed + place + 1);
+                }
+                passed += place + 2;
+            }
         }
-        rest = more;
     }
     None
 }

@@ -47,7 +47,7 @@ impl<'a> Model for Pieces<'a> {
 /// The piece at the front of a text.
 #[tactic(auto, unfolding(crate::specs::Pieces::front_of))]
 #[inline(always)]
-fn front_by(rules: Rules, fresh: bool, first: u8, more: &[u8]) -> Front
+pub fn front_by(rules: Rules, fresh: bool, first: u8, more: &[u8]) -> Front
     ensures value { result ≡ front_of rules fresh first more.now }
     ensures within { result.inner ≤ length more.now }
 {

@@ -1,0 +1,58 @@
+//! Whether something stands open at a text's end.
+
+ghost use Rattle.std.specs.Prelude.{◌≡◌, ℕ, ◌≤◌, false, length, drop};
+ghost use Rattle.std.specs.List.{list_any};
+ghost use Rattle.xt_lex.specs.Faults.{any_unclosed};
+ghost use Rattle.xt_lex.specs.Openings.{openings, is_opening};
+ghost use Rattle.xt_lex.specs.Pieces.{pieces_of};
+
+use crate::pieces::front_by;
+use crate::rules::{MOST_BYTES, Rules};
+use memchr::memrchr2;
+
+/// Two bytes of which each piece that nothing closes has one.
+fn openings(rules: Rules) -> (u8, u8)
+    ensures { result ≡ openings rules }
+{
+    match rules {
+        Rules::Liberty => (b'"', b'*'),
+        Rules::Verilog => (b'*', b'*'),
+        Rules::Spef => (b'"', b'/'),
+        Rules::Sdc => (b'"', b'{'),
+    }
+}
+
+/// The number of bytes up to and with the last such byte: no piece that begins behind them is left open.
+fn past_openings(bytes: &[u8], rules: Rules) -> usize
+    ensures within { result ≤ length bytes.now }
+    ensures none { list_any (is_opening rules) (drop result bytes.now) ≡ false }
+{
+    let (one, other) = openings(rules);
+    match memrchr2(one, other, bytes) {
+        Some(place) => place + 1,
+        None => 0,
+    }
+}
+
+/// Whether some piece is not closed.
+pub fn any_unclosed(bytes: &[u8], rules: Rules) -> bool
+    requires { length bytes.now ≤ MOST_BYTES }
+    ensures { result ≡ any_unclosed (pieces_of rules bytes.now) }
+{
+    let end = past_openings(bytes, rules);
+    let mut fresh = true;
+    let mut passed: usize = 0;
+    'pieces: while passed < end {
+        let (_, rest) = bytes.split_at(passed);
+        let [first, more @ ..] = rest else {
+            return false;
+        };
+        let front = front_by(rules, fresh, *first, more);
+        if front.class.is_unclosed() {
+            return true;
+        }
+        fresh = front.fresh;
+        passed += front.inner + 1;
+    }
+    false
+}
