@@ -1,9 +1,10 @@
 //! Fixed-point values of written numbers.
 
 ghost use Rattle.std.specs.Prelude.{◌≡◌, ◌+◌, ◌*◌, ◌/◌, ◌^◌, ◌<◌, ◌≤◌, ◌↔◌, ℤ, pos, neg_ℤ, ◌≤ℤ◌};
-ghost use Rattle.std.specs.Prelude.{IsErrOf, IfOk, MatchOption};
+ghost use Rattle.std.specs.Prelude.{IsErrOf, IfOk, MatchOption, is_some};
 ghost use Rattle.std.specs.Str.Parse.{AllDigits};
 ghost use Rattle.xt_number.specs.Numeral.{IsNoNumber, IsNumberWith};
+ghost use Rattle.xt_number.specs.Reading.{numeral_of};
 ghost use Rattle.xt_number.specs.Value.{rounded, fixed_from, fixed, IsTooLong, IsBeyond, IsFixed};
 ghost use Rattle.xt_number.specs.View.{view};
 
@@ -107,4 +108,11 @@ pub fn read_fixed(text: &[u8], scale: i32) -> Result<i64, NumberFault>
         None => Err(NumberFault::Form),
         Some(numeral) => numeral.fixed(scale),
     }
+}
+
+/// Whether the text is a number.
+pub fn is_number(text: &[u8]) -> bool
+    ensures exact { result ≡ is_some (numeral_of text.now) }
+{
+    split(text).is_some()
 }

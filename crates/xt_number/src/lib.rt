@@ -10,7 +10,7 @@ mod power;
 
 pub use digits::{Digits, cap_text, time_text};
 pub use fault::NumberFault;
-pub use fixed::read_fixed;
+pub use fixed::{is_number, read_fixed};
 pub use laws::texts_are_unambiguous;
 pub use power::power_of_ten;
 
