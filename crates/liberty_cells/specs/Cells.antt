@@ -1,6 +1,6 @@
 -- The cells of a library.
 use Rattle.std.specs.Prelude.{ℕ, Bool, List, [], ◌∷◌, ◌++◌, map, codes, Ok, if◌then◌else◌}
-use Rattle.text_forms.specs.Names.{Text, has_name}
+use Rattle.name_numbers.specs.Names.{Text, has_name}
 use Rattle.xt_model.specs.declared.code.Code.TheVariants.{L7}
 use Rattle.xt_model.specs.Tables.{TableParts}
 use Rattle.liberty_groups.specs.Trees.{Tree, head_of}

@@ -1,7 +1,7 @@
 -- The words of pins and timing groups.
 use Rattle.std.specs.Prelude.{ℕ, Bool, true, false, ◌||◌, codes, Option, Some, None, if◌then◌else◌}
 use Rattle.std.specs.Str.{bytes_eq}
-use Rattle.text_forms.specs.Names.{Text}
+use Rattle.name_numbers.specs.Names.{Text}
 use Rattle.liberty_groups.specs.Trees.{Entry}
 use Rattle.liberty_cells.specs.declared.timing.TimingKind.{TimingKind}
 use Rattle.liberty_cells.specs.declared.timing.TimingKind.TheVariants.{Combinational, RisingEdge, SetupRising}

@@ -1,7 +1,7 @@
 -- The names of a group or in a string, of which there is one at least.
 use Rattle.std.specs.Prelude.{ℕ, List, [], ◌∷◌, Ok, if◌then◌else◌}
 use Rattle.std.specs.List.{list_all}
-use Rattle.text_forms.specs.Names.{Text}
+use Rattle.name_numbers.specs.Names.{Text}
 use Rattle.xt_model.specs.declared.code.Code.TheVariants.{L1}
 use Rattle.liberty_tables.specs.Refusals.{Meant, refuse}
 use Rattle.liberty_tables.specs.Contents.{is_name}

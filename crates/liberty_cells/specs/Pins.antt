@@ -1,7 +1,7 @@
 -- The pins of a cell.
 use Rattle.std.specs.Prelude.{ℕ, List, [], ◌∷◌, ◌++◌, map, codes, ℤ, pos, int_le, Option, Some, None}
 use Rattle.std.specs.Prelude.{Result, Ok, Err, if◌then◌else◌}
-use Rattle.text_forms.specs.Names.{Text}
+use Rattle.name_numbers.specs.Names.{Text}
 use Rattle.xt_number.specs.declared.fault.NumberFault.{NumberFault}
 use Rattle.xt_number.specs.Value.{fixed}
 use Rattle.xt_model.specs.declared.code.Code.TheVariants.{L3}

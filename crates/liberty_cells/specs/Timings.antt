@@ -1,7 +1,7 @@
 -- The timing groups of a pin: arcs into an output pin, checks of an input pin.
 use Rattle.std.specs.Prelude.{ℕ, Bool, true, false, not, ◌||◌, List, [], ◌∷◌, ◌++◌, length, codes}
 use Rattle.std.specs.Prelude.{Option, Some, None, Ok, if◌then◌else◌}
-use Rattle.text_forms.specs.Names.{Text}
+use Rattle.name_numbers.specs.Names.{Text}
 use Rattle.xt_model.specs.declared.code.Code.TheVariants.{L1, L4}
 use Rattle.xt_model.specs.Tables.{TableParts}
 use Rattle.liberty_groups.specs.Trees.{Entry, Tree, head_of, groups_of}

@@ -11,8 +11,8 @@ use crate::names::SeenNames;
 use crate::pins::pins_of;
 use liberty_groups::Group;
 use liberty_tables::{Scales, Template, first_named, has_group, only_name};
+use name_numbers::NameTable;
 use std::alloc::Global;
-use text_forms::NameTable;
 use xt_lex::TextFault;
 use xt_model::{Code, Name, Row, Table};
 

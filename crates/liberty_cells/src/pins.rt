@@ -14,9 +14,9 @@ use crate::timings::timings_of;
 use crate::values::{cap_of, role_of};
 use liberty_groups::Group;
 use liberty_tables::{Scales, Template, attribute, first_named};
+use name_numbers::NameTable;
 use std::alloc::{AllocError, Global};
 use std::rc::Rc;
-use text_forms::NameTable;
 use xt_lex::TextFault;
 use xt_model::{Name, Row, Table};
 

@@ -16,8 +16,8 @@ use liberty_groups::{Attribute, Group};
 use liberty_tables::{
     Scales, Template, attribute, first_named, has_group, only, table_of, text_in,
 };
+use name_numbers::NameTable;
 use std::alloc::{AllocError, Global};
-use text_forms::NameTable;
 use xt_lex::TextFault;
 use xt_model::{Code, Name, Row, Table};
 

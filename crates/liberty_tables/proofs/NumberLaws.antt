@@ -2,7 +2,7 @@
 use Rattle.std.proofs.Common.{◌≡◌, refl, ap, sym, ◌∙◌, ℕ, List, [], ◌∷◌, ◌++◌, map, append_assoc}
 use Rattle.std.proofs.lemmas.List.{append-nil}
 use Rattle.std.specs.Prelude.{flat_map, ℤ, Option, Some, None, Result, Ok, Err}
-use Rattle.text_forms.specs.Names.{Text}
+use Rattle.name_numbers.specs.Names.{Text}
 use Rattle.xt_number.specs.declared.fault.NumberFault.{NumberFault}
 use Rattle.xt_number.specs.Value.{fixed}
 use Rattle.liberty_groups.specs.declared.span.Span.{Span}

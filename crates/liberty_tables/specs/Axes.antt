@@ -1,7 +1,7 @@
 -- The axes of a table: each has a variable and an index.
 use Rattle.std.specs.Prelude.{ℕ, Bool, true, false, List, codes, ℤ, Option, Some, None, if◌then◌else◌}
 use Rattle.std.specs.Str.{bytes_eq}
-use Rattle.text_forms.specs.Names.{Text}
+use Rattle.name_numbers.specs.Names.{Text}
 use Rattle.liberty_groups.specs.Trees.{Entry}
 use Rattle.liberty_tables.specs.declared.units.Scales.{Scales}
 use Rattle.liberty_tables.specs.declared.axis.Side.{Side}

@@ -1,6 +1,6 @@
 -- Numbers in words and strings.
 use Rattle.std.specs.Prelude.{ℕ, List, [], ◌∷◌, ◌++◌, flat_map, ℤ, Option, Some, None, Result, Ok, Err}
-use Rattle.text_forms.specs.Names.{Text}
+use Rattle.name_numbers.specs.Names.{Text}
 use Rattle.xt_number.specs.Value.{fixed}
 use Rattle.liberty_groups.specs.Trees.{Entry}
 use Rattle.liberty_tables.specs.Contents.{numbers_in}

@@ -1,7 +1,7 @@
 -- Groups and attributes by their names.
 use Rattle.std.specs.Prelude.{ℕ, Bool, true, false, List, [], ◌∷◌, map, filter, Option, Some, None, if◌then◌else◌}
 use Rattle.std.specs.Str.{bytes_eq}
-use Rattle.text_forms.specs.Names.{Text}
+use Rattle.name_numbers.specs.Names.{Text}
 use Rattle.liberty_groups.specs.declared.span.Span.{Span}
 use Rattle.liberty_groups.specs.declared.group.Group.{Group}
 use Rattle.liberty_groups.specs.Trees.{Entry, Tree, tree_of, head_of, attributes_of, groups_of}

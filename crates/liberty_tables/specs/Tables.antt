@@ -3,7 +3,7 @@ use Rattle.std.specs.Prelude.{ℕ, ◌+◌, ◌*◌, Bool, true, false, not, ◌
 use Rattle.std.specs.Prelude.{List, [], ◌∷◌, length, map, flat_map, codes}
 use Rattle.std.specs.Prelude.{ℤ, pos, int_lt, Option, Some, None, Ok, if◌then◌else◌}
 use Rattle.std.specs.List.{slice_index_or, range_with_len}
-use Rattle.text_forms.specs.Names.{Text}
+use Rattle.name_numbers.specs.Names.{Text}
 use Rattle.xt_model.specs.declared.code.Code.TheVariants.{L3, L4, L5, L6}
 use Rattle.xt_model.specs.Tables.{TableParts}
 use Rattle.liberty_groups.specs.Trees.{Entry, Tree, head_of}

@@ -2,7 +2,7 @@
 use Rattle.std.specs.Prelude.{ℕ, List, [], ◌∷◌, codes, ℤ, pos, ◌≤ℤ◌, ◌+ℤ◌, Option, Some, None, Result, Ok, Err}
 use Rattle.std.specs.Prelude.{if◌then◌else◌}
 use Rattle.std.specs.Str.{bytes_eq, str_eq_ignore_ascii_case}
-use Rattle.text_forms.specs.Names.{Text}
+use Rattle.name_numbers.specs.Names.{Text}
 use Rattle.xt_model.specs.declared.code.Code.TheVariants.{L8}
 use Rattle.xt_number.specs.Value.{power_of}
 use Rattle.liberty_groups.specs.Trees.{Entry, Tree}

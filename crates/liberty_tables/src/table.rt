@@ -19,8 +19,8 @@ use crate::search::attribute;
 use crate::template::Template;
 use crate::units::Scales;
 use liberty_groups::{Attribute, Group};
+use name_numbers::NameTable;
 use std::alloc::{AllocError, Global};
-use text_forms::NameTable;
 use xt_lex::TextFault;
 use xt_model::{Code, Table};
 

@@ -11,8 +11,8 @@ use crate::name::only_name;
 use crate::search::{attribute, first_named};
 use crate::units::Scales;
 use liberty_groups::Group;
+use name_numbers::NameTable;
 use std::alloc::{AllocError, Global};
-use text_forms::NameTable;
 use xt_lex::TextFault;
 
 /// A template: the axes that it gives to tables of delays, and to those of checks. Its numbers are read once, whether a

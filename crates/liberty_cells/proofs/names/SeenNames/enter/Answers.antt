@@ -1,6 +1,6 @@
 use Rattle.std.proofs.Common.{ap, ◌∙◌, refl, not, map}
 use Rattle.std.specs.Str.{bytes_eq}
-use Rattle.text_forms.proofs.NameLaws.{any_mapped, entered_mapped}
+use Rattle.name_numbers.proofs.NameLaws.{any_mapped, entered_mapped}
 use Rattle.liberty_cells.proofs.names.SeenNames.enter.Goals as goal
 
 pub returns-clause-fresh : goal.returns-clause-fresh
