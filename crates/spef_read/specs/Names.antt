@@ -2,7 +2,7 @@
 -- with the names of the name map in the place of their numbers.
 use Rattle.std.specs.Prelude.{ℕ, Bool, true, false, not, ◌&&◌, nat_le, List, [], ◌∷◌, ◌++◌, length, ◌==◌}
 use Rattle.std.specs.Prelude.{Option, Some, None, Result, Ok, Err, if◌then◌else◌}
-use Rattle.text_forms.specs.Names.{found}
+use Rattle.name_numbers.specs.Names.{found}
 use Rattle.xt_model.specs.declared.code.Code.{Code}
 use Rattle.xt_model.specs.declared.code.Code.TheVariants.{S1, S5}
 use Rattle.xt_number.specs.Value.{without_zeros}

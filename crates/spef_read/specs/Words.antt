@@ -1,11 +1,9 @@
 -- What the words of a SPEF text may be besides its keywords.
-use Rattle.std.specs.Prelude.{ℕ, Bool, true, false, not, ◌&&◌, ◌||◌, ◌==◌, List, [], ◌∷◌, length, take, drop, is_some}
-use Rattle.std.specs.Prelude.{codes, ℤ, Result, Err}
+use Rattle.std.specs.Prelude.{ℕ, Bool, false, not, ◌&&◌, ◌||◌, ◌==◌, List, [], ◌∷◌, length, take, drop, is_some}
+use Rattle.std.specs.Prelude.{codes}
 use Rattle.std.specs.Char.{is_ascii_digit}
 use Rattle.std.specs.List.{list_all, prefix_len}
 use Rattle.std.specs.Str.{bytes_eq}
-use Rattle.xt_number.specs.declared.fault.NumberFault.{NumberFault}
-use Rattle.xt_number.specs.declared.fault.NumberFault.TheVariants.{Form}
 use Rattle.xt_number.specs.Reading.{numeral_of}
 
 abbrev pub Text : Type 0
@@ -18,11 +16,6 @@ are_digits word = not (length word == 0) && list_all is_ascii_digit word
 -- a number
 abbrev pub is_number : Text → Bool
 is_number word = is_some (numeral_of word)
-
--- the answer that a text is no number
-abbrev pub is_form : Result ℤ NumberFault → Bool
-is_form (Err Form) = true
-is_form _ = false
 
 -- how many bytes stand before the first one that is this
 abbrev pub place_of : ℕ → Text → ℕ

@@ -7,9 +7,9 @@ ghost use Rattle.spef_read.specs.View.{Changes, Computes};
 use crate::marks::Marks;
 use crate::stop::Stop;
 use crate::words::{are_digits, split_at_mark, without_zeros};
+use name_numbers::Named;
 use std::alloc::{AllocError, Global};
 use std::marker::Model;
-use text_forms::Named;
 use xt_model::Code;
 
 /// The greatest number of bytes of a name.

@@ -3,7 +3,7 @@
 ghost use Rattle.std.specs.Prelude.{◌≡◌, map, option_map};
 ghost use Rattle.std.specs.List.{slice_get};
 
-use text_forms::NameTable;
+use name_numbers::NameTable;
 use xt_model::Row;
 
 /// A name, by its number among the names of its text.

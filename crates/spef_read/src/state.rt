@@ -15,10 +15,9 @@ use crate::parasitics::{CapText, Name, Parasitics, ResText, WireText};
 use crate::stop::Stop;
 use crate::values::{unit_power, value_of};
 use crate::words::without_zeros;
+use name_numbers::{NameTable, Named};
 use std::alloc::Global;
 use std::marker::Model;
-use std::mem;
-use text_forms::{NameTable, Named};
 use xt_model::{Code, Row};
 use xt_number::power_of_ten;
 
@@ -348,14 +347,16 @@ impl<'a> Progress<'a> {
     fn end_net(&mut self, alloc: Global) -> Result<(), Stop>
         ensures { Changes result self.new (Ok (end_net self.old)) }
     {
-        let caps = mem::replace(&mut self.caps, Vec::new(alloc));
-        let resistors = mem::replace(&mut self.resistors, Vec::new(alloc));
+        let caps = Vec::from_slice(alloc, self.caps.as_slice())?;
+        let resistors = Vec::from_slice(alloc, self.resistors.as_slice())?;
         self.nets.push(WireText {
             name: self.net,
             total: self.total,
             caps: Row::from_vec(caps),
             resistors: Row::from_vec(resistors),
         })?;
+        self.caps.clear();
+        self.resistors.clear();
         Ok(())
     }
 

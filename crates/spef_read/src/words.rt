@@ -4,10 +4,10 @@ ghost use Rattle.std.specs.Prelude.{◌≡◌, ℕ, ◌≤◌, length};
 ghost use Rattle.std.specs.List.{list_all};
 ghost use Rattle.std.specs.Char.{is_ascii_digit};
 ghost use Rattle.xt_number.specs.Value.{without_zeros};
-ghost use Rattle.spef_read.specs.Words.{are_digits, is_number, place_of, before, from_mark, is_pair, is_value};
-ghost use Rattle.spef_read.specs.Words.{counted, is_bracket, is_form};
+ghost use Rattle.spef_read.specs.Words.{are_digits, place_of, before, from_mark, is_pair, is_value};
+ghost use Rattle.spef_read.specs.Words.{counted, is_bracket};
 
-use xt_number::{NumberFault, read_fixed};
+use xt_number::is_number;
 
 /// Whether each byte is a digit.
 #[inline]
@@ -34,25 +34,6 @@ pub fn without_zeros(digits: &[u8]) -> &[u8]
         rest = more;
     }
     rest
-}
-
-/// Whether the answer is that a text is no number.
-fn is_form(read: Result<i64, NumberFault>) -> bool
-    ensures { result ≡ is_form read }
-{
-    match read {
-        Ok(_) => false,
-        Err(NumberFault::Form) => true,
-        Err(NumberFault::Digits) => false,
-        Err(NumberFault::Range) => false,
-    }
-}
-
-/// Whether the word is a number.
-fn is_number(word: &[u8]) -> bool
-    ensures { result ≡ is_number word.now }
-{
-    !is_form(read_fixed(word, 0))
 }
 
 /// How many bytes stand before the first one that is this.
