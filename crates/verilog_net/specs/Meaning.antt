@@ -3,7 +3,7 @@
 use Rattle.std.specs.Prelude.{ℕ, Bool, true, false, not, ◌&&◌, ◌==◌, List, [], ◌∷◌, ◌++◌, length}
 use Rattle.std.specs.Prelude.{Option, Some, None, Result, Ok, Err, if◌then◌else◌}
 use Rattle.std.specs.List.{list_all}
-use Rattle.text_forms.specs.Names.{Text, has_name, with_name, found, with_value}
+use Rattle.name_numbers.specs.Names.{Text, has_name, with_name, found, with_value}
 use Rattle.xt_model.specs.declared.code.Code.{Code}
 use Rattle.xt_model.specs.declared.code.Code.TheVariants.{V3, V4, V5, V6}
 use Rattle.verilog_net.specs.declared.netlist.Net.{Net}

@@ -1,9 +1,10 @@
 -- The nets of a module by their names. A bus has a bit for each number between the bounds of its range.
-use Rattle.std.specs.Prelude.{ℕ, ◌+◌, ◌-◌, ◌*◌, nat_lt, nat_le, Bool, true, false, ◌&&◌, ◌||◌}
+use Rattle.std.specs.Prelude.{ℕ, ◌+◌, ◌-◌, ◌*◌, nat_le, Bool, true, false, ◌&&◌, ◌||◌, slice_index}
 use Rattle.std.specs.Prelude.{List, [], ◌∷◌, ◌++◌, length, take, Option, Some, None, ◌==◌, if◌then◌else◌}
-use Rattle.std.specs.Char.{is_ascii_digit}
+use Rattle.std.specs.Fmt.{decimal}
+use Rattle.std.specs.Str.{bytes_eq}
 use Rattle.std.specs.List.{list_any}
-use Rattle.text_forms.specs.Names.{Text, found, value_of, with_value, ◌>>=◌}
+use Rattle.name_numbers.specs.Names.{Text, found, value_of, with_value, ◌>>=◌}
 use Rattle.verilog_net.specs.declared.netlist.Net.{Net}
 use Rattle.verilog_net.specs.declared.netlist.PortRole.{PortRole}
 use Rattle.verilog_net.specs.declared.netlist.PortRole.TheVariants.{Input, Output, Inner}
@@ -16,30 +17,29 @@ Nets = List (Text × Net)
 abbrev pub most_bit : ℕ
 most_bit = 1048575
 
--- the number of these digits behind a number, where none on the way is too great for a bit
-abbrev pub number_from : ℕ → Text → Option ℕ
-number_from n [] = if nat_le n most_bit then Some n else None
-number_from n (b ∷ more) = if nat_le n most_bit then number_from (n * 10 + (b - 48)) more else None
+-- the number that digits write behind those of a number
+abbrev pub value_after : ℕ → Text → ℕ
+value_after n [] = n
+value_after n (digit ∷ more) = value_after (n * 10 + (digit - 48)) more
+
+-- a number, unless it is too great for a bit
+abbrev pub as_bit : ℕ → Option ℕ
+as_bit n = if nat_le n most_bit then Some n else None
 
 -- the number of a bit or a bound, unless it is too great
 abbrev pub number_of : Text → Option ℕ
-number_of digits = number_from 0 digits
+number_of digits = as_bit (value_after 0 digits)
 
--- the number that goes on with these bytes, up to a `]` that ends them
-abbrev pub closed_from : ℕ → Text → Option ℕ
-closed_from n [] = None
-closed_from n (b ∷ more) =
-    if nat_lt most_bit n then None
-    else if is_ascii_digit b then closed_from (n * 10 + (b - 48)) more
-    else if b == 93 && length more == 0 then Some n
-    else None
+-- the number, where these are the digits that it is written with
+abbrev pub written : Text → Option ℕ → Option ℕ
+written digits None = None
+written digits (Some n) = if bytes_eq (decimal n) digits then Some n else None
 
--- the number of a bit as its name has it: without needless zeros, and with a `]` that ends the bytes
+-- the number of a bit as its name has it: written without needless zeros, and behind it a `]` that ends the bytes
 abbrev pub closed_number : Text → Option ℕ
-closed_number [] = None
-closed_number (b ∷ more) =
-    if b == 48 then (if nat_lt 1 (length more) then None else closed_from 0 more)
-    else if is_ascii_digit b then closed_from (b - 48) more
+closed_number bytes =
+    if slice_index bytes (length bytes - 1) == 93
+    then (let digits = take (length bytes - 1) bytes in written digits (number_of digits))
     else None
 
 -- a bit whose `[` stands here, or else one whose `[` stands further on

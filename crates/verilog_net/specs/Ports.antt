@@ -1,6 +1,6 @@
 -- Ports by their names: the bits that a name stands for.
 use Rattle.std.specs.Prelude.{ℕ, Option, Some, None}
-use Rattle.text_forms.specs.Names.{Text, found}
+use Rattle.name_numbers.specs.Names.{Text, found}
 use Rattle.verilog_net.specs.declared.netlist.Net.{Net}
 use Rattle.verilog_net.specs.declared.netlist.PortRole.{PortRole}
 use Rattle.verilog_net.specs.declared.netlist.PortRole.TheVariants.{Inner}

@@ -4,6 +4,7 @@
 mod context;
 mod forms;
 mod item;
+mod name;
 mod netlist;
 mod nets;
 mod port;
@@ -15,6 +16,7 @@ mod stop;
 #[cfg(test)]
 mod tests;
 
-pub use netlist::{Instance, Modules, Name, Net, Netlist, PortRole, Wire};
+pub use name::Name;
+pub use netlist::{Instance, Modules, Net, Netlist, PortRole, Wire};
 pub use port::PortFound;
 pub use read::{read_modules, read_netlist};

@@ -1,44 +1,8 @@
 //! Netlists: the nets, ports and instances of a module.
 
-ghost use Rattle.std.specs.Prelude.{◌≡◌};
-
-use std::alloc::{AllocError, Global};
-use std::marker::Model;
-use text_forms::NameTable;
+use crate::name::Name;
+use name_numbers::NameTable;
 use xt_model::Row;
-
-/// A name of a netlist: its bytes, an escaped one's without the backslash.
-#[derive(Debug, Drop)]
-pub struct Name {
-    bytes: Vec<u8>,
-}
-
-impl Model for Name {
-    ghost use Rattle.std.specs.Prelude.{ℕ, List};
-
-    ghost Value = { List ℕ };
-
-    ghost view = { λ n. n.bytes.items };
-}
-
-impl Name {
-    ghost use Rattle.std.specs.Prelude.{IfOk};
-
-    /// A name of these bytes.
-    pub fn copied(alloc: Global, bytes: &[u8]) -> Result<Name, AllocError>
-        ensures { IfOk result (λ n. n ≡ bytes.now) }
-    {
-        let bytes = Vec::from_slice(alloc, bytes)?;
-        Ok(Name { bytes })
-    }
-
-    /// The bytes of the name.
-    pub fn bytes(&self) -> &[u8]
-        ensures { result.now ≡ self.now }
-    {
-        self.bytes.as_slice()
-    }
-}
 
 /// What a net is to the outside of its module.
 #[derive(Clone, Copy, Debug, PartialEq, Eq)]

@@ -1,21 +1,23 @@
 //! The nets of a module by their names.
 
 ghost use Rattle.std.specs.Prelude.{◌≡◌, ℕ, ◌+◌, ◌<◌, ◌≤◌, [], length, IfSome, IfOk, OnOk};
-ghost use Rattle.text_forms.specs.Names.{with_value};
-ghost use Rattle.verilog_net.specs.Nets.{number_of, closed_from, closed_number, bit_from, has_bit, named_bit};
+ghost use Rattle.name_numbers.specs.Names.{with_value};
+ghost use Rattle.verilog_net.specs.Nets.{number_of, closed_number, bit_from, has_bit, named_bit};
 ghost use Rattle.verilog_net.specs.Nets.{same_range, joined_role, is_directed, is_port, most_bit};
 ghost use Rattle.verilog_net.specs.Nets.{bit_nets_of, with_bit_net, with_net, has_bit_net};
 ghost use Rattle.std.specs.List.{list_any};
 
 use crate::netlist::{Net, PortRole};
+use itoa::Buffer;
+use name_numbers::{NameTable, Named};
 use std::alloc::{AllocError, Global};
-use text_forms::{NameTable, Named};
 use xt_model::Row;
 
 /// The greatest number of a bit.
 const MOST_BIT: u32 = 1_048_575;
 
 /// The number of a bit or a bound, unless it is too great.
+#[tactic(auto, using(crate::proofs::Numbers::value_grows))]
 pub fn number_of(digits: &[u8]) -> Option<u32>
     ensures value { result ≡ number_of digits.now }
     ensures within { IfSome result (λ n. n ≤ most_bit) }
@@ -36,49 +38,19 @@ pub fn number_of(digits: &[u8]) -> Option<u32>
     }
 }
 
-/// The number that goes on with these bytes, up to a `]` that ends them.
-fn closed_from(front: u32, bytes: &[u8]) -> Option<u32>
-    requires { front ≤ most_bit }
-    ensures { result ≡ closed_from front bytes.now }
-{
-    let mut number = front;
-    let mut rest = bytes;
-    'digits: while let [digit, more @ ..] = rest {
-        if number > MOST_BIT {
-            return None;
-        }
-        if !digit.is_ascii_digit() {
-            return if *digit == b']' && more.is_empty() {
-                Some(number)
-            } else {
-                None
-            };
-        }
-        number = number * 10 + digit.saturating_sub(b'0') as u32;
-        rest = more;
-    }
-    None
-}
-
-/// The number of a bit as its name has it.
+/// The number of a bit as its name has it, with the `]` that ends the bytes.
 fn closed_number(bytes: &[u8]) -> Option<u32>
     ensures { result ≡ closed_number bytes.now }
 {
-    match bytes {
-        [] => None,
-        [digit, more @ ..] => {
-            if *digit == b'0' {
-                if more.len() > 1 {
-                    None
-                } else {
-                    closed_from(0, more)
-                }
-            } else if digit.is_ascii_digit() {
-                closed_from(digit.saturating_sub(b'0') as u32, more)
-            } else {
-                None
-            }
-        }
+    let [digits @ .., b']'] = bytes else {
+        return None;
+    };
+    let number = number_of(digits)?;
+    let mut buffer = Buffer::new();
+    if buffer.format(number).as_bytes() == digits {
+        Some(number)
+    } else {
+        None
     }
 }
 

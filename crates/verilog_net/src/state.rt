@@ -10,13 +10,14 @@ ghost use Rattle.verilog_net.specs.Meaning.{begin_pin, connect, connect_name, co
 ghost use Rattle.verilog_net.specs.View.{said, Changes};
 
 use crate::item::Item;
-use crate::netlist::{Instance, Name, Net, Netlist, PortRole, Wire};
+use crate::name::Name;
+use crate::netlist::{Instance, Net, Netlist, PortRole, Wire};
 use crate::nets::{has_bit, has_bit_net, is_port, named_bit, note_net, number_of, same_range};
 use crate::stop::Stop;
+use name_numbers::{NameTable, Named, Names};
 use std::alloc::Global;
 use std::marker::Model;
 use std::mem;
-use text_forms::{NameTable, Named, Names};
 use xt_model::{Code, Row};
 
 /// The greatest number of names whose memory serves again for the pins of the next instance.
@@ -370,7 +371,8 @@ impl<'a> Progress<'a> {
     {
         let cell = Name::copied(alloc, self.cell)?;
         let name = Name::copied(alloc, self.instance)?;
-        let pins = mem::replace(&mut self.pins, Vec::new(alloc));
+        let mut pins = mem::replace(&mut self.pins, Vec::new(alloc));
+        pins.shrink_to(0);
         self.instances.push(Instance {
             cell,
             name,

@@ -1,5 +1,5 @@
 use Rattle.std.proofs.Common.{◌∙◌, refl, ◌++◌, ◌∷◌, []}
-use Rattle.text_forms.proofs.NameLaws.{value_given_twice}
+use Rattle.name_numbers.proofs.NameLaws.{value_given_twice}
 use Rattle.verilog_net.specs.Nets.{bit_nets_of}
 use Rattle.verilog_net.proofs.nets.note_bit.Goals as goal
 

@@ -1,10 +1,10 @@
 use Rattle.std.proofs.Common.{◌≡◌, ◌≤◌, ◌*◌, ◌+◌, length}
-use Rattle.verilog_net.specs.Nets.{number_of, number_from, most_bit}
+use Rattle.verilog_net.specs.Nets.{value_after, most_bit}
 use Rattle.verilog_net.proofs.nets.number_of.Given as goal
 
 abbrev pub invariant-digits : goal.invariant-digits
 invariant-digits l = record {
-  value : number_from l.number l.rest ≡ number_of l.digits;
+  value : value_after l.number l.rest ≡ value_after 0 l.digits;
   within : l.number ≤ most_bit * 10 + 255;
 }
 
