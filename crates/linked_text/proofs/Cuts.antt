@@ -14,23 +14,10 @@ use Rattle.std.proofs.lemmas.Slice.Eq.{bytes_eq-Decides}
 use Rattle.std.proofs.lemmas.Str.Parse.{digit_from_value}
 use Rattle.xt_model.specs.Names.{IsName}
 use Rattle.text_lines.specs.Steps.{◌>>=◌}
-use Rattle.linked_text.specs.Fields.{word_at, cut_at, number_of, negative_of, signed_of, number_at, signed_at, is_name, name_at}
+use Rattle.linked_text.specs.Fields.{cut_at, number_of, negative_of, signed_of, is_name}
 use Rattle.linked_text.specs.Fits.{IsSmaller}
 use Rattle.linked_text.proofs.Options.{first_step, passed, both_true, some_is}
 use Rattle.linked_text.proofs.Decimals.{number_takes, number_again}
-
--- ---- words
-
-pub word_takes : (word bytes rest : List ℕ) → word_at word bytes ≡ Some rest → bytes ≡ word ++ rest
-word_takes word bytes rest e =
-    let g = passed (bytes_eq (take (length word) bytes) word) (drop (length word) bytes) rest e in
-    let front : take (length word) bytes ≡ word = (bytes_eq-Decides (take (length word) bytes) word).0 g.0 in
-    sym (take-append-drop (length word) bytes) ∙ ap (λ (t : List ℕ). t ++ drop (length word) bytes) front ∙ ap (λ (t : List ℕ). word ++ t) g.1
-
-pub word_again : (word rest : List ℕ) → word_at word (word ++ rest) ≡ Some rest
-word_again word rest =
-    let front : bytes_eq word word ≡ true = (bytes_eq-Decides word word).1 refl in
-    rw (take_at word rest (length word) refl, drop_at word rest (length word) refl, front) refl
 
 -- ---- fields up to a mark
 
@@ -147,40 +134,6 @@ signed_again limit (negsuc n) most h =
     let some : eqb (suc n) 0 ≡ false = ne_eqb (suc n) 0 (λ (z : suc n ≡ 0). omega arith) in
     rw (number_again limit (suc n) small (omega (arith, small, most)), some) refl
 
-pub number_at_takes : (mark : ℕ) (bytes : List ℕ) (n : ℕ) (rest : List ℕ) → number_at mark bytes ≡ Some (n, rest) → (bytes ≡ decimal n ++ mark ∷ rest) × (n < 2 ^ 32)
-unfolding number_at
-number_at_takes mark bytes n rest e =
-    let b = first_step e in
-    let s = first_step b.2 in
-    let t = number_takes (2 ^ 32) b.0.0 s.0 s.1 in
-    let c = cut_takes mark bytes b.0.0 b.0.1 b.1 in
-    subst (λ (x : ℕ × List ℕ). (bytes ≡ decimal x.0 ++ mark ∷ x.1) × (x.0 < 2 ^ 32)) (some_is (s.0, b.0.1) (n, rest) s.2) (c ∙ ap (λ (f : List ℕ). f ++ mark ∷ b.0.1) t.0, t.1)
-
-pub number_at_again : (mark n : ℕ) (rest : List ℕ) → mark ≤ 32 → n < 2 ^ 32 → number_at mark (decimal n ++ mark ∷ rest) ≡ Some (n, rest)
-unfolding number_at
-number_at_again mark n rest low lt =
-    let c = cut_again mark (decimal n) rest (lacks mark low (decimal n) (visible_decimal n (omega (arith, lt)))) in
-    let a = number_again (2 ^ 32) n lt (omega (arith, lt)) in
-    rw (c, a) refl
-
-pub signed_at_takes : (limit mark : ℕ) (bytes : List ℕ) (x : ℤ) (rest : List ℕ) → signed_at limit mark bytes ≡ Some (x, rest) → (bytes ≡ signed_decimal x ++ mark ∷ rest) × IsSmaller limit x
-unfolding signed_at
-signed_at_takes limit mark bytes x rest e =
-    let b = first_step e in
-    let s = first_step b.2 in
-    let t = signed_takes limit b.0.0 s.0 s.1 in
-    let c = cut_takes mark bytes b.0.0 b.0.1 b.1 in
-    subst (λ (y : ℤ × List ℕ). (bytes ≡ signed_decimal y.0 ++ mark ∷ y.1) × IsSmaller limit y.0) (some_is (s.0, b.0.1) (x, rest) s.2) (c ∙ ap (λ (f : List ℕ). f ++ mark ∷ b.0.1) t.0, t.1)
-
-widen : (limit : ℕ) (x : ℤ) → limit ≤ 2 ^ 127 → IsSmaller limit x → IsSmaller (2 ^ 127) x
-widen limit x most h = record { low = omega (arith, ints, h.low, most); high = omega (arith, ints, h.high, most) }
-
-pub signed_at_again : (limit mark : ℕ) (x : ℤ) (rest : List ℕ) → limit ≤ 2 ^ 127 → mark ≤ 32 → IsSmaller limit x → signed_at limit mark (signed_decimal x ++ mark ∷ rest) ≡ Some (x, rest)
-unfolding signed_at
-signed_at_again limit mark x rest most low h =
-    let c = cut_again mark (signed_decimal x) rest (lacks mark low (signed_decimal x) (visible_signed x (widen limit x most h))) in
-    rw (c, signed_again limit x most h) refl
-
 -- ---- names
 
 pub name_sound : (f : List ℕ) → is_name f ≡ true → IsName f
@@ -196,15 +149,3 @@ name_tested f h =
     let short : leb (length f) 2049 ≡ true = le-leb _ _ h.short in
     let each : list_all (λ b. leb 33 b && leb b 126) f ≡ true = list_all-from_AllPass (λ b. leb 33 b && leb b 126) f (λ k d lt. let p = h.printable k d lt in rw (le-leb _ _ p.0, le-leb _ _ p.1) refl) in
     rw (some, short, each) refl
-
-pub name_at_takes : (mark : ℕ) (bytes f rest : List ℕ) → name_at mark bytes ≡ Some (f, rest) → (bytes ≡ f ++ mark ∷ rest) × IsName f
-unfolding name_at
-name_at_takes mark bytes f rest e =
-    let b = first_step e in
-    let g = passed (is_name b.0.0) b.0 (f, rest) b.2 in
-    let c = cut_takes mark bytes b.0.0 b.0.1 b.1 in
-    subst (λ (x : List ℕ × List ℕ). (bytes ≡ x.0 ++ mark ∷ x.1) × IsName x.0) g.1 (c, name_sound b.0.0 g.0)
-
-pub name_at_again : (mark : ℕ) (f rest : List ℕ) → mark ≤ 32 → IsName f → name_at mark (f ++ mark ∷ rest) ≡ Some (f, rest)
-unfolding name_at
-name_at_again mark f rest low h = rw (cut_again mark f rest (lacks mark low f (visible_name f h)), name_tested f h) refl

@@ -1,15 +1,20 @@
 mod Options
 mod Decimals
+mod Splits
 mod Loop
 mod Cuts
-mod Sequences
-mod Items
-mod Sources
-mod Grids
-mod Nets
-mod Whole
-mod Pieces
-mod SoundParts
-mod NoLoop
-pub mod Refusals
+mod Inversions
+mod NumberLaws
+mod LineLaws
+mod FrontLaws
+mod TableLaws
+mod NetLaws
+mod CheckLaws
+mod BodyLaws
+mod SoundLaws
+pub mod WholeLaws
+mod Refusals
 mod WorkedTexts
+mod WorkedMeanings
+mod NoLoop
+mod Pieces

@@ -1,40 +1,57 @@
 -- Reading values one after the other, as a loop does.
-use Rattle.std.proofs.Common.{◌≡◌, ℕ, suc, List, [], ◌∷◌, ◌++◌, Option, Some, None, refl, sym, ap, ◌∙◌, append_assoc}
+use Rattle.std.proofs.Common.{◌≡◌, ℕ, suc, List, [], ◌∷◌, ◌++◌, Option, Some, None, Result, Ok, Err, refl, sym, ap, ◌∙◌, append_assoc}
 use Rattle.std.proofs.lemmas.List.{append-nil}
-use Rattle.linked_text.specs.declared.fault.ReadFault.{ReadFault}
-use Rattle.linked_text.specs.declared.fault.ReadFault.TheVariants as faults
-use Rattle.text_lines.specs.Steps.{◌>>=◌}
-use Rattle.linked_text.specs.Fields.{Fails}
-use Rattle.linked_text.specs.Reading.{many_at}
+use Rattle.linked_text.specs.declared.fault.Fault.{Fault}
+use Rattle.linked_text.specs.declared.fault.Stop.{Stop}
+use Rattle.linked_text.specs.declared.fault.Stop.TheVariants as stops
+use Rattle.linked_text.specs.Fields.{each}
+use Rattle.linked_text.specs.Gives.{Fails}
+use Rattle.linked_text.specs.declared.head.NetHead.{NetHead}
+use Rattle.linked_text.specs.declared.head.Sums.{Sums}
+use Rattle.linked_text.specs.Meaning.{Read, many_at, head_at, heads_at, sums_with}
+use Rattle.linked_text.specs.Steps.{◌>>=◌}
+use Rattle.text_lines.specs.Steps as options
 
 -- what was read before, and what is still read
-abbrev pub with_front : {A : Type 0} → List A → Option (List A × List ℕ) → Option (List A × List ℕ)
-with_front front read = read >>= λ x. Some (front ++ x.0, x.1)
+abbrev pub with_front : {A : Type 0} → List A → Read (List A) → Read (List A)
+with_front front read = read >>= λ x. Ok (front ++ x.0, x.1)
 
-regroup : {A : Type 0} (front more : List A) (read : Option (List A × List ℕ)) → with_front front (with_front more read) ≡ with_front (front ++ more) read
-regroup {A} front more (Some x) = ap (λ (xs : List A). Some (xs, x.1)) (sym (append_assoc front more x.0))
-regroup front more None = refl
+regroup : {A : Type 0} (front more : List A) (read : Read (List A)) → with_front front (with_front more read) ≡ with_front (front ++ more) read
+regroup {A} front more (Ok x) = ap (λ (xs : List A). Ok (xs, x.1)) (sym (append_assoc front more x.0))
+regroup front more (Err e) = refl
 
-failed : {A B : Type 0} (e : ReadFault) (read : Option A) (total : Option B) → (read ≡ None → total ≡ None) → Fails e read → Fails e total
-failed faults.NoMemory read total f h = tt
-failed faults.NotLinked read total f h = f h
+failed : {A B : Type 0} (e : Stop) (read : Result A Fault) (total : Result B Fault) → ((f : Fault) → read ≡ Err f → total ≡ Err f) → Fails e read → Fails e total
+failed stops.NoMemory read total f h = tt
+failed (stops.At fault) read total f h = f fault h
 
 -- what is still read begins with more, which was read
-pub goes_on : {A : Type 0} (front more : List A) (still after total : Option (List A × List ℕ)) → still ≡ with_front more after
+pub goes_on : {A : Type 0} (front more : List A) (still after total : Read (List A)) → still ≡ with_front more after
     → with_front front still ≡ total → with_front (front ++ more) after ≡ total
 goes_on front more still after total next so_far = sym (regroup front more after) ∙ (sym (ap (with_front front) next) ∙ so_far)
 
--- what is still read is nothing where its first value is none
-pub ends : {A B : Type 0} (e : ReadFault) (front : List A) (one : Option B) (still total : Option (List A × List ℕ)) → (one ≡ None → still ≡ None) → Fails e one
+-- what is still read is refused where its first value is
+pub ends : {A B : Type 0} (e : Stop) (front : List A) (one : Result B Fault) (still total : Read (List A)) → ((f : Fault) → one ≡ Err f → still ≡ Err f) → Fails e one
     → with_front front still ≡ total → Fails e total
-ends e front one still total next h so_far = failed e one total (λ none. sym so_far ∙ ap (with_front front) (next none)) h
+ends e front one still total next h so_far = failed e one total (λ f refused. sym so_far ∙ ap (with_front front) (next f refused)) h
 
 -- no value is still read
-pub is_done : {A : Type 0} (front : List A) (bytes : List ℕ) (still total : Option (List A × List ℕ)) → still ≡ Some ([], bytes)
-    → with_front front still ≡ total → total ≡ Some (front, bytes)
-is_done {A} front bytes still total none so_far = sym so_far ∙ (ap (with_front front) none ∙ ap (λ (xs : List A). Some (xs, bytes)) (append-nil front))
+pub is_done : {A : Type 0} (front : List A) (bytes : List ℕ) (still total : Read (List A)) → still ≡ Ok ([], bytes)
+    → with_front front still ≡ total → total ≡ Ok (front, bytes)
+is_done {A} front bytes still total none so_far = sym so_far ∙ (ap (with_front front) none ∙ ap (λ (xs : List A). Ok (xs, bytes)) (append-nil front))
 
 -- the first of several values
-pub many_next : {A : Type 0} (at : ℕ → List ℕ → Option (A × List ℕ)) (k n : ℕ) (bytes : List ℕ) (x : A) (after : List ℕ) → k ≡ suc n → at n bytes ≡ Some (x, after)
+pub many_next : {A : Type 0} (at : List ℕ → Read A) (k n : ℕ) (bytes : List ℕ) (x : A) (after : List ℕ) → k ≡ suc n → at bytes ≡ Ok (x, after)
     → many_at at k bytes ≡ with_front (x ∷ []) (many_at at n after)
 many_next at k n bytes x after more h = rw (more, h) refl
+
+-- ---- fields
+
+abbrev pub with_values : {A : Type 0} → List A → Option (List A) → Option (List A)
+with_values front found = options.◌>>=◌ found (λ xs. Some (front ++ xs))
+
+-- ---- heads
+
+-- the first of several heads
+pub heads_next : (k n : ℕ) (names names_then : List (List ℕ)) (sums sums_then : Sums) (bytes after : List ℕ) (h : NetHead) → k ≡ suc n → head_at names sums bytes ≡ Ok (h, after)
+    → names_then ≡ names ++ h.name ∷ [] → sums_then ≡ sums_with sums h → heads_at k names sums bytes ≡ with_front (h ∷ []) (heads_at n names_then sums_then after)
+heads_next k n names names_then sums sums_then bytes after h more read entered added = rw (more, read, entered, added) refl

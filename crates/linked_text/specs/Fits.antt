@@ -1,5 +1,5 @@
 -- What parts have a linked text that can be read: they can be linked, and their numbers fit their types.
-use Rattle.std.specs.Prelude.{◌≡◌, ℕ, ◌<◌, ◌^◌, ◌⊎◌, ℤ, pos, neg_ℤ, ◌<ℤ◌, length, IfSome}
+use Rattle.std.specs.Prelude.{◌≡◌, ℕ, ◌<◌, ◌≤◌, ◌^◌, ◌⊎◌, ℤ, pos, neg_ℤ, ◌<ℤ◌, length, IfSome}
 use Rattle.std.specs.List.{All}
 use Rattle.xt_model.specs.declared.quad.Quad.{Quad}
 use Rattle.xt_model.specs.declared.net.Coupling.{Coupling}
@@ -12,6 +12,8 @@ use Rattle.xt_model.specs.Tables.{IsTable}
 use Rattle.xt_model.specs.Sound.{LeavesGiven}
 use Rattle.xt_model.specs.Miller.{IsMiller}
 use Rattle.xt_model.specs.Parts.{Parts}
+use Rattle.xt_model.specs.Limits.{most_couplings, most_coefficients, most_arcs}
+use Rattle.linked_text.specs.declared.head.Sums.{Sums}
 use Rattle.linked_text.specs.Linked.{IsLinkable}
 
 -- a number whose size is below the limit
@@ -70,3 +72,9 @@ pub record Fits (d : Parts) : Type 0 where
   pub nets : All FitsNet d.nets
   pub miller : IsMiller d.miller
   pub linkable : IsLinkable d
+
+-- the sums of some nets are within their limits
+pub record AreFew (s : Sums) : Type 0 where
+  pub couplings : s.couplings ≤ most_couplings
+  pub coefficients : s.coefficients ≤ most_coefficients
+  pub arcs : s.arcs ≤ most_arcs

@@ -1,5 +1,9 @@
 pub mod Linked
 pub mod Writing
+pub mod Meaning
 pub mod Fields
-pub mod Reading
+pub mod Steps
+pub mod Gives
+pub mod Answers
+pub mod EachLine
 pub mod Fits

@@ -1,49 +1,100 @@
 //! From a linked text to a design.
 
-ghost use Rattle.std.specs.Prelude.{◌≡◌, ℕ, Err, IfOk};
+ghost use Rattle.std.specs.Prelude.{◌≡◌, ◌<◌, ◌≤◌, ◌+◌, ◌==◌, ◌^◌, ◌↔◌, ℕ, List, length, Option};
+ghost use Rattle.std.specs.Prelude.{Err, IfOk, IsTrue};
+ghost use Rattle.std.specs.List.{count_by};
 ghost use Rattle.xt_model.specs.declared.code.Code.{Code};
-ghost use Rattle.xt_model.specs.declared.code.Code.TheVariants.{X9};
+ghost use Rattle.xt_model.specs.declared.fault.LimitKind.{LimitKind};
 ghost use Rattle.xt_model.specs.Parts.{Parts};
 ghost use Rattle.xt_model.specs.Sound.{IsSound};
 ghost use Rattle.text_lines.specs.Lines.{text_of};
-ghost use Rattle.linked_text.specs.Linked.{IsLinkable, IsOfNoDesign, linked};
-ghost use Rattle.linked_text.specs.declared.fault.LinkedFault.TheVariants.{Refused};
+ghost use Rattle.linked_text.specs.declared.fault.LinkedFault.TheVariants.{Refused, Limit};
+ghost use Rattle.linked_text.specs.Linked.{linked};
+ghost use Rattle.linked_text.specs.Answers.{Answers, IsTextOf, Tells};
+ghost use Rattle.linked_text.specs.Meaning.{line_number};
 
-use crate::fault::{LinkedFault, ReadFault};
-use crate::parts::read_parts;
-use sound_parts::is_sound;
+use crate::fault::{Fault, LinkedFault, Stop};
+use crate::parts::{end, parts};
+use crate::read_line::refused;
 use std::alloc::Global;
 use xt_model::{BuildFault, Code, Design};
 
-/// The one refusal of a text.
-const REFUSED: LinkedFault = LinkedFault::Refused {
-    line: 1,
-    code: Code::X9,
-};
+/// How many newlines there are.
+fn newlines(bytes: &[u8]) -> usize
+    ensures value { result ≡ count_by (λ b. b == 10) bytes.now }
+    ensures within { result ≤ length bytes.now }
+{
+    bytes.iter().filter(|b| **b == b'\n').count()
+}
 
-/// The design of a linked text; the bytes are all of it. Until checks can be analysed, only a design without
-/// checks is read, and every other text is refused at line 1.
+/// Whether the number of each line of a text fits 32 bits, which `read_linked` asks for.
+pub fn has_numbered_lines(bytes: &[u8]) -> bool
+    ensures { IsTrue result ↔ (count_by (λ b. b == 10) bytes.now + 1 < 2 ^ 32) }
+{
+    newlines(bytes) < (1 << 32) - 1
+}
+
+/// The number of the line that begins where `left` bytes are left.
+fn line_number(bytes: &[u8], left: usize) -> u32
+    requires { count_by (λ b. b == 10) bytes.now + 1 < 2 ^ 32 }
+    ensures { result ≡ line_number bytes.now left }
+{
+    let (before, _) = bytes.split_at(bytes.len().saturating_sub(left));
+    1 + newlines(before) as u32
+}
+
+/// The design of a text, or its first refusal.
+fn read(alloc: Global, bytes: &[u8]) -> Result<Design, Stop>
+    ensures { Answers bytes.now result }
+{
+    let (parts, last) = parts(alloc, bytes)?;
+    let (_, rest) = end(alloc, &parts, last)?;
+    match Design::from_parts(alloc, parts) {
+        Ok(design) => {
+            let _ = design.levels();
+            if rest.is_empty() {
+                return Ok(design);
+            }
+            Err(refused(rest, Code::X1))
+        }
+        Err(BuildFault::Loop(_)) => Err(refused(last, Code::X3)),
+        Err(BuildFault::NoMemory) => Err(Stop::NoMemory),
+    }
+}
+
+/// The same with the number of the line that is refused.
+fn tell(alloc: Global, bytes: &[u8]) -> Result<Design, LinkedFault>
+    requires { count_by (λ b. b == 10) bytes.now + 1 < 2 ^ 32 }
+    ensures { Tells bytes.now result }
+{
+    match read(alloc, bytes) {
+        Ok(design) => Ok(design),
+        Err(Stop::At(Fault::Refused { left, code })) => Err(LinkedFault::Refused {
+            line: line_number(bytes, left),
+            code,
+        }),
+        Err(Stop::At(Fault::Limit { what, name, value })) => {
+            Err(LinkedFault::Limit { what, name, value })
+        }
+        Err(Stop::NoMemory) => Err(LinkedFault::NoMemory),
+    }
+}
+
+/// The design of a linked text, or the first refusal of the text; the bytes are all of it.
 pub fn read_linked(alloc: Global, bytes: &[u8]) -> Result<Design, LinkedFault>
+    // Each line has a number of 32 bits: `has_numbered_lines`.
+    requires { count_by (λ b. b == 10) bytes.now + 1 < 2 ^ 32 }
+    // What the text means, line by line: a design, or the first refusal.
+    ensures means { Tells bytes.now result }
     // What is read is sound, and spelled so.
-    ensures ok { IfOk result (λ d. IsSound d × (bytes.now ≡ text_of (linked d)) × IsLinkable d) }
-    // No other design is spelled so.
-    ensures only { IfOk result (λ d. (e : Parts)
-        → IsSound e → IsLinkable e → bytes.now ≡ text_of (linked e) → d ≡ e) }
+    ensures ok { IfOk result (IsTextOf bytes.now) }
+    // No other sound design is spelled so.
+    ensures only { IfOk result (λ d. (e : Parts) → IsSound e → bytes.now ≡ text_of (linked e) → d ≡ e) }
     // A refused text is of no design.
     ensures refused { (line : ℕ) (code : Code) → result ≡ Err (Refused line code)
-        → (line ≡ 1) × (code ≡ X9) × IsOfNoDesign bytes.now }
+        → (d : Parts) → IsTextOf bytes.now d → ⊥ }
+    ensures limited { (what : LimitKind) (name : Option (List ℕ)) (value : ℕ) → result ≡ Err (Limit what name value)
+        → (d : Parts) → IsTextOf bytes.now d → ⊥ }
 {
-    let parts = match read_parts(alloc, bytes) {
-        Ok(parts) => parts,
-        Err(ReadFault::NotLinked) => return Err(REFUSED),
-        Err(ReadFault::NoMemory) => return Err(LinkedFault::NoMemory),
-    };
-    if !is_sound(alloc, &parts)? {
-        return Err(REFUSED);
-    }
-    match Design::from_parts(alloc, parts) {
-        Ok(design) => Ok(design),
-        Err(BuildFault::Loop(_)) => Err(REFUSED),
-        Err(BuildFault::NoMemory) => Err(LinkedFault::NoMemory),
-    }
+    tell(alloc, bytes)
 }

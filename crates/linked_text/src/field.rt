@@ -1,52 +1,16 @@
-//! The fields of a line: words, numbers and names, each up to the mark behind it.
+//! Fields: words, names and numbers.
 
-ghost use Rattle.std.specs.Prelude.{◌≡◌, ◌<◌, ◌≤◌, nat_le, ◌&&◌, ◌^◌, length, ◌==◌};
-ghost use Rattle.std.specs.Prelude.{IfOk, IfSome, IsTrue, ◌↔◌, position};
+ghost use Rattle.std.specs.Prelude.{◌≡◌, ◌<◌, ◌≤◌, ◌≤ℤ◌, nat_le, ◌&&◌, ◌^◌, length, ◌==◌, option_map};
+ghost use Rattle.std.specs.Prelude.{IfSome, IsTrue, ◌↔◌, pos, neg_ℤ};
+ghost use Rattle.std.specs.Char.{is_ascii_digit};
 ghost use Rattle.std.specs.Fmt.{decimal};
 ghost use Rattle.std.specs.List.{list_all};
-ghost use Rattle.linked_text.specs.Fields.{Gives, Finds, word_at, cut_at, number_of, signed_of};
-ghost use Rattle.linked_text.specs.Fields.{number_at, signed_at, is_name, name_at, is_rising};
+ghost use Rattle.linked_text.specs.Fields.{Finds, between, count, delay, edge_of, hold_of, is_canonical, is_name};
+ghost use Rattle.linked_text.specs.Fields.{is_numeral, is_rising, kind_of, number_of, or_dash, signed_of, size};
 ghost use Rattle.linked_text.specs.Fits.{IsSmaller};
 
-use crate::fault::ReadFault;
 use itoa::Buffer;
-use std::alloc::Global;
-use xt_model::Name;
-
-/// The bytes after `word`, if it stands there.
-pub fn after<'a>(word: &[u8], bytes: &'a [u8]) -> Option<&'a [u8]>
-    ensures { Finds (λ x. x.now) result (word_at word.now bytes.now) }
-{
-    bytes.strip_prefix(word)
-}
-
-/// The bytes after `word`, which has to stand there.
-pub fn word<'a>(word: &[u8], bytes: &'a [u8]) -> Result<&'a [u8], ReadFault>
-    ensures { Gives (λ x. x.now) result (word_at word.now bytes.now) }
-{
-    after(word, bytes).ok_or(ReadFault::NotLinked)
-}
-
-/// The place of the first `mark`.
-fn first(mark: u8, bytes: &[u8]) -> Option<usize>
-    ensures value { result ≡ position (λ b. b == mark) bytes.now }
-    ensures within { IfSome result (λ i. i < length bytes.now) }
-{
-    bytes.iter().position(|b| *b == mark)
-}
-
-/// The bytes before the first `mark`, and those after it.
-#[tactic(auto, unfolding(crate::specs::Fields::cut_at))]
-pub fn cut(mark: u8, bytes: &[u8]) -> Result<(&[u8], &[u8]), ReadFault>
-    ensures { Gives (λ x. (x.0.now, x.1.now)) result (cut_at mark bytes.now) }
-{
-    let Some(at) = first(mark, bytes) else {
-        return Err(ReadFault::NotLinked);
-    };
-    let (field, _) = bytes.split_at(at);
-    let (_, rest) = bytes.split_at(at + 1);
-    Ok((field, rest))
-}
+use xt_model::Edge;
 
 /// Whether the field is what is written for `n`.
 fn is_written_so(n: u128, field: &[u8]) -> bool
@@ -57,77 +21,118 @@ fn is_written_so(n: u128, field: &[u8]) -> bool
 }
 
 /// The number below `limit` that is written so, without needless zeros.
-pub fn number_from(limit: u128, field: &[u8]) -> Result<u128, ReadFault>
+pub fn number_from(limit: u128, field: &[u8]) -> Option<u128>
     requires { limit ≤ 2 ^ 127 }
-    ensures value { Gives (λ x. x) result (number_of limit field.now) }
-    ensures below { IfOk result (λ n. n < limit) }
+    ensures value { Finds (λ x. x) result (number_of limit field.now) }
+    ensures below { IfSome result (λ n. n < limit) }
 {
     let Ok(text) = str::from_utf8(field) else {
-        return Err(ReadFault::NotLinked);
+        return None;
     };
     let Ok(n) = text.parse::<u128>() else {
-        return Err(ReadFault::NotLinked);
+        return None;
     };
     if n >= limit {
-        return Err(ReadFault::NotLinked);
+        return None;
     }
     if !is_written_so(n, field) {
-        return Err(ReadFault::NotLinked);
+        return None;
     }
-    Ok(n)
+    Some(n)
 }
 
 /// The number of a size below `limit` that is written so.
-pub fn signed_from(limit: u128, field: &[u8]) -> Result<i128, ReadFault>
+pub fn signed_from(limit: u128, field: &[u8]) -> Option<i128>
     requires { limit ≤ 2 ^ 127 }
-    ensures value { Gives (λ x. x) result (signed_of limit field.now) }
-    ensures below { IfOk result (IsSmaller limit) }
+    ensures value { Finds (λ x. x) result (signed_of limit field.now) }
+    ensures below { IfSome result (IsSmaller limit) }
 {
     match field {
-        [] => Err(ReadFault::NotLinked),
+        [] => None,
         [b'-', digits @ ..] => {
             let n = number_from(limit, digits)?;
             if n == 0 {
-                return Err(ReadFault::NotLinked);
+                return None;
             }
-            Ok(-(n as i128))
+            Some(-(n as i128))
         }
         _ => {
             let n = number_from(limit, field)?;
-            Ok(n as i128)
+            Some(n as i128)
         }
     }
 }
 
-/// A count or a reference, up to the mark.
-#[tactic(auto, unfolding(crate::specs::Fields::number_at))]
-pub fn number(mark: u8, bytes: &[u8]) -> Result<(u32, &[u8]), ReadFault>
-    ensures { Gives (λ x. (x.0, x.1.now)) result (number_at mark bytes.now) }
+/// The number from `low` to `high` that is written so.
+#[tactic(auto, unfolding(crate::specs::Fields::between))]
+pub fn between(low: i128, high: i128, field: &[u8]) -> Option<i128>
+    ensures value { Finds (λ x. x) result (between low high field.now) }
+    ensures low { IfSome result (λ x. low ≤ℤ x) }
+    ensures high { IfSome result (λ x. x ≤ℤ high) }
 {
-    let (field, rest) = cut(mark, bytes)?;
-    let n = number_from(1 << 32, field)?;
-    Ok((n as u32, rest))
-}
-
-/// A quantity of a size below `limit`, up to the mark.
-#[tactic(auto, unfolding(crate::specs::Fields::signed_at))]
-pub fn signed(limit: u128, mark: u8, bytes: &[u8]) -> Result<(i128, &[u8]), ReadFault>
-    requires { limit ≤ 2 ^ 127 }
-    ensures value { Gives (λ x. (x.0, x.1.now)) result (signed_at limit mark bytes.now) }
-    ensures below { IfOk result (λ x. IsSmaller limit x.0) }
-{
-    let (field, rest) = cut(mark, bytes)?;
-    let x = signed_from(limit, field)?;
-    Ok((x, rest))
+    let x = signed_from(1 << 127, field)?;
+    if low <= x && x <= high {
+        return Some(x);
+    }
+    None
 }
 
 /// The same at 64 bits.
-pub fn quantity(limit: u64, mark: u8, bytes: &[u8]) -> Result<(i64, &[u8]), ReadFault>
-    requires { limit ≤ 2 ^ 63 }
-    ensures { Gives (λ x. (x.0, x.1.now)) result (signed_at limit mark bytes.now) }
+pub fn quantity(low: i64, high: i64, field: &[u8]) -> Option<i64>
+    ensures value { Finds (λ x. x) result (between low high field.now) }
+    ensures low { IfSome result (λ x. low ≤ℤ x) }
+    ensures high { IfSome result (λ x. x ≤ℤ high) }
 {
-    let (x, rest) = signed(limit as u128, mark, bytes)?;
-    Ok((x as i64, rest))
+    let x = between(low as i128, high as i128, field)?;
+    Some(x as i64)
+}
+
+/// A count or a reference.
+pub fn count(field: &[u8]) -> Option<u32>
+    ensures { Finds (λ x. x) result (count field.now) }
+{
+    let n = number_from(1 << 32, field)?;
+    Some(n as u32)
+}
+
+/// A number of rows or columns.
+#[tactic(auto, unfolding(crate::specs::Fields::size))]
+pub fn size(field: &[u8]) -> Option<u32>
+    ensures { Finds (λ x. x) result (size field.now) }
+{
+    let n = number_from(65, field)?;
+    if n >= 1 {
+        return Some(n as u32);
+    }
+    None
+}
+
+/// Whether each byte is a digit.
+fn are_digits(bytes: &[u8]) -> bool
+    ensures { result ≡ list_all is_ascii_digit bytes.now }
+{
+    bytes.iter().all(|b| b.is_ascii_digit())
+}
+
+/// Whether these are digits, of which the first of several is no 0.
+fn is_numeral(bytes: &[u8]) -> bool
+    ensures { result ≡ is_numeral bytes.now }
+{
+    match bytes {
+        [] => false,
+        [first, more @ ..] => are_digits(bytes) && (*first != b'0' || more.is_empty()),
+    }
+}
+
+/// Whether a whole number of any size is written as it has to be.
+pub fn is_canonical(field: &[u8]) -> bool
+    ensures { result ≡ is_canonical field.now }
+{
+    match field {
+        [] => false,
+        [b'-', digits @ ..] => is_numeral(digits) && digits != b"0".as_slice(),
+        _ => is_numeral(field),
+    }
 }
 
 /// Whether each byte is a printable one other than a space.
@@ -138,23 +143,36 @@ fn is_printable(bytes: &[u8]) -> bool
 }
 
 /// Whether the bytes may be a name.
-fn is_name(bytes: &[u8]) -> bool
+pub fn is_name(bytes: &[u8]) -> bool
     ensures { result ≡ is_name bytes.now }
 {
     !bytes.is_empty() && bytes.len() <= 2049 && is_printable(bytes)
 }
 
-/// A name, up to the mark.
-#[tactic(auto, unfolding(crate::specs::Fields::name_at))]
-pub fn name(alloc: Global, mark: u8, bytes: &[u8]) -> Result<(Name, &[u8]), ReadFault>
-    ensures { Gives (λ x. (x.0, x.1.now)) result (name_at mark bytes.now) }
+/// The edge of this word.
+pub fn edge(field: &[u8]) -> Option<Edge>
+    ensures { Finds (λ x. x) result (edge_of field.now) }
 {
-    let (field, rest) = cut(mark, bytes)?;
-    if !is_name(field) {
-        return Err(ReadFault::NotLinked);
+    if field == b"rise".as_slice() {
+        return Some(Edge::Rise);
     }
-    let bytes = Vec::from_slice(alloc, field)?;
-    Ok((Name::new(bytes), rest))
+    if field == b"fall".as_slice() {
+        return Some(Edge::Fall);
+    }
+    None
+}
+
+/// Whether it is an input port.
+pub fn kind(field: &[u8]) -> Option<bool>
+    ensures { Finds (λ x. x) result (kind_of field.now) }
+{
+    if field == b"i".as_slice() {
+        return Some(true);
+    }
+    if field == b"w".as_slice() {
+        return Some(false);
+    }
+    None
 }
 
 /// Whether each number is above the one before it.

@@ -2,25 +2,29 @@
 //! written byte for byte.
 #![tactic(auto)]
 
+mod bodies;
+mod checks;
 mod design;
 mod fault;
 mod field;
 mod head;
-mod many;
-mod net;
-mod numbers;
+mod head_lines;
+mod heads;
+mod laws;
+mod line;
+mod net_lines;
 mod parts;
-mod table;
+mod read_line;
+mod table_lines;
+mod tables;
 mod text;
 mod write;
 mod write_check;
 mod write_net;
 mod write_table;
 
-pub use design::read_linked;
-pub use fault::{LinkedFault, ReadFault};
-pub use parts::{read_parts, sound_parts_fit, sound_texts_differ};
+pub use design::{has_numbered_lines, read_linked};
+pub use fault::{Fault, LineStop, LinkedFault, Stop};
+pub use head::{Counts, NetHead, Sums};
+pub use laws::{sound_texts_differ, texts_are_of_designs, texts_mean_one};
 pub use write::write_linked;
-
-#[cfg(test)]
-mod tests;

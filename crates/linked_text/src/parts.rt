@@ -1,130 +1,95 @@
 //! All of a linked text.
 
-ghost use Rattle.std.specs.Prelude.{◌≡◌, Some, None, IfOk, if◌then◌else◌};
-ghost use Rattle.xt_model.specs.Miller.{MillerNumbers};
-ghost use Rattle.xt_model.specs.Parts.{Parts};
-ghost use Rattle.xt_model.specs.Sound.{IsSound};
-ghost use Rattle.text_lines.specs.Lines.{text_of};
-ghost use Rattle.linked_text.specs.Linked.{IsLinkable, linked};
-ghost use Rattle.linked_text.specs.Fields.{Gives};
-ghost use Rattle.linked_text.specs.Fits.{Fits};
-ghost use Rattle.linked_text.specs.Reading.{is_other_miller, miller_at, parts_at, period_at, version_at};
+ghost use Rattle.std.specs.Prelude.{◌≡◌, ◌<◌, ◌^◌, is_some};
+ghost use Rattle.std.specs.List.{sum_by};
+ghost use Rattle.xt_model.specs.Sound.{reads_of};
+ghost use Rattle.linked_text.specs.Gives.{Gives};
+ghost use Rattle.linked_text.specs.Meaning.{counts_at, end_at, miller_at, parts_at};
 
-use crate::fault::ReadFault;
-use crate::field::{after, cut, number, signed_from, word};
-use crate::net::{heads, nets};
-use crate::table::tables;
+use crate::bodies::nets;
+use crate::checks::CheckReader;
+use crate::fault::Stop;
+use crate::head::Counts;
+use crate::head_lines::{CountsReader, LastReader, MillerReader, PeriodReader, VersionReader};
+use crate::heads::{heads, keeps, sink_counts};
+use crate::read_line::{read_line, read_lines};
+use crate::tables::tables;
+use sound_parts::reads_in_all;
 use std::alloc::Global;
-use xt_model::{DesignParts, Miller, Row};
+use xt_model::limits::{MOST_CHECKS, MOST_NETS, MOST_READS, MOST_TABLES};
+use xt_model::{DesignParts, LimitKind, Miller, Row};
 
-#[tactic(auto, unfolding(crate::specs::Reading::period_at))]
-fn period(bytes: &[u8]) -> Result<(Option<i64>, &[u8]), ReadFault>
-    ensures { Gives (λ x. (x.0, x.1.now)) result (period_at bytes.now) }
+/// How many tables, nets and checks there are.
+#[tactic(auto, unfolding(crate::specs::Meaning::counts_at))]
+fn counts(alloc: Global, bytes: &[u8]) -> Result<(Counts, &[u8]), Stop>
+    ensures { Gives (λ x. (x.0, x.1.now)) result (counts_at bytes.now) }
 {
-    let (field, rest) = cut(b'\n', bytes)?;
-    if field == b"none".as_slice() {
-        return Ok((None, rest));
-    }
-    let t = signed_from(1 << 63, field)?;
-    Ok((Some(t as i64), rest))
-}
-
-/// Whether the version is that of the classical Miller numbers.
-#[tactic(auto, unfolding(crate::specs::Reading::version_at))]
-fn version(bytes: &[u8]) -> Result<(bool, &[u8]), ReadFault>
-    ensures { Gives (λ x. (x.0, x.1.now)) result (version_at bytes.now) }
-{
-    let rest = word(b"xtalk-design ", bytes)?;
-    if let Some(rest) = after(b"1\n", rest) {
-        return Ok((true, rest));
-    }
-    let rest = word(b"2\n", rest)?;
-    Ok((false, rest))
-}
-
-/// The Miller numbers that a text of version 2 may have.
-fn other_miller(low: u32, mid: u32, high: u32) -> Option<Miller>
-    ensures { let m : MillerNumbers = record { low = low; mid = mid; high = high } in
-        result ≡ (if is_other_miller m then Some m else None) }
-{
-    if low > mid || mid > high || high > 12 {
-        return None;
-    }
-    let miller = Miller::new(low as u8, mid as u8, high as u8)?;
-    if miller.is_classical() {
-        return None;
-    }
-    Some(miller)
+    let (counts, rest) = read_line(alloc, &CountsReader, bytes)?;
+    keeps(
+        LimitKind::Tables,
+        counts.tables as u128,
+        MOST_TABLES as u128,
+    )?;
+    keeps(LimitKind::Nets, counts.nets as u128, MOST_NETS as u128)?;
+    keeps(
+        LimitKind::Checks,
+        counts.checks as u128,
+        MOST_CHECKS as u128,
+    )?;
+    Ok((counts, rest))
 }
 
 /// The Miller numbers of a text in the version of the classical ones, or in the other version.
-#[tactic(auto, unfolding(crate::specs::Reading::miller_at))]
-fn miller(classical: bool, bytes: &[u8]) -> Result<(Miller, &[u8]), ReadFault>
+#[tactic(auto, unfolding(crate::specs::Meaning::miller_at))]
+fn miller(alloc: Global, classical: bool, bytes: &[u8]) -> Result<(Miller, &[u8]), Stop>
     ensures { Gives (λ x. (x.0, x.1.now)) result (miller_at classical bytes.now) }
 {
     if classical {
         return Ok((Miller::classical(), bytes));
     }
-    let rest = word(b"miller ", bytes)?;
-    let (low, rest) = number(b' ', rest)?;
-    let (mid, rest) = number(b' ', rest)?;
-    let (high, rest) = number(b'\n', rest)?;
-    let Some(miller) = other_miller(low, mid, high) else {
-        return Err(ReadFault::NotLinked);
-    };
-    Ok((miller, rest))
+    read_line(alloc, &MillerReader, bytes)
 }
 
-#[tactic(auto, unfolding(crate::specs::Reading::parts_at))]
-fn parts(alloc: Global, bytes: &[u8]) -> Result<DesignParts, ReadFault>
-    ensures { Gives (λ p. p) result (parts_at bytes.now) }
+/// The parts of a text up to its last line, and the bytes from that line on.
+#[tactic(auto, unfolding(crate::specs::Meaning::parts_at))]
+pub fn parts(alloc: Global, bytes: &[u8]) -> Result<(DesignParts, &[u8]), Stop>
+    ensures { Gives (λ x. (x.0, x.1.now)) result (parts_at bytes.now) }
 {
-    let (version, rest) = version(bytes)?;
-    let rest = word(b"counts ", rest)?;
-    let (table_count, rest) = number(b' ', rest)?;
-    let (net_count, rest) = number(b' ', rest)?;
-    let rest = word(b"0\nperiod ", rest)?;
-    let (period, rest) = period(rest)?;
-    let (miller, rest) = match miller(version, rest) {
-        Ok(read) => read,
-        Err(ReadFault::NotLinked) => return Err(ReadFault::NotLinked),
-        Err(ReadFault::NoMemory) => return Err(ReadFault::NoMemory),
+    let (version, rest) = read_line(alloc, &VersionReader, bytes)?;
+    let (counts, rest) = counts(alloc, rest)?;
+    let (period, rest) = read_line(alloc, &PeriodReader, rest)?;
+    let (miller, rest) = miller(alloc, version, rest)?;
+    let (tables, rest) = tables(alloc, counts.tables, rest)?;
+    let (heads, rest) = heads(alloc, counts.nets, rest)?;
+    let sinks = sink_counts(alloc, heads.as_slice())?;
+    let (nets, rest) = nets(alloc, sinks.as_slice(), counts.tables, heads, rest)?;
+    let reader = CheckReader {
+        period: period.is_some(),
+        sinks: sinks.as_slice(),
+        tables: counts.tables,
     };
-    let (tables, rest) = tables(alloc, table_count, rest)?;
-    let (heads, rest) = heads(alloc, net_count, rest)?;
-    let (nets, rest) = nets(alloc, heads, rest)?;
-    let rest = word(b"end\n", rest)?;
-    if !rest.is_empty() {
-        return Err(ReadFault::NotLinked);
-    }
-    Ok(DesignParts {
+    let (checks, rest) = read_lines(alloc, &reader, counts.checks, rest)?;
+    let parts = DesignParts {
         period,
         tables: Row::from_vec(tables),
         nets: Row::from_vec(nets),
-        checks: Row::from_vec(Vec::new(alloc)),
+        checks: Row::from_vec(checks),
         miller,
-    })
+    };
+    Ok((parts, rest))
 }
 
-/// The parts of a design in linked text, which may be unsound: the bytes are all of the text. A text with
-/// checks is refused.
-pub fn read_parts(alloc: Global, bytes: &[u8]) -> Result<DesignParts, ReadFault>
-    // What is read is spelled so.
-    ensures found { IfOk result (λ p. (bytes.now ≡ text_of (linked p)) × Fits p) }
-    // What is spelled so is read, unless memory runs out.
-    ensures only { (d : Parts) → Fits d → bytes.now ≡ text_of (linked d) → Gives (λ p. p) result (Some d) }
+/// The last line, at which the reads of all nets are tested, and the bytes behind it.
+#[tactic(auto, unfolding(crate::specs::Meaning::end_at))]
+pub fn end<'a>(alloc: Global, parts: &DesignParts, bytes: &'a [u8]) -> Result<((), &'a [u8]), Stop>
+    requires { sum_by (reads_of parts.now) parts.now.nets < 2 ^ 64 }
+    ensures { Gives (λ x. (x.0, x.1.now)) result (end_at parts.now bytes.entry.now) }
 {
-    parts(alloc, bytes)
+    let (last, rest) = read_line(alloc, &LastReader, bytes)?;
+    keeps(
+        LimitKind::Reads,
+        reads_in_all(parts) as u128,
+        MOST_READS as u128,
+    )?;
+    Ok((last, rest))
 }
-
-/// Sound parts that a linked text can have can be read.
-pub fn sound_parts_fit()
-    ensures { (d : Parts) → IsSound d → IsLinkable d → Fits d }
-{}
-
-/// Different sound designs that linked texts can have have different texts.
-pub fn sound_texts_differ()
-    ensures { (d e : Parts)
-        → IsSound d → IsLinkable d → IsSound e → IsLinkable e
-        → text_of (linked d) ≡ text_of (linked e) → d ≡ e }
-{}

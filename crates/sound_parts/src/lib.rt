@@ -13,4 +13,5 @@ mod sound;
 #[cfg(test)]
 mod tests;
 
+pub use limits::reads_in_all;
 pub use sound::is_sound;

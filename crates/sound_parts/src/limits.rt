@@ -67,7 +67,7 @@ fn reads_by(parts: &DesignParts, own: usize, arcs: &[TimingArc]) -> usize
 }
 
 /// How many nets and couplings one evaluation of every net looks at, at most the greatest `usize`.
-fn reads_in_all(parts: &DesignParts) -> usize
+pub fn reads_in_all(parts: &DesignParts) -> usize
     ensures { result ≡ min (sum_by (reads_of parts.now) parts.now.nets) (2 ^ 64 - 1) }
 {
     let mut total: usize = 0;

@@ -1,0 +1,132 @@
+//! The bodies of the nets.
+
+ghost use Rattle.std.specs.Prelude.{◌≡◌, ◌^◌, ◌≤ℤ◌, neg_ℤ, pos, unsigned_abs};
+ghost use Rattle.xt_model.specs.Sound.{coupling_sum, greatest_load};
+ghost use Rattle.linked_text.specs.Gives.{Gives};
+ghost use Rattle.linked_text.specs.Meaning.{coupled_net, couplings_at, net_at, nets_at, pair_at};
+
+use crate::fault::{Fault, Stop};
+use crate::head::NetHead;
+use crate::net_lines::{ArcReader, CouplingReader, GivenReader, SinkReader};
+use crate::read_line::{read_line, read_lines};
+use std::alloc::Global;
+use std::collections::VecDeque;
+use xt_model::limits::MOST_CAP;
+use xt_model::{Coupling, Edge, LimitKind, Name, Net, Pair, Quad, Row};
+
+/// What is given for the edges of a net with `arcs` arcs: nothing where there are any.
+#[tactic(auto, unfolding(crate::specs::Meaning::pair_at))]
+fn pair(alloc: Global, arcs: u32, bytes: &[u8]) -> Result<(Pair, &[u8]), Stop>
+    ensures { Gives (λ x. (x.0, x.1.now)) result (pair_at arcs bytes.now) }
+{
+    if arcs > 0 {
+        let pair = Pair {
+            rise: Quad::bottom(),
+            fall: Quad::bottom(),
+        };
+        return Ok((pair, bytes));
+    }
+    let (rise, rest) = read_line(alloc, &GivenReader { edge: Edge::Rise }, bytes)?;
+    let (fall, rest) = read_line(alloc, &GivenReader { edge: Edge::Fall }, rest)?;
+    Ok((Pair { rise, fall }, rest))
+}
+
+/// The sum of the coupling capacitors in aF.
+fn coupling_sum(couplings: &[Coupling]) -> i128
+    ensures value { result ≡ coupling_sum couplings.now }
+    ensures low { neg_ℤ (pos (2 ^ 125)) ≤ℤ result }
+    ensures high { result ≤ℤ pos (2 ^ 125) }
+{
+    let mut sum: i128 = 0;
+    for coupling in couplings {
+        sum += i128::from(coupling.cap);
+    }
+    sum
+}
+
+/// The load of a net in aF, each of its couplings counted twice.
+fn greatest_load(head: &NetHead, couplings: &[Coupling]) -> u128
+    ensures { result ≡ unsigned_abs (greatest_load (coupled_net head.now couplings.now)) }
+{
+    let sum = coupling_sum(couplings);
+    let load = i128::from(head.load) + 2 * sum;
+    load.unsigned_abs()
+}
+
+/// The couplings of the net of number `own` and this head, of `nets` nets, whose greatest load keeps its limit.
+#[tactic(auto, unfolding(crate::specs::Meaning::couplings_at))]
+fn couplings<'a>(
+    alloc: Global,
+    nets: usize,
+    own: usize,
+    head: &NetHead,
+    bytes: &'a [u8],
+) -> Result<(Vec<Coupling>, &'a [u8]), Stop>
+    ensures { Gives (λ x. (x.0.items, x.1.now)) result (couplings_at nets own head.now bytes.entry.now) }
+{
+    let reader = CouplingReader { nets, own };
+    let (couplings, rest) = read_lines(alloc, &reader, head.couplings, bytes)?;
+    let value = greatest_load(head, couplings.as_slice());
+    if value <= MOST_CAP as u128 {
+        return Ok((couplings, rest));
+    }
+    let name = Name::new(Vec::from_slice(alloc, head.name.bytes())?);
+    Err(Stop::At(Fault::Limit {
+        what: LimitKind::Load,
+        name: Some(name),
+        value,
+    }))
+}
+
+/// The net of number `own` and this head, where the nets have so many sinks and there are `tables` tables.
+#[tactic(auto, unfolding(crate::specs::Meaning::net_at))]
+fn net<'a>(
+    alloc: Global,
+    sinks: &[u32],
+    tables: u32,
+    own: usize,
+    head: NetHead,
+    bytes: &'a [u8],
+) -> Result<(Net, &'a [u8]), Stop>
+    ensures { Gives (λ x. (x.0, x.1.now)) result (net_at sinks.now tables own head bytes.entry.now) }
+{
+    let (given, rest) = pair(alloc, head.arcs, bytes)?;
+    let (couplings, rest) = couplings(alloc, sinks.len(), own, &head, rest)?;
+    let sink_reader = SinkReader {
+        couplings: head.couplings,
+    };
+    let (pins, rest) = read_lines(alloc, &sink_reader, head.sinks, rest)?;
+    let arc_reader = ArcReader { sinks, tables };
+    let (arcs, rest) = read_lines(alloc, &arc_reader, head.arcs, rest)?;
+    let net = Net {
+        name: head.name,
+        input: head.input,
+        load: head.load,
+        given,
+        couplings: Row::from_vec(couplings),
+        sinks: Row::from_vec(pins),
+        arcs: Row::from_vec(arcs),
+    };
+    Ok((net, rest))
+}
+
+/// The nets of these heads.
+pub fn nets<'a>(
+    alloc: Global,
+    sinks: &[u32],
+    tables: u32,
+    heads: Vec<NetHead>,
+    bytes: &'a [u8],
+) -> Result<(Vec<Net>, &'a [u8]), Stop>
+    ensures { Gives (λ x. (x.0.items, x.1.now)) result (nets_at sinks.now tables 0 heads.items bytes.entry.now) }
+{
+    let mut nets = Vec::new(alloc);
+    let mut heads = VecDeque::from(heads);
+    let mut rest = bytes;
+    while let Some(head) = heads.pop_front() {
+        let (net, after) = net(alloc, sinks, tables, nets.len(), head, rest)?;
+        nets.push(net)?;
+        rest = after;
+    }
+    Ok((nets, rest))
+}

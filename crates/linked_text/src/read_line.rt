@@ -1,0 +1,106 @@
+//! Lines one after another.
+
+ghost use Rattle.std.specs.Prelude.{◌≡◌, List, Option, Result, ℕ, length};
+ghost use Rattle.xt_model.specs.declared.code.Code.{Code};
+ghost use Rattle.text_lines.specs.Lines.{Line};
+ghost use Rattle.linked_text.specs.declared.fault.Fault.TheVariants.{Refused};
+ghost use Rattle.linked_text.specs.declared.fault.Stop.TheVariants.{At};
+ghost use Rattle.linked_text.specs.EachLine.{numbered};
+ghost use Rattle.linked_text.specs.Fields.{Finds, each, fields_of};
+ghost use Rattle.linked_text.specs.Gives.{Gives, LineGives};
+ghost use Rattle.linked_text.specs.Meaning.{line_at, many_at};
+
+use crate::fault::{Fault, LineStop, NUMBERS, Stop};
+use crate::line::{Fields, cut};
+use std::alloc::Global;
+use xt_model::Code;
+
+/// Reads the number in a field.
+pub trait FieldReader {
+    type Value: Drop;
+
+    ghost of: { Self → List ℕ → Option Self.Value };
+
+    fn read(&self, field: &[u8]) -> Option<Self::Value>
+        ensures { Finds (λ x. x) result (of self.now field.now) };
+}
+
+/// The number of each of these fields.
+pub fn each_field<R: FieldReader>(
+    alloc: Global,
+    reader: &R,
+    fields: Fields<'_>,
+) -> Result<Vec<R::Value>, LineStop>
+    ensures { LineGives (λ v. v.items) result (numbered (each (R.of reader.now) fields.entry)) }
+{
+    let mut values = Vec::new(alloc);
+    let mut left = fields;
+    'fields: while let Some(field) = left.next_field() {
+        let Some(value) = reader.read(field) else {
+            return Err(NUMBERS);
+        };
+        values.push(value)?;
+    }
+    Ok(values)
+}
+
+/// Reads a line of one kind.
+pub trait LineReader {
+    type Value: Drop;
+
+    ghost of: { Self → Line → Result Self.Value Code };
+
+    /// The value of a line, or the first of its tests that it fails.
+    fn read(&self, alloc: Global, line: &[u8]) -> Result<Self::Value, LineStop>
+        ensures { LineGives (λ x. x) result (of self.now (fields_of line.now)) };
+}
+
+/// The refusal of the line that these bytes begin with.
+pub fn refused(bytes: &[u8], code: Code) -> Stop
+    ensures { result ≡ At (Refused (length bytes.now) code) }
+{
+    Stop::At(Fault::Refused {
+        left: bytes.len(),
+        code,
+    })
+}
+
+/// The value of the line at the front of `bytes`, and the bytes behind it.
+#[tactic(auto, unfolding(crate::specs::Meaning::line_at))]
+pub fn read_line<'a, R: LineReader>(
+    alloc: Global,
+    reader: &R,
+    bytes: &'a [u8],
+) -> Result<(R::Value, &'a [u8]), Stop>
+    ensures { Gives (λ x. (x.0, x.1.now)) result (line_at (R.of reader.now) bytes.now) }
+{
+    let Some((line, rest)) = cut(b'\n', bytes) else {
+        return Err(refused(bytes, Code::X1));
+    };
+    match reader.read(alloc, line) {
+        Ok(value) => Ok((value, rest)),
+        Err(LineStop::Refused(code)) => Err(refused(bytes, code)),
+        Err(LineStop::NoMemory) => Err(Stop::NoMemory),
+    }
+}
+
+/// The values of `count` lines.
+pub fn read_lines<'a, R: LineReader>(
+    alloc: Global,
+    reader: &R,
+    count: u32,
+    bytes: &'a [u8],
+) -> Result<(Vec<R::Value>, &'a [u8]), Stop>
+    ensures { Gives (λ x. (x.0.items, x.1.now)) result (many_at (line_at (R.of reader.now)) count bytes.now) }
+{
+    let mut values = Vec::new(alloc);
+    let mut rest = bytes;
+    let mut left = count;
+    while left > 0 {
+        left -= 1;
+        let (value, after) = read_line(alloc, reader, rest)?;
+        values.push(value)?;
+        rest = after;
+    }
+    Ok((values, rest))
+}
