@@ -93,7 +93,7 @@ loads_there m word number kept is = record {
 
 pub publishes_there : (m : Memory) (word number left : ℕ) → IsKept m → number ≡ number_at m.words word
     → Publishes (knowledge_of m) word number left (knowledge_of (record m { words = set m.words word left }))
-publishes_there m word number left kept is = record { found = found_there m word number kept is; made = 0; once = omega arith; after = refl }
+publishes_there m word number left kept is = record { found = found_there m word number kept is; made = 0; least = omega arith; once = omega arith; after = refl }
 
 pub read_number : (words : List ℕ) (word number : ℕ) → word < length words → number ≡ get_or words word number → number ≡ number_at words word
 read_number words word number h e = e ∙ get_or_default words word number _ h
@@ -135,3 +135,26 @@ moved_there m word value number left kept inside can is at =
 
 pub words_range : (m : Memory) → IsKept m → All (λ n. n ≤ 9223372036854775808) m.words
 words_range m kept = λ i x h. subst (λ n. n ≤ 9223372036854775808) (get_or_default m.words i (quiet_number (i % 2)) x h) (seen_range m.setting m.words i kept.words.seen)
+
+-- ---- a call that moves a word, as the code has it: m is what is inside, v the value that clauses see
+pub word_inside : (m v : Memory) (word : ℕ) → m ≡ v → IsKept m → word < 8 * nets_of v.setting → word < length m.words
+word_inside m v word is kept h =
+    let own = subst (λ (x : Memory). word < 8 * nets_of x.setting) (sym is) h in
+    let n = kept.words.seen.count in
+    omega (arith, own, n)
+
+pub record IsMoved (m v : Memory) (word number left : ℕ) : Type 0 where
+  pub kept : IsKept (record m { words = set m.words word left })
+  pub publishes : Publishes (knowledge_of v) word number left (knowledge_of (record m { words = set m.words word left }))
+
+pub moved_call : (m v : Memory) (word value number left : ℕ) → m ≡ v → IsKept m → word < 8 * nets_of v.setting → CanPublish (knowledge_of v) word value → number ≡ get_or m.words word number
+    → left ≡ further m.setting.way (word % 2) number value → IsMoved m v word number left
+moved_call m v word value number left is kept h can found at =
+    let inside = word_inside m v word is kept h in
+    let own = subst (λ (x : Memory). CanPublish (knowledge_of x) word value) (sym is) can in
+    let here = read_number m.words word number inside found in
+    let l = knowledge_of (record m { words = set m.words word left }) in
+    record {
+      kept = moved_there m word value number left kept inside own here at;
+      publishes = subst (λ (x : Memory). Publishes (knowledge_of x) word number left l) is (publishes_there m word number left kept here);
+    }

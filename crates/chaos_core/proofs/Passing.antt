@@ -194,6 +194,7 @@ module _ (a : Setting) (lists : List (List NetId)) (order : List ℕ) (before no
       let h : Publishes l word n left m = record {
         found = record { respects = gone.good.words.seen.respects word; past = are_refl a.way (bounds_in now.words) word; alone = λ h. refl };
         made = 0;
+        least = omega arith;
         once = omega arith;
         after = refl;
       } in

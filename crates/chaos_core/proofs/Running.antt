@@ -70,6 +70,7 @@ pub record Running (lists : List (List NetId)) (order : List ℕ) (k l : Knowled
   pub onward : AreNoFurther k.setting.way (bounds_in k.seen) (bounds_in l.seen)
   pub drawn : (n : ℕ) → Contains l.drawn n → n < nets_of k.setting → IsAt t (slice_index order n) ⊎ HasPassed k l (slice_index order n) 8
   pub busy : IsBusy lists k l t
+  pub rose : k.made ≤ l.made
   pub made : l.made + left_of t ≤ k.made + 8 * count_below (nets_of k.setting) l.drawn
   pub late : (IsDone t → ⊥) → 0 < l.late
   pub few : (IsDone t → ⊥) → above l.drawn ≤ nets_of k.setting
@@ -83,6 +84,7 @@ runs_from lists order k none late = record {
   onward = are_refl k.setting.way (bounds_in k.seen);
   drawn = λ n h lt. absurd (empty n (subst (λ xs. Contains xs n) none h));
   busy = tt;
+  rose = omega arith;
   made = omega arith;
   late = λ h. late;
   few = λ h. let P : List ℕ → Type 0 = λ xs. above xs ≤ nets_of k.setting in subst P (sym none) (omega arith);
@@ -102,6 +104,7 @@ ran lists order k l done d r = record {
   onward = r.onward;
   last = r.last tt;
   passed = λ n h lt. elim (r.drawn n h lt) [ inl a ↦ absurd a | inr p ↦ p ];
+  rose = r.rose;
   made = let m = r.made in omega (arith, m);
 }
 
@@ -202,6 +205,7 @@ module _ (lists : List (List NetId)) (order : List ℕ) (k l m : Knowledge) (sou
           | inr e ↦ inl (subst (λ j. IsAt u (slice_index order j)) e b.here)
         ];
         busy = b.busy;
+        rose = r.rose;
         made = omega (arith, made, left, count, one);
         late = λ go. rw tl (r.late (λ h. h));
         few = λ go. omega (arith, more, lt);
@@ -225,6 +229,7 @@ module _ (lists : List (List NetId)) (order : List ℕ) (k l m : Knowledge) (sou
           | inr e ↦ absurd (omega (arith, e, lti, ge))
         ];
         busy = tt;
+        rose = r.rose;
         made = omega (arith, made, count, none);
         late = λ go. absurd (go tt);
         few = λ go. absurd (go tt);
@@ -280,6 +285,7 @@ module _ (lists : List (List NetId)) (order : List ℕ) (k l m : Knowledge) (sou
           | inr p ↦ inr (passed_later on (slice_index order i) 8 p)
         ];
         busy = b.busy;
+        rose = let rose = r.rose in omega (arith, made, rose);
         made = rw drawn (omega (arith, made, was, left));
         late = λ go. let z = r.late (λ h. h) in omega (arith, z, late);
         few = λ go. rw drawn (r.few (λ h. h));
@@ -317,6 +323,7 @@ module _ (lists : List (List NetId)) (order : List ℕ) (k l m : Knowledge) (sou
       let inside : w < length l.seen = let c = fits.seen.count in omega (arith, c, there, most) in
       let on = own_way r.setting (publish_onward l m w value inside (n, h)) in
       let made : m.made ≡ h.made = ap (λ (x : Knowledge). x.made) h.after in
+      let least = h.least in
       let once = h.once in
       let drawn : m.drawn ≡ l.drawn = ap (λ (x : Knowledge). x.drawn) h.after in
       let late : m.late ≡ l.late = ap (λ (x : Knowledge). x.late) h.after in
@@ -338,6 +345,7 @@ module _ (lists : List (List NetId)) (order : List ℕ) (k l m : Knowledge) (sou
           onward = later;
           drawn = λ i has lti. elim (before i has lti) [ inl a ↦ inl a | inr q ↦ inr (passed_later on (slice_index order i) 8 q) ];
           busy = (r.busy.0, passed);
+          rose = let rose = r.rose in omega (arith, made, least, rose);
           made = rw drawn (omega (arith, made, once, was, most));
           late = λ go. let z = r.late (λ h. h) in omega (arith, z, late);
           few = λ go. rw drawn (r.few (λ h. h));
@@ -353,6 +361,7 @@ module _ (lists : List (List NetId)) (order : List ℕ) (k l m : Knowledge) (sou
             | inr q ↦ inr (passed_later on (slice_index order i) 8 q)
           ];
           busy = tt;
+          rose = let rose = r.rose in omega (arith, made, least, rose);
           made = rw drawn (omega (arith, made, once, was, most));
           late = λ go. let z = r.late (λ h. h) in omega (arith, z, late);
           few = λ go. rw drawn (r.few (λ h. h));

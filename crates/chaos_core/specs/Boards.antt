@@ -52,10 +52,11 @@ pub record Loads (k : Knowledge) (word number : ℕ) (l : Knowledge) : Type 0 wh
   pub found : IsFound k word number
   pub after : l ≡ with_seen k word number k.made
 
--- from k to l: a number is found in a word, `left` is left in it and seen, and at most one publication is counted
+-- from k to l: a number is found in a word, `left` is left in it and seen, and one publication or none is counted
 pub record Publishes (k : Knowledge) (word number left : ℕ) (l : Knowledge) : Type 0 where
   pub found : IsFound k word number
   pub made : ℕ
+  pub least : k.made ≤ made
   pub once : made ≤ k.made + 1
   pub after : l ≡ with_seen k word left made
 

@@ -33,4 +33,5 @@ pub record Ran (order : List ℕ) (k l : Knowledge) : Type 0 where
   pub onward : AreNoFurther k.setting.way (bounds_in k.seen) (bounds_in l.seen)
   pub last : (n : ℕ) × Contains l.drawn n × (nets_of k.setting ≤ n)
   pub passed : (n : ℕ) → Contains l.drawn n → n < nets_of k.setting → HasPassed k l (slice_index order n) 8
+  pub rose : k.made ≤ l.made
   pub made : l.made ≤ k.made + 8 * count_below (nets_of k.setting) l.drawn

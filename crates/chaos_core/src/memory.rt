@@ -82,6 +82,7 @@ impl MemoryBoard {
         ensures numbers { IfOk result (λ windows. numbers_of windows ≡ self.now.words) }
         ensures fits { IfOk result
             (λ windows. IsFittingStart self.now.setting.way self.now.setting.design windows) }
+        ensures kept { IsKept self.now }
     {
         let pairs = pairs_of(alloc, self.words())?;
         Ok(Windows::new(pairs))
@@ -89,7 +90,8 @@ impl MemoryBoard {
 
     /// Begins the numbers that are drawn anew.
     pub fn restart(&mut self)
-        ensures { self.new ≡ record self.old { next = 0 } }
+        ensures anew { self.new ≡ record self.old { next = 0 } }
+        ensures kept { IsKept self.new }
     {
         self.next = 0;
     }

@@ -143,7 +143,6 @@ pub(crate) fn round(
     board.restart();
     reset_all(workers);
     let _order = design.order();
-    let _words = board.words();
     'picks: while any_open(workers) {
         pick(board, workers, design, lists, direction, source);
     }

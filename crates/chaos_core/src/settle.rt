@@ -52,7 +52,6 @@ fn settle_on(
     ensures few { IfOk result (λ settled. (bound : ℕ) → IsRoundBound design.now.nets bound → settled.rounds ≤ bound) }
 {
     let _bound = design.bound();
-    let _words = board.words();
     let _order = design.order();
     let mut source = Source::new(number);
     let mut windows = board.windows(alloc)?;

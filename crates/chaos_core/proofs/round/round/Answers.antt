@@ -13,12 +13,12 @@ picks-init c =
     let n = length c.args.workers.now in
     let source = c.args.source.now.state in
     let idles = c.reset_all.ensures.idle in
-    let next : b.next ≡ 0 = ap (λ (m : Memory). m.next) c.restart.ensures in
+    let next : b.next ≡ 0 = ap (λ (m : Memory). m.next) c.restart.ensures.anew in
     let play : play_at source b ws ≡ record { source = source; state = begun n c.args.board.now.words } =
-    subst (λ xs. play_at source b ws ≡ record { source = source; state = begun n xs }) (ap (λ (m : Memory). m.words) c.restart.ensures) (idle_play ws n idles source b next) in
+    subst (λ xs. play_at source b ws ≡ record { source = source; state = begun n xs }) (ap (λ (m : Memory). m.words) c.restart.ensures.anew) (idle_play ws n idles source b next) in
     record {
       count = c.reset_all.auto.workers;
-      setting = ap (λ (m : Memory). m.setting) c.restart.ensures;
+      setting = ap (λ (m : Memory). m.setting) c.restart.ensures.anew;
       path = λ order o. (0, play);
       fits = idle_fits ws n idles (knowledge_of b) c.args.lists.now (c.reset_all.ensures.rooms c.args.lists.now c.requires.rooms);
       late = idle_few ws n idles (knowledge_of b) (omega (arith, next, c.requires.few));
@@ -33,7 +33,7 @@ picks-smaller c =
     let path = inv.path order o in
     let p = play_at c.picks.source.state c.picks.board c.picks.workers in
     let q = play_at c.pick.new.source.state c.pick.new.board c.pick.new.workers in
-    let kept = (subst IsKept c.restart.ensures c.words-words.ensures.kept).words in
+    let kept = (subst IsKept c.restart.ensures.anew c.restart.ensures.kept).words in
     let pick : IsPick a c.args.lists.now order p q = subst (λ (x : Setting). IsPick x c.args.lists.now order p q) inv.setting (c.pick.ensures.pick order o) in
     pick_nearer a c.args.design.now c.args.lists.now order c.args.board.now.words (length c.args.workers.now) c.args.source.now.state p c.requires.design c.requires.lists o kept path.0 path.1 q pick
 

@@ -76,7 +76,7 @@ returns-clause-few c = λ bound b.
     let begin : Pause = record { source = c.args.number; words = c.args.board.now.words } in
     let end = pause_at c.rounds.source.state c.rounds.board in
     few_here c.args.board.now.setting c.args.design.now c.args.lists.now order (length c.args.workers.now) c.rounds.rounds bound begin end c.requires.design c.requires.some c.requires.lists o
-    c.words-words.ensures.kept.words (c.rounds.invariant.path order o) b
+    c.in_ok-windows.ensures.kept.words (c.rounds.invariant.path order o) b
 
 pub overflow_add-rounds : goal.overflow_add-rounds
 overflow_add-rounds c =
@@ -93,6 +93,6 @@ overflow_add-rounds c =
     let round = rounds_here a c.rounds.board.setting lists order (length c.rounds.workers) n p q inv.setting inv.count (c.round.ensures.round order o) in
     let longer = one_more a d lists order n c.rounds.rounds begin p q c.rounds.windows c.requires.design inv.fits.windows.in_range inv.numbers (λ h. both_ways c.closed.result c.rounds-test.true (c.closed.ensures.1 h))
     (inv.path order o) round in
-    let few = few_here a d lists order n (c.rounds.rounds + 1) c.bound-bound.result begin q c.requires.design c.requires.some c.requires.lists o c.words-words.ensures.kept.words longer c.bound-bound.ensures in
+    let few = few_here a d lists order n (c.rounds.rounds + 1) c.bound-bound.result begin q c.requires.design c.requires.some c.requires.lists o c.in_ok-windows.ensures.kept.words longer c.bound-bound.ensures in
     let most = c.bound-bound.type_inv in
     omega (arith, few, most)

@@ -1,50 +1,31 @@
-use Rattle.std.proofs.Common.{◌*◌, ◌%◌, ◌<◌, ◌∙◌, sym, subst, length, set, arith}
+use Rattle.std.proofs.Common.{◌≡◌, ℕ, ◌%◌, ◌∙◌, sym, subst, length, set}
 use Rattle.std.specs.Prelude.{max}
 use Rattle.xt_meaning.specs.Words.{MovesUp}
-use Rattle.chaos_core.specs.Boards.{nets_of, CanPublish, Publishes}
+use Rattle.chaos_core.specs.Boards.{Publishes}
 use Rattle.chaos_core.specs.Memories.{Memory, knowledge_of}
 use Rattle.chaos_core.proofs.Sight.{further_up}
-use Rattle.chaos_core.proofs.Kept.{memory_at, read_number, moved_there, publishes_there}
+use Rattle.chaos_core.proofs.Kept.{IsMoved, memory_at, moved_call}
 use Rattle.chaos_core.proofs.memory.MemoryBoardBoard.raise.Goals as goal
 
-pub invariant_of-self : goal.invariant_of-self
-invariant_of-self c =
+-- what the code leaves
+moved : (c : goal.After-self-1) → IsMoved (memory_at c.self.inside.design.value c.self.inside.way c.self.inside.start.value c.self.inside.words.items c.self.inside.next) c.args.self.now c.args.word
+    c.index-before.result.now c.max.result
+moved c =
     let i = c.self.inside in
     let m : Memory = memory_at i.design.value i.way i.start.value i.words.items i.next in
-    let inside : c.args.word < length i.words.items =
-    let h = subst (λ (v : Memory). c.args.word < 8 * nets_of v.setting) (sym c.self.view_is) c.requires.word in
-    let n = c.self.invariant.words.seen.count in
-    omega (arith, h, n) in
-    let can = subst (λ (v : Memory). CanPublish (knowledge_of v) c.args.word c.args.value) (sym c.self.view_is) c.requires.value in
     let side = subst (λ (v : Memory). MovesUp v.setting.way (c.args.word % 2)) (sym c.self.view_is) c.requires.way in
-    let at = read_number i.words.items c.args.word c.index-before.result.now inside c.index-before.ensures in
-    moved_there m c.args.word c.args.value c.index-before.result.now c.max.result c.self.invariant inside can at
+    moved_call m c.args.self.now c.args.word c.args.value c.index-before.result.now c.max.result c.self.view_is c.self.invariant c.requires.word c.requires.value c.index-before.ensures
     (c.max.ensures ∙ sym (further_up i.way (c.args.word % 2) c.index-before.result.now c.args.value side))
 
+pub invariant_of-self : goal.invariant_of-self
+invariant_of-self c = (moved c).kept
+
 pub returns-clause-seen : goal.returns-clause-seen
-returns-clause-seen c =
-    let i = c.self.inside in
-    let m : Memory = memory_at i.design.value i.way i.start.value i.words.items i.next in
-    let inside : c.args.word < length i.words.items =
-    let h = subst (λ (v : Memory). c.args.word < 8 * nets_of v.setting) (sym c.self.view_is) c.requires.word in
-    let n = c.self.invariant.words.seen.count in
-    omega (arith, h, n) in
-    let can = subst (λ (v : Memory). CanPublish (knowledge_of v) c.args.word c.args.value) (sym c.self.view_is) c.requires.value in
-    let side = subst (λ (v : Memory). MovesUp v.setting.way (c.args.word % 2)) (sym c.self.view_is) c.requires.way in
-    let at = read_number i.words.items c.args.word c.index-before.result.now inside c.index-before.ensures in
-    (moved_there m c.args.word c.args.value c.index-before.result.now c.max.result c.self.invariant inside can at
-    (c.max.ensures ∙ sym (further_up i.way (c.args.word % 2) c.index-before.result.now c.args.value side))).words.seen
+returns-clause-seen c = (moved c).kept.words.seen
 
 pub returns-clause-publishes : goal.returns-clause-publishes
 returns-clause-publishes c =
     let i = c.self.inside in
     let m : Memory = memory_at i.design.value i.way i.start.value i.words.items i.next in
-    let inside : c.args.word < length i.words.items =
-    let h = subst (λ (v : Memory). c.args.word < 8 * nets_of v.setting) (sym c.self.view_is) c.requires.word in
-    let n = c.self.invariant.words.seen.count in
-    omega (arith, h, n) in
-    let at = read_number i.words.items c.args.word c.index-before.result.now inside c.index-before.ensures in
     let l = knowledge_of (record m { words = set m.words c.args.word c.max.result }) in
-    let one = publishes_there m c.args.word c.index-before.result.now c.max.result c.self.invariant at in
-    let two = subst (λ x. Publishes (knowledge_of m) c.args.word c.index-before.result.now x l) c.max.ensures one in
-    subst (λ (v : Memory). Publishes (knowledge_of v) c.args.word c.index-before.result.now (max c.index-before.result.now c.args.value) l) c.self.view_is two
+    subst (λ x. Publishes (knowledge_of c.args.self.now) c.args.word c.index-before.result.now x l) c.max.ensures (moved c).publishes
