@@ -1,0 +1,27 @@
+use Rattle.std.proofs.Common.{rules, ◌*◌, ◌%◌, ◌<◌, sym, subst}
+use Rattle.std.specs.Prelude.{max}
+use Rattle.xt_meaning.specs.Words.{MovesUp}
+use Rattle.chaos_core.specs.Boards.{nets_of, CanPublish}
+use Rattle.window_words.specs.Boards.{Holding, knowledge_of, setting_of}
+use Rattle.window_words.proofs.Calls.{raises}
+use Rattle.window_words.proofs.Holding.{held_published, in_table}
+use Rattle.window_words.proofs.board.SharedBoard.raise.Goals as goal
+
+pub fetch_max-requires : goal.fetch_max-requires
+fetch_max-requires c =
+    let seat = c.pass.inside.seat in
+    let table = c.self.inside.table.shared in
+    let word = c.args.word in
+    let inside : word < 8 * nets_of seat.me.0.setting = subst (λ (h : Holding). word < 8 * nets_of h.view.setting) (sym c.pass.view_is) c.requires.word in
+    let side = subst (λ (h : Holding). MovesUp h.view.setting.way (word % 2)) (sym c.pass.view_is) c.requires.way in
+    let can = subst (λ (h : Holding). CanPublish (knowledge_of h) word c.args.value) (sym c.pass.view_is) c.requires.value in (
+      search rules,
+      in_table seat.table_id table.table_id seat.me.0.setting word (search rules) c.pass.invariant.sized inside,
+      raises (setting_of table.key) table.table_id.slots seat.id word seat.me c.args.value c.pass.invariant.unspent inside side can,
+    )
+
+pub invariant_of-pass : goal.invariant_of-pass
+invariant_of-pass c =
+    let before = c.pass.inside.seat in
+    let after = c.fetch_max.new.seat in
+    held_published before.table_id after.table_id before.me after.me c.args.word c.fetch_max.result (max c.fetch_max.result c.args.value) c.pass.invariant c.fetch_max.ensures.0 c.fetch_max.ensures.2.0 c.fetch_max.ensures.2.1
