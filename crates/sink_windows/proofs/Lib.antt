@@ -1,0 +1,2 @@
+pub mod Victims
+mod Windows

@@ -1,0 +1,5 @@
+mod Against
+mod Placed
+mod Points
+mod Turns
+mod Worsts

@@ -1,0 +1,4 @@
+pub mod Points
+pub mod Checks
+pub mod Slacks
+pub mod Kinds
