@@ -1,0 +1,14 @@
+use Rattle.std.proofs.Common.{length, arith, ap, ◌≡◌}
+use Rattle.aggressor_report.proofs.Picked.{nets_turn, nets_end}
+use Rattle.aggressor_report.proofs.entries.guilty_entries.Goals as goal
+
+pub loop-number-preserved : goal.loop-number-preserved
+loop-number-preserved c =
+    let count : length c.nets-number-end.result.now ≡ length c.args.design.now.nets = ap length c.nets-number-end.ensures.value in
+    nets_turn c.args.design.now c.args.low.now c.args.high.now _ _ _ _ _
+    (omega (arith, count, c.loop-number-test.true)) c.in_ok-push_edge.ensures c.in_ok-push_edge-2.ensures c.loop-number.invariant
+
+pub returns : goal.returns
+returns c =
+    let count : length c.nets-number-end.result.now ≡ length c.args.design.now.nets = ap length c.nets-number-end.ensures.value in
+    nets_end c.args.design.now c.args.low.now c.args.high.now c.loop-number.number _ _ (omega (arith, count, c.loop-number-test.false)) c.loop-number.invariant

@@ -1,0 +1,4 @@
+pub mod Entries
+pub mod Guilt
+pub mod Passages
+pub mod Paths

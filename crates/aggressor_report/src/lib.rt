@@ -1,0 +1,18 @@
+//! Which aggressors can change the delay of which edges of nets, and through which nets a window gets its latest or its
+//! earliest time. Times are in fs.
+#![tactic(auto)]
+
+mod entries;
+mod guilt;
+mod mark;
+mod passage;
+mod path;
+mod step;
+mod walk;
+mod window;
+
+pub use entries::guilty;
+pub use guilt::Guilt;
+pub use mark::Mark;
+pub use path::{Path, PathStep};
+pub use walk::worst_path;
