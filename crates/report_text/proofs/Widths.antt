@@ -14,8 +14,8 @@ use Rattle.report_text.specs.Pieces.{switching}
 use Rattle.text_lines.specs.Lines.{Line, line_text, text_of}
 use Rattle.xt_number.specs.Thousandths.{thousandths}
 use Rattle.report_text.specs.Fields.{field}
-use Rattle.report_text.proofs.Lines.{turn, turns_end, some_within}
-use Rattle.report_text.proofs.Picked.{picked_next}
+use Rattle.aggressor_report.proofs.Turns.{turn, turns_end, some_within}
+use Rattle.aggressor_report.proofs.Turns.{picked_next}
 
 -- ---- sums of widths
 total_width_push : (qs : List Quad) (q : Quad) → total_width (qs ++ q ∷ []) ≡ total_width qs +ℤ (q.thi -ℤ q.tlo)

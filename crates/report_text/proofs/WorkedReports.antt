@@ -1,19 +1,29 @@
--- The reports of two small designs, one of them with other Miller numbers too, written out by hand.
-use Rattle.std.specs.Prelude.{◌≡◌, refl, ℕ, true, false, List, [], ◌∷◌, ◌++◌, codes, pos}
+-- The reports of three small designs, one of them with other Miller numbers too and one with checks, written out by hand.
+use Rattle.std.specs.Prelude.{◌≡◌, refl, ℕ, true, false, List, [], ◌∷◌, ◌++◌, codes, ℤ, pos, Some, None}
 use Rattle.std.specs.Fmt.{digits}
 use Rattle.std.specs.List.{flat_map}
 use Rattle.xt_model.specs.declared.quad.Pair.{Pair}
 use Rattle.xt_model.specs.Parts.{Parts}
-use Rattle.xt_model.proofs.WorkedDesigns.{cross, cross_windows, load_pair, pair_low, pair_high, pair_windows, quad}
+use Rattle.xt_model.specs.declared.edge.Edge.TheVariants.{Rise}
+use Rattle.xt_model.specs.declared.check.CheckPoint.TheVariants.{Port}
+use Rattle.xt_model.specs.Miller.{classical}
+use Rattle.xt_model.proofs.WorkedDesigns.{cross, cross_windows, load_pair, on_rise, pair_low, pair_high, pair_windows, quad, source}
+use Rattle.slack_report.specs.Slacks.{slacks}
 use Rattle.xt_number.specs.Thousandths.{thousandths}
 use Rattle.text_lines.specs.Lines.{text_of}
+use Rattle.report_text.specs.declared.checked.Checked.{Checked}
+use Rattle.report_text.specs.declared.worst.WorstPath.{WorstPath}
 use Rattle.report_text.specs.Report.{report}
+
+-- no checks
+abbrev unchecked : Checked
+unchecked = record { slacks = []; setup = None; hold = None }
 
 -- lines of plain text
 abbrev lines : List (List ℕ) → List ℕ
 lines ls = flat_map (λ l. l ++ 10 ∷ []) ls
 
-cross_report : text_of (report false cross 2 2 (cross_windows (pos 1700)) (cross_windows (pos 1500))) ≡ lines (
+cross_report : text_of (report false cross 2 2 (cross_windows (pos 1700)) (cross_windows (pos 1500)) unchecked) ≡ lines (
     (codes "xtalk 1") ∷
     (codes "nets 4 couplings 2 pairs 2 levels 2 bound 18") ∷
     (codes "period none") ∷
@@ -31,7 +41,7 @@ cross_report : text_of (report false cross 2 2 (cross_windows (pos 1700)) (cross
 unfolding thousandths digits
 cross_report = refl
 
-pair_report : text_of (report false (load_pair (pos 100)) 1 2 pair_low pair_high) ≡ lines (
+pair_report : text_of (report false (load_pair (pos 100)) 1 2 pair_low pair_high unchecked) ≡ lines (
     (codes "xtalk 1") ∷
     (codes "nets 4 couplings 2 pairs 1 levels 2 bound 10") ∷
     (codes "period none") ∷
@@ -57,7 +67,7 @@ thrice = record (load_pair (pos 100)) { miller = record { low = 0; mid = 4; high
 abbrev thrice_high : List Pair
 thrice_high = pair_windows (pos 100) (quad (pos 1000) (pos 1400) (pos 0) (pos 0)) (quad (pos 1100) (pos 1500) (pos 0) (pos 0))
 
-thrice_report : text_of (report false thrice 1 2 pair_low thrice_high) ≡ lines (
+thrice_report : text_of (report false thrice 1 2 pair_low thrice_high unchecked) ≡ lines (
     (codes "xtalk 1") ∷
     (codes "nets 4 couplings 2 pairs 1 levels 2 bound 10") ∷
     (codes "period none") ∷
@@ -76,7 +86,7 @@ thrice_report : text_of (report false thrice 1 2 pair_low thrice_high) ≡ lines
 unfolding thousandths digits
 thrice_report = refl
 
-thrice_checks : text_of (report true thrice 1 2 pair_low thrice_high) ≡ lines (
+thrice_checks : text_of (report true thrice 1 2 pair_low thrice_high unchecked) ≡ lines (
     (codes "xtalk 1") ∷
     (codes "nets 4 couplings 2 pairs 1 levels 2 bound 10") ∷
     (codes "period none") ∷
@@ -84,3 +94,54 @@ thrice_checks : text_of (report true thrice 1 2 pair_low thrice_high) ≡ lines 
     (codes "end") ∷ [])
 unfolding thousandths digits
 thrice_checks = refl
+
+-- ---- checks at a port behind 2 fs of wire, with a period of 10,000 fs
+
+abbrev ports : Parts
+ports = record {
+  period = Some (pos 10000);
+  tables = [];
+  nets = source (codes "a") (on_rise (quad (pos 1000) (pos 1200) (pos 0) (pos 0))) [] ((record { name = codes "y"; base = pos 2000000; coefs = [] }) ∷ []) ∷ [];
+  checks = Port (codes "y") false (record { 0 = 0 }) 0 (Some (pos 500)) None
+      ∷ Port (codes "y") true (record { 0 = 0 }) 0 (Some (pos 100)) (Some (pos 100))
+      ∷ [];
+  miller = classical;
+}
+
+abbrev port_windows : List Pair
+port_windows = on_rise (quad (pos 1000) (pos 1200) (pos 0) (pos 0)) ∷ []
+
+-- the check of the rise, which has this slack in both windows, and its path from this time on
+abbrev port_path : ℕ → ℤ → ℤ → WorstPath
+port_path point slack time = record {
+  slack = record { point = point; edge = Rise; idle = false; greatest = slack; least = slack };
+  path = record { net = record { 0 = 0 }; edge = Rise; time = time; steps = [] };
+  wire = pos 2;
+}
+
+-- setup: 10,000 - 500 - (1,200 + 2); hold: (1,000 + 2) + 100
+abbrev port_checks : Checked
+port_checks = record {
+  slacks = slacks ports port_windows port_windows;
+  setup = Some (port_path 0 (pos 8298) (pos 1200));
+  hold = Some (port_path 1 (pos 1102) (pos 1000));
+}
+
+port_report : text_of (report false ports 0 1 port_windows port_windows port_checks) ≡ lines (
+    (codes "xtalk 1") ∷
+    (codes "nets 1 couplings 0 pairs 0 levels 1 bound 1") ∷
+    (codes "period 10.000") ∷
+    (codes "net a rise least 1.000 1.200 0.000 0.000 greatest 1.000 1.200 0.000 0.000") ∷
+    (codes "net a fall quiet") ∷
+    (codes "check y rise setup 8.298 8.298") ∷
+    (codes "check y rise hold 1.102 1.102") ∷
+    (codes "check y fall hold idle") ∷
+    (codes "path setup y rise 8.298") ∷
+    (codes "from a rise 1.200") ∷
+    (codes "to wire 0.002") ∷
+    (codes "path hold y rise 1.102") ∷
+    (codes "from a rise 1.000") ∷
+    (codes "to wire 0.002") ∷
+    (codes "end") ∷ [])
+unfolding thousandths digits
+port_report = refl

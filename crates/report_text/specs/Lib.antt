@@ -1,4 +1,7 @@
-pub mod Guilt
+pub mod Names
+pub mod Checks
+pub mod Worst
+pub mod Paths
 pub mod Report
 pub mod Fields
 pub mod Kinds

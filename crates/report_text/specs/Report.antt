@@ -1,10 +1,8 @@
--- The report of a design and its least and greatest windows. Designs with checks have further lines, which
--- are still to come.
+-- The report of a design and its least and greatest windows.
 use Rattle.std.specs.Prelude.{◌≡◌, ℕ, ◌+◌, Bool, ◌&&◌, if◌then◌else◌, not, ℤ, Option, Some, None}
 use Rattle.std.specs.Prelude.{List, [], ◌∷◌, ◌++◌, length, map, codes}
 use Rattle.std.specs.Fmt.{decimal}
-use Rattle.std.specs.List.{slice_get, sum_by}
-use Rattle.std.specs.Option.{option_and_then}
+use Rattle.std.specs.List.{sum_by}
 use Rattle.xt_model.specs.declared.edge.Edge.{Edge}
 use Rattle.xt_model.specs.declared.edge.Edge.TheVariants.{Rise, Fall}
 use Rattle.xt_model.specs.declared.quad.Quad.{Quad}
@@ -19,10 +17,15 @@ use Rattle.xt_model.specs.Assign.{assigned}
 use Rattle.xt_meaning.specs.Fixpoint.{IsLeastFixpoint, IsGreatestFixpoint}
 use Rattle.text_lines.specs.Lines.{Line, text_of, edge_word}
 use Rattle.xt_number.specs.Thousandths.{thousandths}
-use Rattle.report_text.specs.declared.mark.Mark.{Mark}
-use Rattle.report_text.specs.declared.mark.Mark.TheVariants.{No, Possible, Sure}
-use Rattle.report_text.specs.declared.guilt.Guilt.{Guilt}
-use Rattle.report_text.specs.Guilt.{guilty}
+use Rattle.aggressor_report.specs.declared.mark.Mark.{Mark}
+use Rattle.aggressor_report.specs.declared.mark.Mark.TheVariants.{No, Possible, Sure}
+use Rattle.aggressor_report.specs.declared.guilt.Guilt.{Guilt}
+use Rattle.aggressor_report.specs.Guilt.{coupling_of, guilty}
+use Rattle.report_text.specs.declared.checked.Checked.{Checked}
+use Rattle.report_text.specs.Names.{name_at}
+use Rattle.report_text.specs.Checks.{check_lines}
+use Rattle.report_text.specs.Worst.{IsChecked}
+use Rattle.report_text.specs.Paths.{worst_lines}
 
 abbrev pub title_line : Line
 title_line = codes "xtalk" ∷ codes "1" ∷ []
@@ -80,17 +83,6 @@ mark_word No = codes "no"
 mark_word Possible = codes "possible"
 mark_word Sure = codes "sure"
 
-abbrev pub name_or_nothing : Option Net → List ℕ
-name_or_nothing None = []
-name_or_nothing (Some n) = n.name
-
-abbrev pub name_at : Parts → ℕ → List ℕ
-name_at d n = name_or_nothing (slice_get d.nets n)
-
--- the coupling of an entry, by its number in the victim's list
-abbrev pub coupling_of : Parts → Guilt → Option Coupling
-coupling_of d g = option_and_then (λ victim. slice_get victim.couplings g.coupling) (slice_get d.nets g.victim.0)
-
 -- capacitances are printed in femtofarads
 abbrev pub coupling_line : Parts → Guilt → Option Coupling → Line
 coupling_line d g None = []
@@ -106,23 +98,34 @@ guilty_line d g = coupling_line d g (coupling_of d g)
 abbrev pub unless_checks : Bool → List Line → List Line
 unless_checks checks lines = if checks then [] else lines
 
--- the lines of a report on a design without checks; one of the checks alone has no windows and no couplings
-abbrev pub report : Bool → Parts → ℕ → ℕ → List Pair → List Pair → List Line
-report checks d pairs depth low high =
+-- the lines on checks, and on the worst of each kind
+abbrev pub checked_lines : Parts → Checked → List Line
+checked_lines d c = check_lines d c.slacks ++ (worst_lines d c.setup ++ worst_lines d c.hold)
+
+-- the lines of a report; one of the checks alone has no windows and no couplings
+abbrev pub report : Bool → Parts → ℕ → ℕ → List Pair → List Pair → Checked → List Line
+report checks d pairs depth low high checked =
     title_line ∷ size_line d pairs depth ∷ clock_line d
     ∷ (miller_lines d.miller
     ++ (unless_checks checks (window_lines low high 0 d.nets)
     ++ (unconstrained_lines d.nets
-    ++ (unless_checks checks (map (guilty_line d) (guilty d low high)) ++ ((codes "end" ∷ []) ∷ [])))))
+    ++ (unless_checks checks (map (guilty_line d) (guilty d low high))
+    ++ (checked_lines d checked ++ ((codes "end" ∷ []) ∷ []))))))
 
--- the text is the report of the design's least and greatest fixpoint, whole or of the checks alone
-pub record IsReport (checks : Bool) (d : Parts) (text : List ℕ) : Type 0 where
+-- the text is the report of a design and these least and greatest windows, whole or of the checks alone
+pub record IsReportOf (checks : Bool) (d : Parts) (low high : List Pair) (text : List ℕ) : Type 0 where
   pub pairs : ℕ
   pub depth : ℕ
-  pub low : List Pair
-  pub high : List Pair
+  pub checked : Checked
   pub is_pairs : IsPairCount d.nets pairs
   pub is_depth : IsDepth d.nets depth
+  pub is_checked : IsChecked d low high checked
+  pub written : text ≡ text_of (report checks d pairs depth low high checked)
+
+-- the text is the report of the design's least and greatest fixpoint
+pub record IsReport (checks : Bool) (d : Parts) (text : List ℕ) : Type 0 where
+  pub low : List Pair
+  pub high : List Pair
   pub is_least : IsLeastFixpoint d low
   pub is_greatest : IsGreatestFixpoint d high
-  pub written : text ≡ text_of (report checks d pairs depth low high)
+  pub written : IsReportOf checks d low high text

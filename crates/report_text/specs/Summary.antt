@@ -17,7 +17,7 @@ use Rattle.xt_meaning.specs.Fixpoint.{IsLeastFixpoint, IsGreatestFixpoint}
 use Rattle.text_lines.specs.Lines.{Line, text_of}
 use Rattle.xt_number.specs.Thousandths.{thousandths}
 use Rattle.report_text.specs.declared.edge_windows.EdgeWindows.{EdgeWindows}
-use Rattle.report_text.specs.Guilt.{guilty}
+use Rattle.aggressor_report.specs.Guilt.{guilty}
 use Rattle.report_text.specs.Report.{size_line}
 
 -- the two windows of an edge of a net

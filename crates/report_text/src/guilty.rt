@@ -1,17 +1,27 @@
 //! The lines on couplings that can change a victim's delay.
 
 ghost use Rattle.std.specs.Prelude.{◌≡◌, ◌++◌, ◌<◌, length, map, Some, IsSome, OnOk};
-ghost use Rattle.std.specs.List.{slice_get};
+ghost use Rattle.std.specs.List.{All};
 ghost use Rattle.text_lines.specs.Lines.{line_text, text_of};
-ghost use Rattle.report_text.specs.Guilt.{guilty};
-ghost use Rattle.report_text.specs.Report.{coupling_of, guilty_line};
-ghost use Rattle.report_text.specs.Pieces.{entry_text, edge_text};
+ghost use Rattle.aggressor_report.specs.Guilt.{coupling_of, guilty};
+ghost use Rattle.report_text.specs.Report.{guilty_line, mark_word};
 
 use crate::fields::{push_cap, push_word};
-use crate::guilt::Guilt;
-use std::alloc::AllocError;
+use aggressor_report::{Guilt, Mark, guilty};
+use std::alloc::{AllocError, Global};
 use text_lines::edge_word;
-use xt_model::{Coupling, Design, Edge, NetId, Windows};
+use xt_model::{Coupling, Design, Windows};
+
+/// The word of a mark.
+fn mark_word(mark: Mark) -> &'static [u8]
+    ensures { result.now ≡ mark_word mark }
+{
+    match mark {
+        Mark::No => b"no",
+        Mark::Possible => b"possible",
+        Mark::Sure => b"sure",
+    }
+}
 
 /// The coupling that an entry is of.
 fn coupling<'a>(design: &'a Design, entry: &Guilt) -> &'a Coupling
@@ -37,43 +47,19 @@ fn push_line(out: &mut Vec<u8>, design: &Design, entry: &Guilt) -> Result<(), Al
     push_word(out, aggressor.name.bytes(), b' ')?;
     push_cap(out, coupling.cap, b' ')?;
     push_word(out, b"fast", b' ')?;
-    push_word(out, entry.fast.word(), b' ')?;
+    push_word(out, mark_word(entry.fast), b' ')?;
     push_word(out, b"slow", b' ')?;
-    push_word(out, entry.slow.word(), b'\n')?;
+    push_word(out, mark_word(entry.slow), b'\n')?;
     Ok(())
 }
 
-/// Appends the line of an entry whose aggressor can do something, and nothing for another.
-fn push_entry(out: &mut Vec<u8>, design: &Design, entry: &Guilt) -> Result<(), AllocError>
-    requires { IsSome (coupling_of design.now entry.now) }
-    ensures { OnOk result (out.new.items ≡ out.old.items ++ entry_text design.now entry.now) }
+/// Appends the lines of entries.
+fn push_lines(out: &mut Vec<u8>, design: &Design, entries: &[Guilt]) -> Result<(), AllocError>
+    requires { All (λ g. IsSome (coupling_of design.now g)) entries.now }
+    ensures { OnOk result (out.new.items ≡ out.old.items ++ text_of (map (guilty_line design.now) entries.now)) }
 {
-    if !entry.is_guilty() {
-        return Ok(());
-    }
-    push_line(out, design, entry)
-}
-
-/// Appends the lines of an edge of a net.
-fn push_edge(
-    out: &mut Vec<u8>,
-    design: &Design,
-    low: &Windows,
-    high: &Windows,
-    victim: NetId,
-    edge: Edge,
-) -> Result<(), AllocError>
-    requires low { length low.now ≡ length design.now.nets }
-    requires high { length high.now ≡ length design.now.nets }
-    requires victim { victim.0 < length design.now.nets }
-    ensures { let net = slice_get design.now.nets victim.0 in
-        OnOk result (out.new.items ≡ out.old.items ++ edge_text design.now low.now high.now victim edge net) }
-{
-    let net = &design.nets()[victim.0 as usize];
-    let couplings = net.couplings.as_slice();
-    for (number, coupling) in couplings.iter().enumerate() {
-        let entry = Guilt::new(design, low, high, victim, edge, number as u32, coupling);
-        push_entry(out, design, &entry)?;
+    for entry in entries {
+        push_line(out, design, entry)?;
     }
     Ok(())
 }
@@ -81,6 +67,7 @@ fn push_edge(
 /// Appends a line for each edge of a net and coupling of it that can change the edge's delay.
 pub fn push_guilty(
     out: &mut Vec<u8>,
+    alloc: Global,
     design: &Design,
     low: &Windows,
     high: &Windows,
@@ -90,10 +77,8 @@ pub fn push_guilty(
     ensures { let entries = guilty design.now low.now high.now in
         OnOk result (out.new.items ≡ out.old.items ++ text_of (map (guilty_line design.now) entries)) }
 {
-    for number in 0..design.nets().len() {
-        let victim = NetId(number as u32);
-        push_edge(out, design, low, high, victim, Edge::Rise)?;
-        push_edge(out, design, low, high, victim, Edge::Fall)?;
-    }
-    Ok(())
+    let Ok(entries) = guilty(alloc, design, low, high) else {
+        return Err(AllocError);
+    };
+    push_lines(out, design, &entries)
 }

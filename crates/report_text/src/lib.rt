@@ -1,22 +1,21 @@
 //! The text report of a design and its least and greatest windows.
 #![tactic(auto)]
 
+mod checked;
+mod checks;
 mod edge_windows;
-mod entries;
 mod fields;
-mod guilt;
 mod guilty;
 mod kind;
-mod mark;
+mod paths;
+mod points;
 mod report;
 mod size;
 mod summary;
 mod unconstrained;
 mod windows;
+mod worst;
 
 pub use kind::ReportKind;
 pub use report::write_report;
 pub use summary::write_summary;
-
-#[cfg(test)]
-mod tests;

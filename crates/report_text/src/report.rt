@@ -1,10 +1,18 @@
-ghost use Rattle.std.specs.Prelude.{◌≡◌, ◌++◌, ℕ, [], length, map, OnOk, IfOk};
+//! The report of a design.
+
+ghost use Rattle.std.specs.Prelude.{◌≡◌, ◌++◌, ℕ, length, map, OnOk, IfOk};
+ghost use Rattle.xt_model.specs.declared.edge.Edge.{Edge};
+ghost use Rattle.xt_model.specs.Assign.{assigned};
 ghost use Rattle.xt_model.specs.Levels.{IsDepth, IsPairCount};
+ghost use Rattle.xt_meaning.specs.Barrier.{IsWithinEnvelope};
+ghost use Rattle.xt_meaning.specs.Operator.{step};
 ghost use Rattle.text_lines.specs.Lines.{text_of};
-ghost use Rattle.report_text.specs.Guilt.{guilty};
-ghost use Rattle.report_text.specs.Report.{guilty_line, report, unless_checks, window_lines};
+ghost use Rattle.aggressor_report.specs.Guilt.{guilty};
+ghost use Rattle.report_text.specs.Paths.{AreOfDesign};
+ghost use Rattle.report_text.specs.Report.{IsReportOf, guilty_line, report, unless_checks, window_lines};
 ghost use Rattle.report_text.specs.Kinds.{of_checks};
 
+use crate::checked::{Checked, push_checked};
 use crate::fields::push_word;
 use crate::guilty::push_guilty;
 use crate::kind::ReportKind;
@@ -36,6 +44,7 @@ fn push_windows_of(
 /// Appends the lines on couplings, unless the report is of the checks alone.
 fn push_guilty_of(
     out: &mut Vec<u8>,
+    alloc: Global,
     kind: ReportKind,
     design: &Design,
     low: &Windows,
@@ -50,24 +59,27 @@ fn push_guilty_of(
     if kind.is_of_checks() {
         return Ok(());
     }
-    push_guilty(out, design, low, high)
+    push_guilty(out, alloc, design, low, high)
 }
 
 /// Appends all lines: `pairs` of coupled nets, and `levels`.
 fn push_report(
     out: &mut Vec<u8>,
+    alloc: Global,
     design: &Design,
     pairs: u64,
     levels: u32,
     low: &Windows,
     high: &Windows,
+    checked: &Checked,
     kind: ReportKind,
 ) -> Result<(), AllocError>
     requires pairs { IsPairCount design.now.nets pairs }
     requires levels { IsDepth design.now.nets levels }
     requires low { length low.now ≡ length design.now.nets }
     requires high { length high.now ≡ length design.now.nets }
-    ensures { let lines = report (of_checks kind) design.now pairs levels low.now high.now in
+    requires checked { AreOfDesign design.now checked.now }
+    ensures { let lines = report (of_checks kind) design.now pairs levels low.now high.now checked.now in
         OnOk result (out.new.items ≡ out.old.items ++ text_of lines) }
 {
     push_title(out)?;
@@ -76,14 +88,15 @@ fn push_report(
     push_miller(out, &design.miller())?;
     push_windows_of(out, kind, design, low, high)?;
     push_unconstrained(out, design.nets())?;
-    push_guilty_of(out, kind, design, low, high)?;
+    push_guilty_of(out, alloc, kind, design, low, high)?;
+    push_checked(out, design, checked)?;
     push_word(out, b"end", b'\n')?;
     Ok(())
 }
 
-/// The report of a design without checks and of its least and greatest windows, one pair a net, as
-/// text in lines, with the lines that its kind is to have. Takes time in proportion to the nets, the
-/// couplings and the bytes.
+/// The report of a design and of its least and greatest windows, one pair a net, as text in lines, with the lines that
+/// its kind is to have. Takes time in proportion to the nets, the couplings, the arcs, the checks with the couplings of
+/// the nets that they look at, and the bytes. Fails only for want of memory.
 pub fn write_report(
     alloc: Global,
     design: &Design,
@@ -91,16 +104,19 @@ pub fn write_report(
     high: &Windows,
     kind: ReportKind,
 ) -> Result<Vec<u8>, NoMemory>
-    requires low { length low.now ≡ length design.now.nets }
-    requires high { length high.now ≡ length design.now.nets }
-    requires no_checks { design.now.checks ≡ [] }
-    ensures { IfOk result (λ text. (pairs : ℕ) × (depth : ℕ)
-        × IsPairCount design.now.nets pairs × IsDepth design.now.nets depth
-        × (text.items ≡ text_of (report (of_checks kind) design.now pairs depth low.now high.now))) }
+    requires low_count { length low.now ≡ length design.now.nets }
+    requires low_within { IsWithinEnvelope design.now low.now }
+    requires high_count { length high.now ≡ length design.now.nets }
+    requires high_within { IsWithinEnvelope design.now high.now }
+    requires closed { (n : ℕ) (e : Edge) → step design.now high.now n e ≡ assigned high.now n e }
+    ensures { IfOk result (λ text. IsReportOf (of_checks kind) design.now low.now high.now text.items) }
 {
+    let checked = Checked::of(alloc, design, low, high)?;
     let mut out = Vec::new(alloc);
     let (pairs, levels) = (design.pairs(), design.levels());
-    match push_report(&mut out, design, pairs, levels, low, high, kind) {
+    match push_report(
+        &mut out, alloc, design, pairs, levels, low, high, &checked, kind,
+    ) {
         Ok(()) => Ok(out),
         Err(_) => Err(NoMemory),
     }

@@ -7,9 +7,9 @@ ghost use Rattle.report_text.specs.Summary.{count_line, summary, summary_by};
 ghost use Rattle.xt_number.specs.Thousandths.{thousandths};
 
 use crate::edge_windows::{EdgeWindows, live_windows, total_widths, wider_count};
-use crate::entries::guilty_entries;
 use crate::fields::{push_number, push_word};
 use crate::size::push_size;
+use aggressor_report::guilty;
 use std::alloc::{AllocError, Global};
 use xt_model::{Design, NoMemory, Windows};
 use xt_number::time_text;
@@ -88,10 +88,12 @@ fn summary_text(
         × (text.items ≡ text_of (summary design.now pairs depth low.now high.now))) }
 {
     let edges = live_windows(alloc, design, low, high)?;
-    let guilty = guilty_entries(alloc, design, low, high)?.len();
+    let Ok(entries) = guilty(alloc, design, low, high) else {
+        return Err(AllocError);
+    };
     let mut out = Vec::new(alloc);
     let (pairs, levels) = (design.pairs(), design.levels());
-    push_summary(&mut out, design, pairs, levels, &edges, guilty)?;
+    push_summary(&mut out, design, pairs, levels, &edges, entries.len())?;
     Ok(out)
 }
 

@@ -20,7 +20,7 @@ returns c =
     (field_then _ _ _ _ _ _ _ (name_is d.nets k.to.0 _ _ c.net-aggressor.ensures.there c.bytes-2.ensures.value) c.in_ok-push_word-4.ensures
     (field_then _ _ _ _ _ _ _ (ap thousandths (to_z-of_z w64 k.cap fits)) c.in_ok-push_cap.ensures
     (field_then _ _ _ _ _ _ _ refl c.in_ok-push_word-5.ensures
-    (field_then _ _ _ _ _ _ _ c.word.ensures c.in_ok-push_word-6.ensures
+    (field_then _ _ _ _ _ _ _ c.mark_word.ensures c.in_ok-push_word-6.ensures
     (field_then _ _ _ _ _ _ _ refl c.in_ok-push_word-7.ensures
-    (field_last _ _ _ _ _ c.word-2.ensures c.in_ok-push_word-8.ensures))))))))
+    (field_last _ _ _ _ _ c.mark_word-2.ensures c.in_ok-push_word-8.ensures))))))))
     ∙ ap (λ place. c.args.out.now.items ++ line_text (coupling_line d g place)) (sym c.coupling-coupling.ensures.value)

@@ -3,7 +3,7 @@ use Rattle.std.proofs.lemmas.Option.{slice_get_read}
 use Rattle.text_lines.specs.Lines.{text_of}
 use Rattle.report_text.specs.Report.{unconstrained_lines}
 use Rattle.report_text.specs.Pieces.{unconstrained_text}
-use Rattle.report_text.proofs.Lines.{turn, turns_end}
+use Rattle.aggressor_report.proofs.Turns.{turn, turns_end}
 use Rattle.report_text.proofs.Pieces.{unconstrained_next}
 use Rattle.report_text.proofs.unconstrained.push_unconstrained.Goals as goal
 

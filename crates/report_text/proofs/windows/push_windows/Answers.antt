@@ -3,7 +3,7 @@ use Rattle.std.proofs.lemmas.Option.{slice_get_read}
 use Rattle.text_lines.specs.Lines.{text_of}
 use Rattle.report_text.specs.Report.{window_lines}
 use Rattle.report_text.specs.Pieces.{windows_text}
-use Rattle.report_text.proofs.Lines.{turn, turns_end}
+use Rattle.aggressor_report.proofs.Turns.{turn, turns_end}
 use Rattle.report_text.proofs.Pieces.{windows_next}
 use Rattle.report_text.proofs.windows.push_windows.Goals as goal
 

@@ -1,9 +1,0 @@
-use Rattle.std.proofs.Common.{length, arith, ap, ◌≡◌}
-use Rattle.report_text.proofs.Pieces.{net_turn}
-use Rattle.report_text.proofs.guilty.push_guilty.Goals as goal
-
-pub loop-number-preserved : goal.loop-number-preserved
-loop-number-preserved c =
-    let count : length c.nets-number-end.result.now ≡ length c.args.design.now.nets = ap length c.nets-number-end.ensures.value in
-    net_turn c.args.design.now c.args.low.now c.args.high.now _ _ _ _ _
-    (omega (arith, count, c.loop-number-test.true)) c.in_ok-push_edge.ensures c.in_ok-push_edge-2.ensures c.loop-number.invariant

@@ -1,0 +1,17 @@
+use Rattle.std.proofs.Common.{refl, ap, rules, w64}
+use Rattle.std.proofs.lemmas.Int.{to_z-of_z}
+use mir.Val.{SFits}
+use Rattle.xt_number.specs.Thousandths.{thousandths}
+use Rattle.report_text.proofs.Lines.{field_then, field_last}
+use Rattle.report_text.proofs.Pieces.{name_is}
+use Rattle.report_text.proofs.paths.push_source.Goals as goal
+
+pub returns : goal.returns
+returns c =
+    let d = c.args.design.now in
+    let p = c.args.path.now in
+    let time : SFits w64 p.time = search rules in
+    field_then _ _ _ _ _ _ _ refl c.in_ok-push_word.ensures
+    (field_then _ _ _ _ _ _ _ (name_is d.nets p.net.0 _ _ c.net-source.ensures.there c.bytes.ensures.value) c.in_ok-push_word-2.ensures
+    (field_then _ _ _ _ _ _ _ c.edge_word.ensures c.in_ok-push_word-3.ensures
+    (field_last _ _ _ _ _ (ap thousandths (to_z-of_z w64 p.time time)) c.in_ok-push_time.ensures)))

@@ -1,0 +1,65 @@
+//! What a report tells of the checks of a design.
+
+ghost use Rattle.std.specs.Prelude.{◌≡◌, ◌++◌, ◌<◌, ℕ, length, IfOk, IfSome, OnOk};
+ghost use Rattle.std.specs.List.{All};
+ghost use Rattle.xt_model.specs.declared.edge.Edge.{Edge};
+ghost use Rattle.xt_model.specs.Assign.{assigned};
+ghost use Rattle.xt_meaning.specs.Barrier.{IsWithinEnvelope};
+ghost use Rattle.xt_meaning.specs.Operator.{step};
+ghost use Rattle.text_lines.specs.Lines.{text_of};
+ghost use Rattle.report_text.specs.Worst.{IsChecked};
+ghost use Rattle.report_text.specs.Paths.{AreOfDesign};
+ghost use Rattle.report_text.specs.Report.{checked_lines};
+
+use crate::checks::push_checks;
+use crate::paths::push_worst_path;
+use crate::worst::{WorstPath, worst_of};
+use slack_report::{Slack, slacks};
+use std::alloc::{AllocError, Global};
+use xt_model::{Design, NoMemory, Row, Windows};
+
+/// The slacks of the checks of a design, and the worst setup check and the worst hold check with their paths.
+#[derive(Debug, Drop)]
+pub struct Checked {
+    pub slacks: Row<Slack>,
+    pub setup: Option<WorstPath>,
+    pub hold: Option<WorstPath>,
+}
+
+impl Checked {
+    /// What is told of the checks of a design in its least and its greatest windows. Fails only for want of memory.
+    pub fn of(
+        alloc: Global,
+        design: &Design,
+        low: &Windows,
+        high: &Windows,
+    ) -> Result<Checked, NoMemory>
+        requires low_count { length low.now ≡ length design.now.nets }
+        requires low_within { IsWithinEnvelope design.now low.now }
+        requires high_count { length high.now ≡ length design.now.nets }
+        requires high_within { IsWithinEnvelope design.now high.now }
+        requires closed { (n : ℕ) (e : Edge) → step design.now high.now n e ≡ assigned high.now n e }
+        ensures told { IfOk result (IsChecked design.now low.now high.now) }
+        ensures named { IfOk result (AreOfDesign design.now) }
+    {
+        let slacks = slacks(alloc, design, low, high)?;
+        let setup = worst_of(alloc, design, high, &slacks, false)?;
+        let hold = worst_of(alloc, design, high, &slacks, true)?;
+        Ok(Checked {
+            slacks: Row::from_vec(slacks),
+            setup,
+            hold,
+        })
+    }
+}
+
+/// Appends the lines on checks, and on the worst of each kind.
+pub fn push_checked(out: &mut Vec<u8>, design: &Design, checked: &Checked) -> Result<(), AllocError>
+    requires { AreOfDesign design.now checked.now }
+    ensures { OnOk result (out.new.items ≡ out.old.items ++ text_of (checked_lines design.now checked.now)) }
+{
+    push_checks(out, design, checked.slacks.as_slice())?;
+    push_worst_path(out, design, &checked.setup)?;
+    push_worst_path(out, design, &checked.hold)?;
+    Ok(())
+}
