@@ -1,0 +1,12 @@
+use Rattle.std.proofs.Common.{◌≡◌, [], length}
+use Rattle.sdc_words.specs.Items.{items_from}
+use Rattle.sdc_read.specs.Objects.{change_names}
+use Rattle.sdc_read.proofs.objects.change_many.Given as goal
+
+abbrev pub invariant-names : goal.invariant-names
+invariant-names l =
+    change_names l.netlist.nets l.clock l.change (items_from [] l.rest) l.ports
+    ≡ change_names l.netlist.nets l.clock l.change (items_from [] l.names) l.fn.ports
+
+abbrev pub decreases-names : goal.decreases-names
+decreases-names l = length (items_from [] l.rest)

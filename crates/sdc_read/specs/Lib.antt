@@ -1,0 +1,6 @@
+pub mod Ports
+pub mod Changes
+pub mod Objects
+pub mod Meaning
+pub mod Reading
+pub mod View

@@ -1,0 +1,228 @@
+//! What the commands of a text mean, one after another.
+
+ghost use Rattle.std.specs.Prelude.{◌≡◌, pos, option_map, map, IfSome, IfOk};
+ghost use Rattle.sdc_words.specs.View.{word_text};
+ghost use Rattle.sdc_forms.specs.View.{said_text, HasPowers, IsPower};
+ghost use Rattle.sdc_read.specs.Changes.{IsChange};
+ghost use Rattle.sdc_read.specs.Meaning.{nothing, or_same, with_units, create_clock, change_ports, means, bit_of};
+ghost use Rattle.sdc_read.specs.Meaning.{if_known, or_name, IsScale, IsClock};
+ghost use Rattle.sdc_read.specs.Ports.{settled};
+ghost use Rattle.sdc_read.specs.Objects.{bit_name, knows_clock};
+ghost use Rattle.sdc_read.specs.View.{Changes};
+
+use crate::change::Change;
+use crate::clocks::knows_clock;
+use crate::constraints::{Clock, Constraints};
+use crate::numbers::{fall_in, number_from, number_in};
+use crate::objects::change_objects;
+use crate::port_table::{PortTable, SetPorts};
+use crate::ports::PortBit;
+use crate::source::{bit_name, source_of};
+use sdc_forms::{Said, Stop};
+use sdc_words::Word;
+use std::alloc::{AllocError, Global};
+use std::marker::Model;
+use verilog_net::{Name, Netlist};
+use xt_model::Code;
+
+/// What the commands of a text said so far.
+#[derive(Drop)]
+pub struct Progress {
+    time: i32,
+    cap: i32,
+    clock: Option<Clock>,
+    ports: SetPorts,
+}
+
+impl Model for Progress {
+    ghost use Rattle.std.specs.Prelude.{IfSome};
+    ghost use Rattle.sdc_read.specs.Meaning.{State, IsScale, IsClock};
+
+    ghost Value = { State };
+
+    ghost view = { λ p. record { time = p.time; cap = p.cap; clock = p.clock; ports = p.ports } };
+
+    ghost invariant = { λ p. IsScale p.time × IsScale p.cap × IfSome p.clock IsClock };
+}
+
+/// The power of ten of a unit, where one is given.
+fn or_same(given: Option<i32>, old: i32) -> i32
+    requires given { IfSome given IsPower }
+    requires old { IsScale old }
+    ensures value { result ≡ or_same given old }
+    ensures bounds { IsScale result }
+{
+    match given {
+        Some(power) => power,
+        None => old,
+    }
+}
+
+/// The bit of the clock's port.
+fn bit_of(clock: &Option<Clock>) -> Option<PortBit>
+    ensures { result ≡ option_map bit_of clock.now }
+{
+    match clock {
+        Some(clock) => Some(PortBit {
+            decl: clock.decl,
+            bit: clock.bit,
+        }),
+        None => None,
+    }
+}
+
+/// The name of a clock, which is that of its port's bit where no other is given.
+fn clock_name(
+    alloc: Global,
+    netlist: &Netlist,
+    name: Option<&[u8]>,
+    at: PortBit,
+) -> Result<Name, AllocError>
+    ensures { IfOk result (λ n. n ≡ or_name (option_map (λ t. t.now) name.entry) (bit_name netlist.now.nets at)) }
+{
+    match name {
+        Some(name) => Name::copied(alloc, name),
+        None => bit_name(alloc, netlist, at),
+    }
+}
+
+impl Progress {
+    /// Nothing read.
+    pub fn new(alloc: Global, time: i32, cap: i32) -> Progress
+        requires time { IsScale time }
+        requires cap { IsScale cap }
+        ensures { result ≡ nothing time cap }
+    {
+        Progress {
+            time,
+            cap,
+            clock: None,
+            ports: SetPorts::new(alloc),
+        }
+    }
+
+    /// Units hold for the commands behind them.
+    fn set_units(&mut self, time: Option<i32>, cap: Option<i32>)
+        requires time { IfSome time IsPower }
+        requires cap { IfSome cap IsPower }
+        ensures { self.new ≡ with_units time cap self.old }
+    {
+        self.time = or_same(time, self.time);
+        self.cap = or_same(cap, self.cap);
+    }
+
+    /// Makes the clock.
+    #[tactic(auto, unfolding(crate::specs::Meaning::create_clock))]
+    fn create_clock(
+        &mut self,
+        alloc: Global,
+        netlist: &Netlist,
+        name: Option<&[u8]>,
+        period: &[u8],
+        waveform: Option<&[u8]>,
+        source: Word<'_>,
+    ) -> Result<(), Stop>
+        ensures { Changes result self.new (create_clock netlist.now.nets (option_map (λ t. t.now) name.entry)
+            period.now (option_map (λ t. t.now) waveform.entry) (word_text source.entry) self.old) }
+    {
+        let period = number_from(1, period, self.time)?;
+        let fall = fall_in(self.time, period, waveform)?;
+        let at = source_of(netlist, source)?;
+        if self.clock.is_some() {
+            return Err(Stop::Refused(Code::C5));
+        }
+        let name = clock_name(alloc, netlist, name, at)?;
+        self.clock = Some(Clock {
+            name,
+            decl: at.decl,
+            bit: at.bit,
+            period,
+            fall,
+        });
+        Ok(())
+    }
+
+    /// Changes the ports of a list.
+    #[tactic(auto, unfolding(crate::specs::Meaning::change_ports))]
+    fn change_ports(
+        &mut self,
+        netlist: &Netlist,
+        change: Change,
+        list: Word<'_>,
+    ) -> Result<(), Stop>
+        requires { IsChange change }
+        ensures { Changes result self.new (change_ports netlist.now.nets change (word_text list.entry) self.old) }
+    {
+        let clock = bit_of(&self.clock);
+        change_objects(netlist, clock, change, list, &mut self.ports)
+    }
+
+    /// Changes the ports of a list, if the clock of another one is known.
+    fn change_known(
+        &mut self,
+        netlist: &Netlist,
+        clock: Word<'_>,
+        change: Change,
+        list: Word<'_>,
+    ) -> Result<(), Stop>
+        requires { IsChange change }
+        ensures { Changes result self.new (if_known (knows_clock self.old.clock (word_text clock.entry))
+            (change_ports netlist.now.nets change (word_text list.entry) self.old)) }
+    {
+        if !knows_clock(&self.clock, clock) {
+            return Err(Stop::Refused(Code::C6));
+        }
+        self.change_ports(netlist, change, list)
+    }
+
+    /// Does what a command says.
+    #[tactic(auto, unfolding(crate::specs::Meaning::means))]
+    pub fn act(&mut self, alloc: Global, netlist: &Netlist, said: Said<'_>) -> Result<(), Stop>
+        requires { HasPowers said }
+        ensures { Changes result self.new (means netlist.now.nets (said_text said.entry) self.old) }
+    {
+        match said {
+            Said::Nothing => Ok(()),
+            Said::Units(time, cap) => {
+                self.set_units(time, cap);
+                Ok(())
+            }
+            Said::Clock(name, period, waveform, source) => {
+                self.create_clock(alloc, netlist, name, period, waveform, source)
+            }
+            Said::InputDelay(number, clock, picked, list) => {
+                let number = number_in(number, self.time)?;
+                self.change_known(netlist, clock, Change::InputDelay(picked, number), list)
+            }
+            Said::OutputDelay(number, clock, picked, list) => {
+                let number = number_in(number, self.time)?;
+                self.change_known(netlist, clock, Change::OutputDelay(picked, number), list)
+            }
+            Said::InputTransition(number, picked, list) => {
+                let number = number_from(0, number, self.time)?;
+                self.change_ports(netlist, Change::Slew(picked, number), list)
+            }
+            Said::Load(number, list) => {
+                let number = number_from(0, number, self.cap)?;
+                self.change_ports(netlist, Change::Load(number), list)
+            }
+        }
+    }
+
+    /// The constraints.
+    pub fn into_constraints(self) -> Constraints
+        ensures value { result ≡ record { clock = self.clock; ports = map settled self.ports } }
+        ensures clock { IfSome result.clock IsClock }
+    {
+        let Progress {
+            time: _,
+            cap: _,
+            clock,
+            ports,
+        } = self;
+        Constraints {
+            clock,
+            ports: PortTable::new(ports),
+        }
+    }
+}
