@@ -1,11 +1,14 @@
 //! The edge of the program: it brings the words, files and streams together for the top call.
 #![tactic(auto)]
 
-ghost use Rattle.std.specs.Prelude.{◌≡◌, ◌≢◌, IsSome, IsNone};
+mod command_line;
 
+ghost use Rattle.std.specs.Prelude.{◌≡◌, IsNone, option_map};
+ghost use Rattle.xtalk_top.specs.Words.{bytes_of};
+ghost use Rattle.xtalk_edge.specs.Run.{IsRunStatus, IsStatusOf};
+
+pub use command_line::CommandLine;
 use std::alloc::Global;
-use std::env;
-use std::env::Env;
 use std::thread::Threads;
 use xt_io::{Directory, DirectoryFiles, Files, HostStream, Sink, Stream};
 use xtalk_top::xtalk;
@@ -13,19 +16,21 @@ use xtalk_top::xtalk;
 /// The status when the system does not give the program its words; `xtalk` never answers it.
 const NO_WORDS: u8 = 9;
 
-/// Runs the program on the words that the system gives it, over the files of this directory, with the streams for its
+/// Runs the program on the words of this command line, over the files of this directory, with the streams for its
 /// output and for its refusals, and answers the exit status.
-pub fn run<R, D, O, E>(rt: &R, directory: D, out: O, err: E) -> u8
+pub fn run<R, C, D, O, E>(rt: &R, command_line: C, directory: D, out: O, err: E) -> u8
 where
-    R: Threads + Sync + Env + Alloc<A = Global>,
+    R: Threads + Sync + Alloc<A = Global>,
+    C: CommandLine,
     D: Directory + Drop,
     O: Stream + Drop,
     E: Stream + Drop,
+    ensures { IsRunStatus (C.given command_line) (D.content directory) result }
 {
     let mut files = DirectoryFiles::new(directory);
     let mut out = HostStream::new(out);
     let mut err = HostStream::new(err);
-    let words = words_of(rt);
+    let words = command_line.words();
     status(rt, rt.alloc(), &words, &mut files, &mut out, &mut err)
 }
 
@@ -38,23 +43,11 @@ fn status<R: Threads + Sync, F: Files, O: Sink, E: Sink>(
     out: &mut O,
     err: &mut E,
 ) -> u8
-    ensures no_words { IsNone words.now → result ≡ 9 }
+    ensures status { IsStatusOf (option_map (λ all. bytes_of all.items) words.now) (F.content files.old) result }
     ensures untouched { IsNone words.now → (files.new ≡ files.old) × (out.new ≡ out.old) × (err.new ≡ err.old) }
-    ensures words { IsSome words.now → result ≢ 9 }
 {
     match words {
         Some(words) => xtalk(rt, alloc, words, files, out, err),
         None => NO_WORDS,
     }
-}
-
-// The words after the program's name, if the system gives them.
-fn words_of<R: Env + Alloc<A = Global>>(rt: &R) -> Option<Vec<String>> {
-    let mut args = env::args(rt).ok()?;
-    args.next();
-    let mut words = Vec::new(rt.alloc());
-    for word in args {
-        words.push(word).ok()?;
-    }
-    Some(words)
 }

@@ -6,5 +6,5 @@ use std::process::ExitCode;
 use xtalk_edge::run;
 
 fn main(rt: HostRuntime) -> ExitCode {
-    ExitCode::from(run(&rt, rt, rt.stderr(), rt.stdout()))
+    ExitCode::from(run(&rt, rt, rt, rt.stderr(), rt.stdout()))
 }

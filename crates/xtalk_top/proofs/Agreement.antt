@@ -1,25 +1,26 @@
 -- Where the contents of the files are known, the words and the files mean one outcome.
-use Rattle.std.proofs.Common.{◌≡◌, ◌⊎◌, ℕ, ◌<◌, ◌≤◌, List, length, Option, Some, None, IfSome, refl, sym, ◌∙◌, subst, inl, inr, arith, true≢false}
+use Rattle.std.proofs.Common.{◌≡◌, ◌⊎◌, ℕ, ◌<◌, ◌≤◌, List, length, Option, Some, None, Result, Ok, Err, IfSome, refl, sym, ap, ◌∙◌, subst, inl, inr, arith, true≢false}
 use Rattle.std.specs.Prelude.{IsSome, MatchOption}
-use Rattle.xt_model.specs.Miller.{IsMiller}
+use Rattle.xt_model.specs.Miller.{MillerNumbers, IsMiller}
 use Rattle.xt_model.specs.Parts.{Parts}
 use Rattle.xt_model.specs.Sound.{IsSound}
-use Rattle.linked_text.proofs.Refusals.{texts_differ}
+use Rattle.linked_text.specs.declared.fault.Fault.{Fault}
+use Rattle.linked_text.proofs.WholeLaws.{means_design, means_one, same_texts}
 use Rattle.design_gen.specs.Laws.{IsCount}
 use Rattle.design_gen.specs.Generated.{generated}
 use Rattle.design_gen.proofs.Soundness.{sound}
 use Rattle.report_text.specs.declared.kind.ReportKind.{ReportKind}
+use Rattle.report_text.specs.declared.kind.ReportKind.TheVariants.{All}
 use Rattle.xtalk_top.specs.Words.{Text, HasCount, job_of}
-use Rattle.xtalk_top.specs.Outcome.{Contents, Outcome, prints, refuses, unread, FileMeans, LinkedMeans, DesignMeans, SolvedMeans, IsSolution, IsDesignText, counted_by, most_bytes}
+use Rattle.xtalk_top.specs.Outcome.{Contents, Outcome, prints, refuses, unread, FileMeans, LinkedMeans, DesignMeans, SolvedMeans, IsSolution, IsDesignText, TextReportMeans, why_refused, counted_by, most_bytes}
 use Rattle.xtalk_top.specs.Gen.{GenMeans, IsSummed}
-use Rattle.xtalk_top.specs.Solve.{SolveMeans}
 use Rattle.xtalk_top.specs.Call.{JobMeans, Means, AreKnown, IsStop, status_of}
 use Rattle.xtalk_top.specs.declared.words.Job.{Job}
-use Rattle.xtalk_top.specs.declared.words.Job.TheVariants.{Solve, Gen}
-use Rattle.xtalk_top.specs.declared.words.SolveJob.{SolveJob}
+use Rattle.xtalk_top.specs.declared.words.Job.TheVariants.{Solve, Replay, Gen}
 use Rattle.xtalk_top.specs.declared.words.GenJob.{GenJob}
 use Rattle.xtalk_top.specs.declared.refusal.Refusal.{Refusal}
-use Rattle.xtalk_top.specs.declared.refusal.Refusal.TheVariants.{Words}
+use Rattle.xtalk_top.specs.declared.refusal.FileRefusal.TheVariants.{Content}
+use Rattle.xtalk_top.specs.declared.refusal.Refusal.TheVariants.{Words, File}
 use Rattle.xtalk_top.specs.declared.refusal.Stop.{Stop}
 use Rattle.xtalk_top.specs.declared.refusal.Stop.TheVariants.{Refused, Unread, NoMemory}
 use Rattle.xtalk_top.specs.declared.refusal.Failure.TheVariants.{NoText}
@@ -60,13 +61,21 @@ one_of_design kind d s = one_of_solved (IsSolution kind d) d s
 
 -- a text is of one design
 pub one_design : (bytes : Text) (d e : Parts) → IsDesignText bytes d → IsDesignText bytes e → d ≡ e
-one_design bytes d e t u = texts_differ d e t.sound t.linkable u.sound u.linkable (sym t.written ∙ u.written)
+one_design bytes d e t u = same_texts d e t.sound u.sound (sym t.written ∙ u.written)
+
+err_is : (f g : Fault) → ◌≡◌ {A = Result Parts Fault} (Err f) (Err g) → f ≡ g
+err_is f g e = cc
+
+err_no_ok : (f : Fault) (d : Parts) → ◌≡◌ {A = Result Parts Fault} (Err f) (Ok d) → ⊥
+err_no_ok f d e = absurd cc
 
 pub one_of_linked : (file bytes : Text) (Leads : Parts → Outcome → Type 0) → ((d : Parts) → IsDesignText bytes d → LeavesOne (Leads d))
     → LeavesOne (λ o. LinkedMeans file bytes (λ d. Leads d o) o)
-one_of_linked file bytes Leads one o p (inl a) (inl b) = agree_as o p _ _ a.1 b.1 refl
-one_of_linked file bytes Leads one o p (inl a) (inr b) = absurd (a.0 b.0 b.1)
-one_of_linked file bytes Leads one o p (inr a) (inl b) = absurd (b.0 a.0 a.1)
+one_of_linked file bytes Leads one o p (inl a) (inl b) =
+    let same : a.0 ≡ b.0 = err_is a.0 b.0 (means_one bytes (Err a.0) (Err b.0) a.1 b.1) in
+    agree_as o p _ _ a.2 (b.2 ∙ ap (λ f. refuses (File file (Content (why_refused bytes f)))) (sym same)) refl
+one_of_linked file bytes Leads one o p (inl a) (inr b) = absurd (err_no_ok a.0 b.0 (means_one bytes (Err a.0) (Ok b.0) a.1 (means_design bytes b.0 b.1)))
+one_of_linked file bytes Leads one o p (inr a) (inl b) = absurd (err_no_ok b.0 a.0 (means_one bytes (Err b.0) (Ok a.0) b.1 (means_design bytes a.0 a.1)))
 one_of_linked file bytes Leads one o p (inr a) (inr b) =
     one a.0 a.1 o p a.2 (subst (λ d. Leads d p) (one_design bytes b.0 a.0 b.1 a.1) b.2)
 
@@ -92,10 +101,11 @@ one_of_file file content Leads known one o p (inr (inr a)) (inr (inl b)) = absur
 one_of_file file content Leads known one o p (inr (inr a)) (inr (inr b)) =
     one a.0 o p a.3 (subst (λ bytes. Leads bytes p) (one_content (content file) a.0 b.0 known a.1 b.1) b.3)
 
-pub one_of_solve : (job : SolveJob) (content : Contents) → IfSome job.miller IsMiller → ((f : Text) → SolveMeans job content (unread f) → IsSome (content f)) → LeavesOne (SolveMeans job content)
-one_of_solve job content rising known =
-    one_of_file job.file content (λ bytes o. LinkedMeans job.file bytes (λ d. DesignMeans job.kind (counted_by job.miller d) o) o) (known job.file (inl refl)) (λ bytes.
-    one_of_linked job.file bytes (λ d. DesignMeans job.kind (counted_by job.miller d)) (λ d t. one_of_design job.kind (counted_by job.miller d) (counted_sound job.miller d rising t.sound)))
+pub one_of_text : (file : Text) (miller : Option MillerNumbers) (kind : ReportKind) (content : Contents) → IfSome miller IsMiller
+    → ((f : Text) → TextReportMeans file miller kind content (unread f) → IsSome (content f)) → LeavesOne (TextReportMeans file miller kind content)
+one_of_text file miller kind content rising known =
+    one_of_file file content (λ bytes o. LinkedMeans file bytes (λ d. DesignMeans kind (counted_by miller d) o) o) (known file (inl refl)) (λ bytes.
+    one_of_linked file bytes (λ d. DesignMeans kind (counted_by miller d)) (λ d t. one_of_design kind (counted_by miller d) (counted_sound miller d rising t.sound)))
 
 pub one_of_gen : (job : GenJob) → IsCount job.nets → LeavesOne (GenMeans job)
 one_of_gen job count = one_of_solved (IsSummed (generated job.number job.nets)) (generated job.number job.nets) (sound job.number job.nets count)
@@ -107,7 +117,8 @@ one_outcome words content known = go (job_of words) (job_rises words) (job_count
         → ((f : Text) → MatchOption j (unread f ≡ refuses Words) (λ job. JobMeans job content (unread f)) → IsSome (content f))
         → LeavesOne (λ o. MatchOption j (o ≡ refuses Words) (λ job. JobMeans job content o))
     go None rising counts known o p a b = agree_as o p _ _ a b refl
-    go (Some (Solve job)) rising counts known o p a b = one_of_solve job content rising known o p a b
+    go (Some (Solve job)) rising counts known o p a b = one_of_text job.file job.miller job.kind content rising known o p a b
+    go (Some (Replay job)) rising counts known o p a b = one_of_text job.file job.miller All content rising known o p a b
     go (Some (Gen job)) rising counts known o p a b = one_of_gen job counts o p a b
 
 -- ---- the status of a call without a text

@@ -11,18 +11,17 @@ use Rattle.xt_model.specs.declared.net.Net.{Net}
 use Rattle.xt_model.specs.declared.check.CheckPoint.{CheckPoint}
 use Rattle.xt_model.specs.declared.check.CheckPoint.TheVariants.{Flop, Port}
 use Rattle.xt_model.specs.Limits.{most_factor}
+use Rattle.report_text.specs.declared.kind.ReportKind.{ReportKind}
 use Rattle.xt_model.specs.Miller.{MillerNumbers, IsMiller}
 use Rattle.xt_model.specs.Parts.{Parts}
 use Rattle.xt_model.specs.Sound.{IsSound, IsSoundArc, IsSoundCheck, IsSoundCoupling, IsSoundNet}
 use Rattle.xtalk_top.specs.Grammar.{Text, Item, given_of, three_of, value_of}
 use Rattle.xtalk_top.specs.Words.{command_named, form_of_command, job_for, job_of, miller_of, miller_or_none}
-use Rattle.xtalk_top.specs.Outcome.{Contents, Outcome, DesignMeans, IsDesignText, LinkedMeans, counted_by, most_bytes}
-use Rattle.xtalk_top.specs.Solve.{SolveMeans}
+use Rattle.xtalk_top.specs.Outcome.{Contents, Outcome, DesignMeans, IsDesignText, LinkedMeans, TextReportMeans, counted_by, most_bytes}
 use Rattle.xtalk_top.specs.declared.words.CommandName.{CommandName}
 use Rattle.xtalk_top.specs.declared.words.CommandName.TheVariants as command
-use Rattle.xtalk_top.specs.declared.words.SolveJob.{SolveJob}
 use Rattle.xtalk_top.specs.declared.words.Job.{Job}
-use Rattle.xtalk_top.specs.declared.words.Job.TheVariants.{Gen, Solve}
+use Rattle.xtalk_top.specs.declared.words.Job.TheVariants.{Gen, Replay, Solve}
 use Rattle.xtalk_top.proofs.Lifts.{file_leads}
 
 -- three numbers that are Miller numbers rise
@@ -47,6 +46,7 @@ given_rises (Some text) = go (three_of text)
 -- the Miller numbers of a job, if it has any, rise
 abbrev pub HasRising : Job → Type 0
 HasRising (Solve job) = IfSome job.miller IsMiller
+HasRising (Replay job) = IfSome job.miller IsMiller
 HasRising (Gen job) = Unit {0}
 
 pub job_rises : (words : List Text) → IfSome (job_of words) HasRising
@@ -56,6 +56,7 @@ job_rises (word ∷ rest) = by_name (command_named word)
     by_items : (name : CommandName) (items : Option (List Item)) → IfSome (option_and_then (λ is. Some (job_for name (value_of is))) items) HasRising
     by_items name None = tt
     by_items command.Solve (Some items) = given_rises (value_of items (codes "miller"))
+    by_items command.Replay (Some items) = given_rises (value_of items (codes "miller"))
     by_items command.Gen (Some items) = tt
 
     by_name : (name : Option CommandName) → IfSome (option_and_then (λ n. option_and_then (λ is. Some (job_for n (value_of is))) (given_of (form_of_command n) rest)) name) HasRising
@@ -119,9 +120,10 @@ pub counted_sound : (miller : Option MillerNumbers) (d : Parts) → IfSome mille
 counted_sound None d h s = s
 counted_sound (Some m) d h s = sound_by d m h s
 
--- what the text's design comes to by the job's Miller numbers, the job comes to
-pub job_leads : (job : SolveJob) (content : Contents) (bytes : Text) (d e : Parts) (o : Outcome) → IfSome (content job.file) (λ whole. bytes ≡ whole) → length bytes ≤ most_bytes
-    → IsDesignText bytes d → e ≡ counted_by job.miller d → DesignMeans job.kind e o → SolveMeans job content o
-job_leads job content bytes d e o held fits text is h =
-    file_leads job.file content (λ b. LinkedMeans job.file b (λ x. DesignMeans job.kind (counted_by job.miller x) o) o) o bytes held fits
-    (inr (d, text, subst (λ x. DesignMeans job.kind x o) is h))
+-- what the text's design comes to by the Miller numbers that are given, the report of the text comes to
+pub design_leads : (file : Text) (miller : Option MillerNumbers) (kind : ReportKind) (content : Contents) (bytes : Text) (d e : Parts) (o : Outcome)
+    → IfSome (content file) (λ whole. bytes ≡ whole) → length bytes ≤ most_bytes → IsDesignText bytes d → e ≡ counted_by miller d → DesignMeans kind e o
+    → TextReportMeans file miller kind content o
+design_leads file miller kind content bytes d e o held fits text is h =
+    file_leads file content (λ b. LinkedMeans file b (λ x. DesignMeans kind (counted_by miller x) o) o) o bytes held fits
+    (inr (d, text, subst (λ x. DesignMeans kind x o) is h))

@@ -1,3 +1,4 @@
+mod LinkedFaults
 pub mod Pieces
 pub mod Within
 pub mod Lifts

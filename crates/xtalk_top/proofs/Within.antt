@@ -5,10 +5,15 @@ use Rattle.xt_model.specs.Sound.{IsSound}
 use Rattle.std.specs.Prelude.{List}
 use Rattle.xt_model.specs.declared.quad.Pair.{Pair}
 use Rattle.xt_model.specs.Levels.{AreLevelled}
-use Rattle.xt_meaning.specs.Envelope.{IsEnvelope}
+use Rattle.xt_model.specs.declared.direction.Direction.TheVariants.{Narrow}
+use Rattle.xt_model.specs.Assign.{assigned}
+use Rattle.xt_meaning.specs.Barrier.{IsWithinEnvelope}
+use Rattle.xt_meaning.specs.Envelope.{IsEnvelope, IsAccepted}
+use Rattle.xt_meaning.specs.Operator.{step}
 use Rattle.transitions.proofs.Hulls.{within_greatest as consistent_within}
-use Rattle.xt_meaning.specs.Fixpoint.{IsLeastFixpoint, IsGreatestFixpoint}
-use Rattle.xt_meaning.proofs.Extremes.{least_within, within_greatest}
+use Rattle.xt_meaning.specs.Fixpoint.{IsContained, IsFixpoint, IsLeastFixpoint, IsGreatestFixpoint}
+use Rattle.xt_meaning.proofs.Extremes.{fixpoint_closed, least_within, within_greatest}
+use Rattle.xt_meaning.proofs.Steps.{contained_narrow}
 use Rattle.envelope.proofs.Turns.{none_stopped}
 use Rattle.xtalk_top.specs.Outcome.{AreBounds, KeepsLimits, IsPassed}
 use Rattle.xtalk_top.specs.declared.refusal.PassedLimit.{PassedLimit}
@@ -22,4 +27,14 @@ are_bounds d top low high sound levelled envelope least greatest = record {
   consistent = λ xs c. consistent_within d levelled.0 top high xs sound levelled.1 envelope greatest c;
   above = λ v f. least_within d low v least f;
   below = λ v f. within_greatest d high v greatest f;
+}
+
+-- a fixpoint lies within an envelope that keeps the limits
+pub fixpoint_within : (d : Parts) (top v : List Pair) → IsEnvelope d top → IsAccepted d top
+    → ((w : List Pair) → IsContained (assigned w) (step d w) → IsContained (assigned w) (assigned top)) → IsFixpoint d v → IsWithinEnvelope d v
+fixpoint_within d top v envelope accepted contains f = record {
+  top = top;
+  envelope = envelope;
+  accepted = accepted;
+  contained = contains v (contained_narrow (step d v) (assigned v) (fixpoint_closed Narrow d v f));
 }

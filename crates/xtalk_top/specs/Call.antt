@@ -3,18 +3,21 @@ use Rattle.std.specs.Prelude.{◌≡◌, ℕ, ◌+◌, ◌⊎◌, ◌≤◌, ◌
 use Rattle.std.specs.Prelude.{Option, Some, None, IsSome, MatchOption}
 use Rattle.std.specs.Fmt.{decimal, signed_decimal}
 use Rattle.xt_model.specs.Codes.{code_text}
+use Rattle.xt_model.specs.declared.fault.LimitKind.{LimitKind}
+use Rattle.xt_model.specs.declared.fault.LimitKind.TheVariants as kinds
 use Rattle.envelope.specs.declared.fault.What.{What}
 use Rattle.envelope.specs.declared.fault.What.TheVariants.{Time, Slew}
 use Rattle.xt_io.specs.Outside.{Rose, ChangesOnly, IsPrefixAppended, appended}
 use Rattle.xtalk_top.specs.Outcome.{Contents, Outcome, prints, refuses, unread, most_bytes}
 use Rattle.xtalk_top.specs.Solve.{SolveMeans}
+use Rattle.xtalk_top.specs.Replay.{ReplayMeans}
 use Rattle.xtalk_top.specs.Gen.{GenMeans}
 use Rattle.xtalk_top.specs.Words.{Text, job_of}
 use Rattle.xtalk_top.specs.declared.words.Job.{Job}
-use Rattle.xtalk_top.specs.declared.words.Job.TheVariants.{Solve, Gen}
+use Rattle.xtalk_top.specs.declared.words.Job.TheVariants.{Solve, Replay, Gen}
 use Rattle.xtalk_top.specs.declared.refusal.PassedLimit.{PassedLimit}
 use Rattle.xtalk_top.specs.declared.refusal.DesignRefusal.TheVariants.{Limit}
-use Rattle.xtalk_top.specs.declared.refusal.TextRefusal.TheVariants.{At}
+use Rattle.xtalk_top.specs.declared.refusal.TextRefusal.TheVariants.{At, Beyond}
 use Rattle.xtalk_top.specs.declared.refusal.FileRefusal.TheVariants.{TooLong, Content}
 use Rattle.xtalk_top.specs.declared.refusal.Refusal.TheVariants.{Words, File, Design}
 use Rattle.xtalk_top.specs.declared.refusal.Stop.{Stop}
@@ -27,6 +30,7 @@ use Rattle.xtalk_top.specs.declared.refusal.Failure.TheVariants.{NoText, Unwritt
 -- each command has a page of its own
 abbrev pub JobMeans : Job → Contents → Outcome → Type 0
 JobMeans (Solve job) content outcome = SolveMeans job content outcome
+JobMeans (Replay job) content outcome = ReplayMeans job content outcome
 JobMeans (Gen job) content outcome = GenMeans job outcome
 
 -- the words are outside the grammar; or they ask for a job, whose files and design lead to the outcome
@@ -71,15 +75,34 @@ abbrev pub name_field : Option Text → Text
 name_field None = []
 name_field (Some name) = name ++ codes " "
 
+-- the word for what has a limit
+abbrev pub kind_word : LimitKind → Text
+kind_word kinds.Nets = codes "nets"
+kind_word kinds.Instances = codes "instances"
+kind_word kinds.Nodes = codes "nodes"
+kind_word kinds.Load = codes "load"
+kind_word kinds.Couplings = codes "couplings"
+kind_word kinds.Coefficients = codes "coefficients"
+kind_word kinds.Arcs = codes "arcs"
+kind_word kinds.Tables = codes "tables"
+kind_word kinds.Checks = codes "checks"
+kind_word kinds.Reads = codes "reads"
+
 -- `limit: WHAT NAME VALUE`, or without a name
 abbrev pub limit_line : PassedLimit → Text
 limit_line l = codes "limit: " ++ (what_word l.what ++ (codes " " ++ (name_field l.name ++ signed_decimal l.value)))
+
+-- the same of a limit that a linked text passes
+abbrev pub beyond_line : LimitKind → Option Text → ℕ → Text
+beyond_line what name value = codes "limit: " ++ (kind_word what ++ (codes " " ++ (name_field name ++ decimal value)))
 
 -- the exit status of each failure, and its line on the error stream
 abbrev pub status_and_line : Failure → ℕ × Text
 status_and_line (NoText (Refused Words)) = (2, codes "xtalk: bad command line")
 status_and_line (NoText (Refused (File file (Content (At line code))))) =
     (3, file ++ (codes ":" ++ (decimal line ++ (codes ": " ++ code_text code))))
+status_and_line (NoText (Refused (File file (Content (Beyond what name value))))) =
+    (5, beyond_line what name value)
 status_and_line (NoText (Refused (File file TooLong))) =
     (5, codes "limit: file " ++ (file ++ (codes " " ++ decimal (most_bytes + 1))))
 status_and_line (NoText (Refused (Design (Limit passed)))) = (5, limit_line passed)

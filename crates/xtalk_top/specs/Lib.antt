@@ -4,5 +4,6 @@ pub mod Reading
 pub mod Words
 pub mod Outcome
 pub mod Solve
+pub mod Replay
 pub mod Gen
 pub mod Call

@@ -1,16 +1,16 @@
 -- What a call comes to, and the steps that its commands share: a file, a linked text, a design.
-use Rattle.std.specs.Prelude.{◌≡◌, ℕ, ◌<◌, ◌≤◌, ◌⊎◌, List, length, Option, Some, None, IfSome}
+use Rattle.std.specs.Prelude.{◌≡◌, ℕ, ◌<◌, ◌≤◌, ◌⊎◌, List, length, Option, Some, None, Err, IfSome}
 use Rattle.xt_model.specs.declared.quad.Pair.{Pair}
-use Rattle.xt_model.specs.declared.code.Code.TheVariants.{X9}
 use Rattle.xt_model.specs.declared.net.Net.{Net}
 use Rattle.std.specs.List.{slice_get}
 use Rattle.xt_model.specs.Assign.{assigned}
 use Rattle.xt_model.specs.Miller.{MillerNumbers}
 use Rattle.xt_model.specs.Parts.{Parts}
-use Rattle.xt_model.specs.Sound.{IsSound}
-use Rattle.xt_model.specs.Levels.{AreLevels}
-use Rattle.text_lines.specs.Lines.{text_of}
-use Rattle.linked_text.specs.Linked.{linked, IsLinkable}
+use Rattle.linked_text.specs.declared.fault.Fault.{Fault}
+use Rattle.linked_text.specs.declared.fault.Fault.TheVariants as faults
+use Rattle.linked_text.specs.Answers.{IsTextOf}
+use Rattle.linked_text.specs.Meaning.{line_number}
+use Rattle.linked_text.specs.Meaning as linked_text
 use Rattle.xt_meaning.specs.Envelope.{IsWidest, IsAccepted}
 use Rattle.xt_meaning.specs.Fixpoint.{IsContained, IsFixpoint}
 use Rattle.report_text.specs.Report.{IsReport}
@@ -23,7 +23,8 @@ use Rattle.xtalk_top.specs.Words.{Text}
 use Rattle.xtalk_top.specs.declared.refusal.PassedLimit.{PassedLimit}
 use Rattle.xtalk_top.specs.declared.refusal.Refusal.{Refusal}
 use Rattle.xtalk_top.specs.declared.refusal.DesignRefusal.TheVariants.{Limit}
-use Rattle.xtalk_top.specs.declared.refusal.TextRefusal.TheVariants.{At}
+use Rattle.xtalk_top.specs.declared.refusal.TextRefusal.{TextRefusal}
+use Rattle.xtalk_top.specs.declared.refusal.TextRefusal.TheVariants.{At, Beyond}
 use Rattle.xtalk_top.specs.declared.refusal.FileRefusal.TheVariants.{TooLong, Content}
 use Rattle.xtalk_top.specs.declared.refusal.Refusal.TheVariants.{File, Design}
 
@@ -54,20 +55,21 @@ FileMeans file content Leads outcome =
 
 -- ---- a linked text
 
--- the bytes are the linked text of this design, which is sound and has levels, and which is taken as yet: one without
--- checks
-pub record IsDesignText (bytes : Text) (d : Parts) : Type 0 where
-  pub levels : List ℕ
-  pub sound : IsSound d
-  pub levelled : AreLevels d.nets levels
-  pub linkable : IsLinkable d
-  pub written : bytes ≡ text_of (linked d)
+-- the bytes are the linked text of this design, which is sound and has levels
+abbrev pub IsDesignText : Text → Parts → Type 0
+IsDesignText bytes d = IsTextOf bytes d
 
--- the bytes of a file as a linked text: they are of no design, and refused at line 1; or their design leads to the
--- outcome
+-- why a linked text is refused: its first refusal, by the line that begins where so many bytes are left, or by the
+-- limit that it passes
+abbrev pub why_refused : Text → Fault → TextRefusal
+why_refused bytes (faults.Refused left code) = At (line_number bytes left) code
+why_refused bytes (faults.Limit what name value) = Beyond what name value
+
+-- the bytes of a file as a linked text: they mean a refusal; or their design leads to the outcome
 abbrev pub LinkedMeans : Text → Text → (Parts → Type 0) → Outcome → Type 0
 LinkedMeans file bytes Leads outcome =
-    (((d : Parts) → IsDesignText bytes d → ⊥) × (outcome ≡ refuses (File file (Content (At 1 X9)))))
+    ((fault : Fault) × linked_text.Means bytes (Err fault)
+    × (outcome ≡ refuses (File file (Content (why_refused bytes fault)))))
     ⊎ ((d : Parts) × IsDesignText bytes d × Leads d)
 
 -- ---- a design
@@ -113,3 +115,12 @@ SolvedMeans IsText d outcome =
 -- the text is its report
 abbrev pub DesignMeans : ReportKind → Parts → Outcome → Type 0
 DesignMeans kind d outcome = SolvedMeans (IsSolution kind d) d outcome
+
+-- ---- the report of a linked text
+
+-- the file is read, its text is that of a design, and the design is solved, by these Miller numbers where there are any
+abbrev pub TextReportMeans : Text → Option MillerNumbers → ReportKind → Contents → Outcome → Type 0
+TextReportMeans file miller kind content outcome =
+    FileMeans file content (λ bytes.
+    LinkedMeans file bytes (λ d.
+    DesignMeans kind (counted_by miller d) outcome) outcome) outcome

@@ -1,5 +1,5 @@
 -- The commands, what may stand behind the word of each, and the job that the words ask for.
-use Rattle.std.specs.Prelude.{ℕ, nat_le, true, false, ◌&&◌, if◌then◌else◌, List, [], ◌∷◌, codes}
+use Rattle.std.specs.Prelude.{ℕ, ◌≤◌, nat_le, true, false, ◌&&◌, if◌then◌else◌, List, [], ◌∷◌, codes}
 use Rattle.std.specs.Prelude.{Option, Some, None, option_and_then, unwrap_or}
 use Rattle.std.specs.Str.{bytes_eq}
 use Rattle.xt_model.specs.Limits.{most_factor}
@@ -14,9 +14,10 @@ use Rattle.xtalk_top.specs.Grammar.{three_of, value_of, ◌>>=◌}
 use Rattle.xtalk_top.specs.declared.words.CommandName.{CommandName}
 use Rattle.xtalk_top.specs.declared.words.CommandName.TheVariants as command
 use Rattle.xtalk_top.specs.declared.words.SolveJob.{SolveJob}
+use Rattle.xtalk_top.specs.declared.words.ReplayJob.{ReplayJob}
 use Rattle.xtalk_top.specs.declared.words.GenJob.{GenJob}
 use Rattle.xtalk_top.specs.declared.words.Job.{Job}
-use Rattle.xtalk_top.specs.declared.words.Job.TheVariants.{Solve, Gen}
+use Rattle.xtalk_top.specs.declared.words.Job.TheVariants.{Solve, Replay, Gen}
 
 -- ---- the table
 
@@ -36,6 +37,18 @@ miller = record { name = codes "miller"; is_required = false; value = rising_thr
 abbrev pub solve_form : CommandForm
 solve_form = record { positionals = codes "file" ∷ []; options = workers ∷ kind ∷ miller ∷ [] }
 
+-- `--order N`, below 2^64
+abbrev pub order : OptionForm
+order = record { name = codes "order"; is_required = true; value = number 0 18446744073709551615 }
+
+-- `--workers W`, from 1 to 64, which has to be there
+abbrev pub some_workers : OptionForm
+some_workers = record workers { is_required = true }
+
+-- `replay FILE --order N --workers W [--miller L,M,H]`
+abbrev pub replay_form : CommandForm
+replay_form = record { positionals = codes "file" ∷ []; options = order ∷ some_workers ∷ miller ∷ [] }
+
 -- `--number N`, below 2^64
 abbrev pub seed : OptionForm
 seed = record { name = codes "number"; is_required = true; value = number 0 18446744073709551615 }
@@ -52,11 +65,13 @@ gen_form = record { positionals = []; options = seed ∷ net_count ∷ workers �
 abbrev pub command_named : Text → Option CommandName
 command_named word =
     if bytes_eq word (codes "solve") then Some command.Solve
+    else if bytes_eq word (codes "replay") then Some command.Replay
     else if bytes_eq word (codes "gen") then Some command.Gen else None
 
 -- the form of the words behind the command's own
 abbrev pub form_of_command : CommandName → CommandForm
 form_of_command command.Solve = solve_form
+form_of_command command.Replay = replay_form
 form_of_command command.Gen = gen_form
 
 -- ---- the jobs, where each name has this word
@@ -97,6 +112,26 @@ solve_job given = record {
 abbrev pub number_or_zero : Option Text → ℕ
 number_or_zero text = unwrap_or (option_and_then (number_of 64) text) 0
 
+-- so many workers can make a run
+pub record IsWorkerCount (workers : ℕ) : Type 0 where
+  pub some : 1 ≤ workers
+  pub most : workers ≤ 64
+
+-- the count of workers, where it is one that a run can have; no other is of the form
+abbrev pub workers_or_one : Option Text → ℕ
+workers_or_one text =
+    if nat_le 1 (number_or_one text) && nat_le (number_or_one text) 64 then number_or_one text else 1
+
+-- a linked text to solve by so many workers in the order of this number, with its own Miller numbers unless others are
+-- given
+abbrev pub replay_job : (Text → Option Text) → ReplayJob
+replay_job given = record {
+  file = text_or_empty (given (codes "file"));
+  order = number_or_zero (given (codes "order"));
+  workers = workers_or_one (given (codes "workers"));
+  miller = miller_or_none (given (codes "miller"));
+}
+
 -- the count of nets, where it is one that a design can be generated for; no other is of the form
 abbrev pub count_or_one : Option Text → ℕ
 count_or_one text =
@@ -112,6 +147,7 @@ gen_job given = record {
 
 abbrev pub job_for : CommandName → (Text → Option Text) → Job
 job_for command.Solve given = Solve (solve_job given)
+job_for command.Replay given = Replay (replay_job given)
 job_for command.Gen given = Gen (gen_job given)
 
 -- the job that the words ask for: the first word names a command, and those behind it are of its form
@@ -122,7 +158,8 @@ job_of (word ∷ rest) = do
   items ← given_of (form_of_command name) rest
   Some (job_for name (value_of items))
 
--- a design can be generated for the count of nets of the job, if it has one
+-- a run can have the count of workers of the job, and a design be generated for its count of nets, where it says one
 abbrev pub HasCount : Job → Type 0
 HasCount (Solve job) = Unit {0}
+HasCount (Replay job) = IsWorkerCount job.workers
 HasCount (Gen job) = IsCount job.nets

@@ -14,7 +14,6 @@ pub fn counted_by(design: Design, miller: Option<Miller>) -> Design
     ensures value { result ≡ counted_by miller design }
     ensures sound { IsSound result }
     ensures levelled { AreLevelled result.nets }
-    ensures checks { result.checks ≡ design.checks }
 {
     match miller {
         Some(miller) => design.with_miller(miller),

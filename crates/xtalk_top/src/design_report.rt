@@ -1,26 +1,33 @@
 //! The report of a design.
 
-ghost use Rattle.std.specs.Prelude.{◌≡◌, List, [], IfOk, IfErr};
+ghost use Rattle.std.specs.Prelude.{IfOk, IfErr};
 ghost use Rattle.xt_model.specs.Levels.{AreLevelled};
 ghost use Rattle.xt_model.specs.Sound.{IsSound};
+ghost use Rattle.xtalk_top.specs.Words.{IsWorkerCount};
 ghost use Rattle.xtalk_top.specs.Outcome.{DesignMeans, prints};
 ghost use Rattle.xtalk_top.specs.Call.{IsStop};
 
+use crate::fixpoints::Picks;
 use crate::refusal::Stop;
 use crate::solution::solved;
 use report_text::{ReportKind, write_report};
 use std::alloc::Global;
 use xt_model::{Design, NoMemory};
 
-/// The report of a design: of its least and its greatest windows.
-pub fn report(alloc: Global, design: &Design, kind: ReportKind) -> Result<Vec<u8>, Stop>
+/// The report of a design: of its least and its greatest windows, found by runs of these picks.
+pub fn report(
+    alloc: Global,
+    design: &Design,
+    kind: ReportKind,
+    picks: Picks,
+) -> Result<Vec<u8>, Stop>
     requires sound { IsSound design.now }
     requires levelled { AreLevelled design.now.nets }
-    requires unchecked { design.now.checks ≡ [] }
+    requires workers { IsWorkerCount picks.workers }
     ensures ok { IfOk result (λ text. DesignMeans kind design.now (prints text.items)) }
     ensures stop { IfErr result (IsStop (DesignMeans kind design.now) (λ _. ⊥)) }
 {
-    let found = solved(alloc, design)?;
+    let found = solved(alloc, design, picks)?;
     match write_report(alloc, design, &found.low, &found.high, kind) {
         Ok(text) => Ok(text),
         Err(NoMemory) => Err(Stop::NoMemory),

@@ -2,12 +2,27 @@ ghost use Rattle.std.specs.Prelude.{IfOk};
 ghost use Rattle.xt_model.specs.declared.direction.Direction.TheVariants.{Narrow};
 ghost use Rattle.xt_meaning.specs.Barrier.{IsFittingStart};
 ghost use Rattle.xt_meaning.specs.Fixpoint.{IsLeastFixpoint, IsGreatestFixpoint};
+ghost use Rattle.xtalk_top.specs.Words.{IsWorkerCount};
 
 use chaos_core::settle_picked;
 use envelope::quiet;
 use net_eval::read_lists;
 use std::alloc::{AllocError, Global};
 use xt_model::{Design, Direction, Windows};
+
+/// Which worker makes a step when: how many workers a run has, from 1 to 64, and the number from which its source picks
+/// them.
+#[derive(Debug, Clone, Copy)]
+pub struct Picks {
+    pub workers: u32,
+    pub number: u64,
+}
+
+/// One worker, which is the one that any number picks.
+pub const ONE_WORKER: Picks = Picks {
+    workers: 1,
+    number: 0,
+};
 
 /// The least and the greatest windows of a design.
 #[derive(Debug, Drop)]
@@ -16,21 +31,40 @@ pub struct Fixpoints {
     pub high: Windows,
 }
 
-/// Runs twice, by rounds of one worker: wider from windows in which nothing switches, and narrower from `top`, the
-/// envelope.
+/// Runs twice, each time by these picks from their number on: wider from windows in which nothing switches, and
+/// narrower from `top`, the envelope.
 pub fn least_and_greatest(
     alloc: Global,
     design: &Design,
     top: Windows,
+    picks: Picks,
 ) -> Result<Fixpoints, AllocError>
-    requires { IsFittingStart Narrow design.now top }
+    requires start { IsFittingStart Narrow design.now top }
+    requires workers { IsWorkerCount picks.workers }
     ensures least { IfOk result (λ found. IsLeastFixpoint design.now found.low) }
     ensures greatest { IfOk result (λ found. IsGreatestFixpoint design.now found.high) }
 {
     let lists = read_lists(alloc, design)?;
     let bottom = quiet(alloc, design)?;
-    let low = settle_picked(alloc, design, &lists, Direction::Widen, &bottom, 1, 0)?;
-    let high = settle_picked(alloc, design, &lists, Direction::Narrow, &top, 1, 0)?;
+    let Picks { workers, number } = picks;
+    let low = settle_picked(
+        alloc,
+        design,
+        &lists,
+        Direction::Widen,
+        &bottom,
+        workers,
+        number,
+    )?;
+    let high = settle_picked(
+        alloc,
+        design,
+        &lists,
+        Direction::Narrow,
+        &top,
+        workers,
+        number,
+    )?;
     Ok(Fixpoints {
         low: low.windows,
         high: high.windows,

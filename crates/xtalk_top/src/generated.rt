@@ -8,6 +8,7 @@ ghost use Rattle.xtalk_top.specs.Outcome.{prints};
 ghost use Rattle.xtalk_top.specs.Call.{IsStop};
 ghost use Rattle.xtalk_top.specs.Gen.{GenMeans, SummaryMeans};
 
+use crate::fixpoints::ONE_WORKER;
 use crate::refusal::Stop;
 use crate::solution::solved;
 use crate::words::GenJob;
@@ -23,7 +24,7 @@ fn summary(alloc: Global, design: &Design) -> Result<Vec<u8>, Stop>
     ensures ok { IfOk result (λ text. SummaryMeans design.now (prints text.items)) }
     ensures stop { IfErr result (IsStop (SummaryMeans design.now) (λ _. ⊥)) }
 {
-    let found = solved(alloc, design)?;
+    let found = solved(alloc, design, ONE_WORKER)?;
     match write_summary(alloc, design, &found.low, &found.high) {
         Ok(text) => Ok(text),
         Err(NoMemory) => Err(Stop::NoMemory),

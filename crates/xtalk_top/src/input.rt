@@ -41,6 +41,7 @@ pub fn read_file<F: Files>(
 
 /// The design whose linked text a file of this name holds.
 pub fn read_design(alloc: Global, file: FileName, bytes: &[u8]) -> Result<Design, Stop>
+    requires { length bytes.now ≤ most_bytes }
     ensures ok { IfOk result (IsDesignText bytes.now) }
     ensures stop { IfErr result (IsStop (LinkedMeans file bytes.now (λ _. ⊥)) (λ _. ⊥)) }
 {
@@ -49,6 +50,10 @@ pub fn read_design(alloc: Global, file: FileName, bytes: &[u8]) -> Result<Design
         Err(LinkedFault::Refused { line, code }) => Err(Stop::Refused(Refusal::File {
             file,
             why: FileRefusal::Content(TextRefusal::At { line, code }),
+        })),
+        Err(LinkedFault::Limit { what, name, value }) => Err(Stop::Refused(Refusal::File {
+            file,
+            why: FileRefusal::Content(TextRefusal::Beyond { what, name, value }),
         })),
         Err(LinkedFault::NoMemory) => Err(Stop::NoMemory),
     }

@@ -10,15 +10,19 @@ mod grammar;
 mod input;
 mod refusal;
 mod refuse;
+mod replay;
 mod solution;
 mod solve;
+mod text_report;
 mod top;
 mod words;
 
 pub use file_name::FileName;
 pub use top::xtalk;
-pub use words::{GenJob, Job, SolveJob, WordsFault, parse_words};
+pub use words::{GenJob, Job, ReplayJob, SolveJob, WordsFault, parse_words};
 
+#[cfg(test)]
+mod check_tests;
 #[cfg(test)]
 mod generated_tests;
 #[cfg(test)]
@@ -27,5 +31,7 @@ mod grammar_tests;
 mod miller_tests;
 #[cfg(test)]
 mod outside_tests;
+#[cfg(test)]
+mod replay_tests;
 #[cfg(test)]
 mod tests;

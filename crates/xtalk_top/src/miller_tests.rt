@@ -69,7 +69,7 @@ fn joined(alloc: Global, pieces: &[&str]) -> Result<Vec<u8>, AllocError> {
 }
 
 /// The text of the crossed nets in version 2, with these Miller numbers.
-fn cross(alloc: Global, numbers: &str) -> Result<Vec<u8>, AllocError> {
+pub fn cross(alloc: Global, numbers: &str) -> Result<Vec<u8>, AllocError> {
     let head = "xtalk-design 2\ncounts 2 4 0\nperiod none\nmiller ";
     let mut text = joined(alloc, &[head, numbers, "\n"])?;
     text.extend_from_slice(CROSS)?;
@@ -77,7 +77,7 @@ fn cross(alloc: Global, numbers: &str) -> Result<Vec<u8>, AllocError> {
 }
 
 /// Their report, where the gates rise from this time on in the greatest windows.
-fn cross_report(
+pub fn cross_report(
     alloc: Global,
     numbers: &str,
     first: &str,
@@ -270,7 +270,7 @@ fn the_numbers_of_the_text_are_tested_first(rt: HostRuntime) -> Result<(), Fail>
         let ended = run(&rt, alloc, &words, &cross(alloc, numbers)?, calm(alloc))?;
         assert_eq!(rt; ended.status, 3);
         assert_eq!(rt; ended.out.len(), 0);
-        assert_eq!(rt; ended.err.as_slice(), b"one.xt:1: X9\n".as_slice());
+        assert_eq!(rt; ended.err.as_slice(), b"one.xt:4: X3\n".as_slice());
     }
     Ok(())
 }

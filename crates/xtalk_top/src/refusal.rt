@@ -3,7 +3,7 @@
 
 use crate::file_name::FileName;
 use envelope::What;
-use xt_model::{Code, Name};
+use xt_model::{Code, LimitKind, Name};
 
 /// A limit that is passed: what has it, the name of its net, if it is a net's, and the number that passes it.
 #[derive(Debug, Drop)]
@@ -24,7 +24,16 @@ pub enum DesignRefusal {
 #[derive(Debug, Drop)]
 pub enum TextRefusal {
     /// It is refused at this line, counted from 1.
-    At { line: u32, code: Code },
+    At {
+        line: u32,
+        code: Code,
+    },
+    /// It passes a limit, by this value: for a load that of the net of this name in aF.
+    Beyond {
+        what: LimitKind,
+        name: Option<Name>,
+        value: u128,
+    },
 }
 
 /// Why a file that was read gives nothing.

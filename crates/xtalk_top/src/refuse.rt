@@ -1,13 +1,13 @@
 //! The line and the status of a failure.
 
-ghost use Rattle.std.specs.Prelude.{◌≡◌, ℕ, ◌≤◌, List, [], ◌++◌, OnOk, OnErr};
+ghost use Rattle.std.specs.Prelude.{◌≡◌, ℕ, ◌≤◌, List, [], ◌∷◌, ◌++◌, OnOk, OnErr};
 ghost use Rattle.xt_io.specs.Outside.{Rose, appended, IsPrefixAppended};
-ghost use Rattle.xtalk_top.specs.Call.{line_of, status_of, what_word, name_field, WritesLine};
+ghost use Rattle.xtalk_top.specs.Call.{line_of, status_of, beyond_line, what_word, kind_word, name_field, WritesLine};
 ghost use Rattle.xtalk_top.specs.declared.refusal.Failure.TheVariants.{NoText};
 ghost use Rattle.xtalk_top.specs.declared.refusal.Stop.TheVariants.{Refused};
 ghost use Rattle.xtalk_top.specs.declared.refusal.Refusal.TheVariants.{File, Design};
 ghost use Rattle.xtalk_top.specs.declared.refusal.FileRefusal.TheVariants.{Content, TooLong};
-ghost use Rattle.xtalk_top.specs.declared.refusal.TextRefusal.TheVariants.{At};
+ghost use Rattle.xtalk_top.specs.declared.refusal.TextRefusal.TheVariants.{At, Beyond};
 ghost use Rattle.xtalk_top.specs.declared.refusal.DesignRefusal.TheVariants.{Limit};
 
 use crate::file_name::FileName;
@@ -17,7 +17,7 @@ use crate::refusal::{
 use envelope::What;
 use itoa::Buffer;
 use xt_io::{Failed, MOST_BYTES, Sink, write_whole};
-use xt_model::{Code, Name};
+use xt_model::{Code, LimitKind, Name};
 
 /// Writes the line of a failure, and gives its status. A fault of the sink cuts the line off and changes nothing
 /// else.
@@ -52,6 +52,16 @@ fn refusal_status(why: &Refusal) -> u8
             file: _,
             why: FileRefusal::Content(TextRefusal::At { line: _, code: _ }),
         } => 3,
+        Refusal::File {
+            file: _,
+            why: FileRefusal::Content(
+                TextRefusal::Beyond {
+                    what: _,
+                    name: _,
+                    value: _,
+                },
+            ),
+        } => 5,
         Refusal::File {
             file: _,
             why: FileRefusal::TooLong,
@@ -132,6 +142,9 @@ fn write_file_refusal<E: Sink>(
         FileRefusal::Content(TextRefusal::At { line, code }) => write_place(
             err, file, *line, *code,
         ),
+        FileRefusal::Content(TextRefusal::Beyond { what, name, value }) => write_beyond(
+            err, *what, name, *value,
+        ),
     }
 }
 
@@ -164,6 +177,43 @@ fn write_length<E: Sink>(err: &mut E, file: &FileName) -> Result<(), Failed>
     let mut buffer = Buffer::new();
     write_two(err, b"limit: file ", file.as_str().as_bytes())?;
     write_three(err, b" ", buffer.format(MOST_BYTES + 1).as_bytes(), b"\n")
+}
+
+// The word for what has a limit.
+fn word_of_kind(what: LimitKind) -> &'static [u8]
+    ensures { result.now ≡ kind_word what }
+{
+    match what {
+        LimitKind::Nets => b"nets",
+        LimitKind::Instances => b"instances",
+        LimitKind::Nodes => b"nodes",
+        LimitKind::Load => b"load",
+        LimitKind::Couplings => b"couplings",
+        LimitKind::Coefficients => b"coefficients",
+        LimitKind::Arcs => b"arcs",
+        LimitKind::Tables => b"tables",
+        LimitKind::Checks => b"checks",
+        LimitKind::Reads => b"reads",
+    }
+}
+
+// Writes which limit a linked text passes, at which net, and by what.
+fn write_beyond<E: Sink>(
+    err: &mut E,
+    what: LimitKind,
+    name: &Option<Name>,
+    value: u128,
+) -> Result<(), Failed>
+    ensures ok { OnOk result (E.written err.new ≡ appended (E.written err.old)
+        (beyond_line what name.now value ++ 10 ∷ [])) }
+    ensures err { OnErr result (IsPrefixAppended (E.written err.old) (E.written err.new)
+        (beyond_line what name.now value ++ 10 ∷ [])) }
+    ensures failed { OnErr result (Rose (E.faults err.old) (E.faults err.new)) }
+{
+    let mut buffer = Buffer::new();
+    let (name, space) = name_pieces(name);
+    write_three(err, b"limit: ", word_of_kind(what), b" ")?;
+    write_four(err, name, space, buffer.format(value).as_bytes(), b"\n")
 }
 
 // Writes which limit is passed, at which net, and by what.

@@ -2,24 +2,29 @@
 
 ghost use Rattle.std.specs.Prelude.{IfOk, IfErr};
 ghost use Rattle.envelope.specs.Firsts.{IsFirstPassed};
+ghost use Rattle.xt_meaning.specs.Barrier.{IsWithinEnvelope};
 ghost use Rattle.xt_meaning.specs.Fixpoint.{IsLeastFixpoint, IsGreatestFixpoint};
 ghost use Rattle.xt_model.specs.Levels.{AreLevelled};
 ghost use Rattle.xt_model.specs.Sound.{IsSound};
+ghost use Rattle.xtalk_top.specs.Words.{IsWorkerCount};
 ghost use Rattle.xtalk_top.specs.Outcome.{AreBounds, KeepsLimits, SolvedMeans};
 ghost use Rattle.xtalk_top.specs.Call.{IsStop};
 
-use crate::fixpoints::{Fixpoints, least_and_greatest};
+use crate::fixpoints::{Fixpoints, Picks, least_and_greatest};
 use crate::refusal::{DesignRefusal, PassedLimit, Refusal, Stop};
 use envelope::{EnvelopeFault, What, envelope};
 use std::alloc::Global;
 use xt_model::{Design, Name, NetId};
 
-/// The least and the greatest windows of a design.
-pub fn solved(alloc: Global, design: &Design) -> Result<Fixpoints, Stop>
+/// The least and the greatest windows of a design, found by runs of these picks.
+pub fn solved(alloc: Global, design: &Design, picks: Picks) -> Result<Fixpoints, Stop>
     requires sound { IsSound design.now }
     requires levelled { AreLevelled design.now.nets }
+    requires workers { IsWorkerCount picks.workers }
     ensures least { IfOk result (λ found. IsLeastFixpoint design.now found.low) }
     ensures greatest { IfOk result (λ found. IsGreatestFixpoint design.now found.high) }
+    ensures low_within { IfOk result (λ found. IsWithinEnvelope design.now found.low) }
+    ensures high_within { IfOk result (λ found. IsWithinEnvelope design.now found.high) }
     ensures bounds { IfOk result (λ found. AreBounds design.now found.low found.high) }
     ensures within { IfOk result (λ _. KeepsLimits design.now) }
     ensures stop { IfErr result (IsStop (SolvedMeans (λ _. ⊥) design.now) (λ _. ⊥)) }
@@ -31,7 +36,7 @@ pub fn solved(alloc: Global, design: &Design) -> Result<Fixpoints, Stop>
         }
         Err(EnvelopeFault::NoMemory) => return Err(Stop::NoMemory),
     };
-    match least_and_greatest(alloc, design, top) {
+    match least_and_greatest(alloc, design, top, picks) {
         Ok(found) => Ok(found),
         Err(_) => Err(Stop::NoMemory),
     }

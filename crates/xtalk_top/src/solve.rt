@@ -1,16 +1,15 @@
 //! The command `solve`.
 
-ghost use Rattle.std.specs.Prelude.{◌≡◌, ◌≢◌, IfOk, IfErr};
+ghost use Rattle.std.specs.Prelude.{◌≢◌, IfOk, IfErr};
 ghost use Rattle.xt_io.specs.Outside.{KeepsCounts};
 ghost use Rattle.xtalk_top.specs.Outcome.{prints};
 ghost use Rattle.xtalk_top.specs.Call.{HasFault, IsStop, status_of};
 ghost use Rattle.xtalk_top.specs.declared.refusal.Failure.TheVariants.{NoText};
 ghost use Rattle.xtalk_top.specs.Solve.{SolveMeans};
 
-use crate::counted::counted_by;
-use crate::design_report::report;
-use crate::input::{read_design, read_file};
+use crate::fixpoints::ONE_WORKER;
 use crate::refusal::Stop;
+use crate::text_report::report_of_text;
 use crate::words::SolveJob;
 use std::alloc::Global;
 use xt_io::Files;
@@ -30,8 +29,5 @@ pub fn solve<F: Files>(alloc: Global, files: &mut F, job: SolveJob) -> Result<Ve
         kind,
         miller,
     } = job;
-    let (file, bytes) = read_file(alloc, files, file)?;
-    let design = read_design(alloc, file, &bytes)?;
-    let design = counted_by(design, miller);
-    report(alloc, &design, kind)
+    report_of_text(alloc, files, file, miller, kind, ONE_WORKER)
 }

@@ -24,13 +24,13 @@ const ONE_REPORT: &[u8] = b"\
     net a fall quiet\n\
     end\n";
 
-const EMPTY: &[u8] = b"\
+pub const EMPTY: &[u8] = b"\
     xtalk-design 1\n\
     counts 0 0 0\n\
     period none\n\
     end\n";
 
-const EMPTY_REPORT: &[u8] = b"\
+pub const EMPTY_REPORT: &[u8] = b"\
     xtalk 1\n\
     nets 0 couplings 0 pairs 0 levels 0 bound 0\n\
     period none\n\
@@ -45,7 +45,7 @@ const CHECKED: &[u8] = b"\
     fall quiet\n\
     end\n";
 
-const CROSS: &[u8] = b"\
+pub const CROSS: &[u8] = b"\
     xtalk-design 1\n\
     counts 2 4 0\n\
     period none\n\
@@ -73,7 +73,7 @@ const CROSS: &[u8] = b"\
     arc 1 0 rise rise 0 1\n\
     end\n";
 
-const CROSS_REPORT: &[u8] = b"\
+pub const CROSS_REPORT: &[u8] = b"\
     xtalk 1\n\
     nets 4 couplings 2 pairs 2 levels 2 bound 18\n\
     period none\n\
@@ -89,7 +89,7 @@ const CROSS_REPORT: &[u8] = b"\
     guilty t rise c 1.000 fast possible slow no\n\
     end\n";
 
-const LOAD_PAIR: &[u8] = b"\
+pub const LOAD_PAIR: &[u8] = b"\
     xtalk-design 1\n\
     counts 2 4 0\n\
     period none\n\
@@ -117,7 +117,7 @@ const LOAD_PAIR: &[u8] = b"\
     arc 1 0 fall fall 0 1\n\
     end\n";
 
-const LOAD_PAIR_REPORT: &[u8] = b"\
+pub const LOAD_PAIR_REPORT: &[u8] = b"\
     xtalk 1\n\
     nets 4 couplings 2 pairs 1 levels 2 bound 10\n\
     period none\n\
@@ -238,7 +238,7 @@ const TOO_EARLY: &[u8] = b"\
     arc 0 0 rise rise 0 1\n\
     end\n";
 
-const DIFFER: &[u8] = b"\
+pub const DIFFER: &[u8] = b"\
     xtalk-design 1\n\
     counts 5 9 0\n\
     period none\n\
@@ -317,7 +317,7 @@ const DIFFER: &[u8] = b"\
     end\n";
 
 // As a plain program finds it, written from the definitions alone.
-const DIFFER_REPORT: &[u8] = b"\
+pub const DIFFER_REPORT: &[u8] = b"\
     xtalk 1\n\
     nets 9 couplings 12 pairs 6 levels 4 bound 100\n\
     period none\n\
@@ -539,7 +539,7 @@ fn refuses_other_words(rt: HostRuntime) -> Result<(), Fail> {
 #[test]
 fn refuses_texts_limits_and_names(rt: HostRuntime) -> Result<(), Fail> {
     let cases: [(&str, &[u8], u8, &[u8]); 5] = [
-        ("one.xt", CHECKED, 3, b"one.xt:1: X9\n"),
+        ("one.xt", CHECKED, 3, b"one.xt:7: X1\n"),
         ("one.xt", TOO_LATE, 5, b"limit: time a 70368744177665\n"),
         ("one.xt", TOO_SLOW, 5, b"limit: slew a 1099511627778\n"),
         ("one.xt", TOO_EARLY, 5, b"limit: time b -70368744177665\n"),

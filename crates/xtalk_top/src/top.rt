@@ -12,6 +12,7 @@ ghost use Rattle.xtalk_top.specs.declared.refusal.Stop.TheVariants.{Refused};
 use crate::generated::summary_of_generated;
 use crate::refusal::{Failure, Refusal, Stop};
 use crate::refuse::refuse;
+use crate::replay::replay;
 use crate::solve::solve;
 use crate::words::{Job, WordsFault, parse_words};
 use std::alloc::Global;
@@ -95,6 +96,7 @@ fn job_text<F: Files>(alloc: Global, files: &mut F, job: Job) -> Result<Vec<u8>,
 {
     match job {
         Job::Solve(job) => solve(alloc, files, job),
+        Job::Replay(job) => replay(alloc, files, job),
         Job::Gen(job) => summary_of_generated(alloc, job),
     }
 }

@@ -19,6 +19,8 @@ use xt_model::Miller;
 pub enum Job {
     /// The report of the design in a linked text.
     Solve(SolveJob),
+    /// The same report, by runs of many workers in an order that a number picks.
+    Replay(ReplayJob),
     /// The summary of a generated design.
     Gen(GenJob),
 }
@@ -29,6 +31,16 @@ pub struct SolveJob {
     pub file: FileName,
     pub workers: u32,
     pub kind: ReportKind,
+    pub miller: Option<Miller>,
+}
+
+/// A linked text to solve: by how many workers, from 1 to 64, from which number their order is picked, and by which
+/// Miller numbers in place of its own.
+#[derive(Debug, Drop)]
+pub struct ReplayJob {
+    pub file: FileName,
+    pub order: u64,
+    pub workers: u32,
     pub miller: Option<Miller>,
 }
 
@@ -44,6 +56,7 @@ pub struct GenJob {
 #[derive(Debug, Clone, Copy)]
 enum CommandName {
     Solve,
+    Replay,
     Gen,
 }
 
@@ -72,6 +85,26 @@ const MILLER: OptionRule = OptionRule {
 const SOLVE: CommandRule = CommandRule {
     positionals: &["file"],
     options: &[WORKERS, KIND, MILLER],
+};
+
+const ORDER: OptionRule = OptionRule {
+    name: "order",
+    is_required: true,
+    value: ValueRule::Number {
+        least: 0,
+        most: 18_446_744_073_709_551_615,
+    },
+};
+
+const SOME_WORKERS: OptionRule = OptionRule {
+    name: "workers",
+    is_required: true,
+    value: ValueRule::Number { least: 1, most: 64 },
+};
+
+const REPLAY: CommandRule = CommandRule {
+    positionals: &["file"],
+    options: &[ORDER, SOME_WORKERS, MILLER],
 };
 
 const NUMBER: OptionRule = OptionRule {
@@ -103,6 +136,7 @@ fn command_named(word: &str) -> Option<CommandName>
 {
     match word {
         "solve" => Some(CommandName::Solve),
+        "replay" => Some(CommandName::Replay),
         "gen" => Some(CommandName::Gen),
         _ => None,
     }
@@ -114,6 +148,7 @@ fn rule_of(command: CommandName) -> CommandRule
 {
     match command {
         CommandName::Solve => SOLVE,
+        CommandName::Replay => REPLAY,
         CommandName::Gen => GEN,
     }
 }
@@ -168,6 +203,14 @@ fn number_or_zero(text: Option<&str>) -> u64
     }
 }
 
+// The count of workers that is given: from 1 to 64.
+fn workers_or_one(text: Option<&str>) -> u32
+    ensures { result ≡ Words.workers_or_one (option_map (λ t. t.now) text.entry) }
+{
+    let count = number_or_one(text);
+    if 1 <= count && count <= 64 { count } else { 1 }
+}
+
 // The count of nets that is given: from 1 to 100,000.
 fn count_or_one(text: Option<&str>) -> u32
     ensures { result ≡ Words.count_or_one (option_map (λ t. t.now) text.entry) }
@@ -199,6 +242,17 @@ fn solve_job(alloc: Global, matches: &ArgMatches) -> Result<SolveJob, AllocError
     })
 }
 
+fn replay_job(alloc: Global, matches: &ArgMatches) -> Result<ReplayJob, AllocError>
+    ensures { IfOk result (λ job. job ≡ Words.replay_job (first_value (found_of matches.now))) }
+{
+    Ok(ReplayJob {
+        file: file_name(alloc, matches.get_str("file"))?,
+        order: number_or_zero(matches.get_str("order")),
+        workers: workers_or_one(matches.get_str("workers")),
+        miller: miller_or_none(matches.get_str("miller")),
+    })
+}
+
 fn gen_job(matches: &ArgMatches) -> GenJob
     ensures { result ≡ Words.gen_job (first_value (found_of matches.now)) }
 {
@@ -215,6 +269,7 @@ fn job_for(alloc: Global, command: CommandName, matches: &ArgMatches) -> Result<
 {
     match command {
         CommandName::Solve => Ok(Job::Solve(solve_job(alloc, matches)?)),
+        CommandName::Replay => Ok(Job::Replay(replay_job(alloc, matches)?)),
         CommandName::Gen => Ok(Job::Gen(gen_job(matches))),
     }
 }

@@ -1,0 +1,41 @@
+//! The command `replay`.
+
+ghost use Rattle.std.specs.Prelude.{◌≢◌, IfOk, IfErr};
+ghost use Rattle.xt_io.specs.Outside.{KeepsCounts};
+ghost use Rattle.xtalk_top.specs.Words.{IsWorkerCount};
+ghost use Rattle.xtalk_top.specs.Outcome.{prints};
+ghost use Rattle.xtalk_top.specs.Call.{HasFault, IsStop, status_of};
+ghost use Rattle.xtalk_top.specs.declared.refusal.Failure.TheVariants.{NoText};
+ghost use Rattle.xtalk_top.specs.Replay.{ReplayMeans};
+
+use crate::fixpoints::Picks;
+use crate::refusal::Stop;
+use crate::text_report::report_of_text;
+use crate::words::ReplayJob;
+use report_text::ReportKind;
+use std::alloc::Global;
+use xt_io::Files;
+
+/// The whole report of the design whose linked text the job's file holds, by the job's Miller numbers where it has any,
+/// solved by the job's workers in the order of its number.
+pub fn replay<F: Files>(alloc: Global, files: &mut F, job: ReplayJob) -> Result<Vec<u8>, Stop>
+    requires { IsWorkerCount job.workers }
+    ensures ok { IfOk result (λ text. ReplayMeans job (F.content files.old) (prints text.items)) }
+    ensures stop { IfErr result (IsStop (ReplayMeans job (F.content files.old))
+        (HasFault (F.faults files.old) (F.faults files.new))) }
+    ensures calm { IfOk result (λ _. KeepsCounts (F.faults files.old) (F.faults files.new)) }
+    ensures read { IfErr result (λ stop. status_of (NoText stop) ≢ 6
+        → KeepsCounts (F.faults files.old) (F.faults files.new)) }
+{
+    let ReplayJob {
+        file,
+        order,
+        workers,
+        miller,
+    } = job;
+    let picks = Picks {
+        workers,
+        number: order,
+    };
+    report_of_text(alloc, files, file, miller, ReportKind::All, picks)
+}

@@ -1,0 +1,43 @@
+//! The report of the design in a linked text.
+
+ghost use Rattle.std.specs.Prelude.{◌≡◌, ◌≢◌, IfOk, IfErr};
+ghost use Rattle.xt_io.specs.Outside.{KeepsCounts};
+ghost use Rattle.xtalk_top.specs.Words.{IsWorkerCount};
+ghost use Rattle.xtalk_top.specs.Outcome.{TextReportMeans, prints};
+ghost use Rattle.xtalk_top.specs.Call.{HasFault, IsStop, status_of};
+ghost use Rattle.xtalk_top.specs.declared.refusal.Failure.TheVariants.{NoText};
+
+use crate::counted::counted_by;
+use crate::design_report::report;
+use crate::file_name::FileName;
+use crate::fixpoints::Picks;
+use crate::input::{read_design, read_file};
+use crate::refusal::Stop;
+use report_text::ReportKind;
+use std::alloc::Global;
+use xt_io::Files;
+use xt_model::Miller;
+
+/// The report of the design whose linked text the file holds, by these Miller numbers where there are any, solved by
+/// runs of these picks.
+pub fn report_of_text<F: Files>(
+    alloc: Global,
+    files: &mut F,
+    file: FileName,
+    miller: Option<Miller>,
+    kind: ReportKind,
+    picks: Picks,
+) -> Result<Vec<u8>, Stop>
+    requires { IsWorkerCount picks.workers }
+    ensures ok { IfOk result (λ text. TextReportMeans file miller kind (F.content files.old) (prints text.items)) }
+    ensures stop { IfErr result (IsStop (TextReportMeans file miller kind (F.content files.old))
+        (HasFault (F.faults files.old) (F.faults files.new))) }
+    ensures calm { IfOk result (λ _. KeepsCounts (F.faults files.old) (F.faults files.new)) }
+    ensures read { IfErr result (λ stop. status_of (NoText stop) ≢ 6
+        → KeepsCounts (F.faults files.old) (F.faults files.new)) }
+{
+    let (file, bytes) = read_file(alloc, files, file)?;
+    let design = read_design(alloc, file, &bytes)?;
+    let design = counted_by(design, miller);
+    report(alloc, &design, kind, picks)
+}
