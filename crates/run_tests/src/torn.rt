@@ -1,0 +1,126 @@
+//! Schedules in which a worker loads a window while another publishes it.
+
+ghost use Rattle.std.specs.Prelude.{◌≡◌, ◌<◌, length, IfOk};
+ghost use Rattle.std.specs.List.{All};
+ghost use Rattle.xt_model.specs.declared.direction.Direction.TheVariants.{Widen};
+ghost use Rattle.xt_meaning.specs.Barrier.{IsFittingStart};
+ghost use Rattle.net_eval.specs.ReadLists.{AreReadLists};
+ghost use Rattle.chaos_core.specs.Tasks.{idle, task_of};
+ghost use Rattle.chaos_core.specs.Rounds.{HasRoom};
+
+use crate::starts::{low, read, top};
+use crate::texts::CHAIN;
+use chaos_core::{MemoryBoard, Worker, run_schedule, settle_picked};
+use net_eval::{ReadLists, read_lists};
+use std::alloc::{AllocError, Global};
+use std::test::Fail;
+use xt_model::{Design, Direction, Pair, Quad, Windows};
+
+const QUIET: Pair = Pair {
+    rise: Quad::BOTTOM,
+    fall: Quad::BOTTOM,
+};
+
+/// A net that rises at a time alone.
+const fn rises_at(time: i64) -> Pair {
+    Pair {
+        rise: Quad {
+            tlo: time,
+            thi: time,
+            slo: 0,
+            shi: 0,
+        },
+        fall: Quad::BOTTOM,
+    }
+}
+
+/// Picks of worker 0 and of worker 1, each a digit.
+fn picks(alloc: Global, digits: &[u8]) -> Result<Vec<u32>, AllocError>
+    ensures { IfOk result (λ picks. All (λ pick. pick < 2) picks.items) }
+{
+    let mut picks = Vec::new(alloc);
+    for digit in digits {
+        picks.push(u32::from(*digit % 2))?;
+    }
+    Ok(picks)
+}
+
+/// Two idle workers.
+fn two_workers(alloc: Global, lists: &ReadLists) -> Result<Vec<Worker>, AllocError>
+    ensures count { IfOk result (λ workers. length workers.items ≡ 2) }
+    ensures idle { IfOk result (λ workers. All (λ worker. task_of worker ≡ idle) workers.items) }
+    ensures rooms { IfOk result (λ workers. All (HasRoom lists.now) workers.items) }
+{
+    let mut workers = Vec::new(alloc);
+    workers.push(Worker::new(alloc, lists)?)?;
+    workers.push(Worker::new(alloc, lists)?)?;
+    Ok(workers)
+}
+
+/// Widens from `start`, by two workers as the digits pick them.
+fn torn(
+    alloc: Global,
+    design: &Design,
+    lists: &ReadLists,
+    start: &Windows,
+    digits: &[u8],
+) -> Result<Windows, AllocError>
+    requires start { IsFittingStart Widen design.now start.now }
+    requires lists { AreReadLists design.now lists.now }
+    ensures { IfOk result (IsFittingStart Widen design.now) }
+{
+    let mut board = MemoryBoard::new(alloc, design, Direction::Widen, start)?;
+    let mut workers = two_workers(alloc, lists)?;
+    let picks = picks(alloc, digits)?;
+    run_schedule(
+        &mut board,
+        workers.as_mut_slice(),
+        design,
+        lists,
+        Direction::Widen,
+        picks.as_slice(),
+    );
+    board.windows(alloc)
+}
+
+/// The windows of the chain after these picks, and after a whole run from there on.
+fn torn_and_settled(alloc: Global, digits: &[u8]) -> Result<(Windows, Windows), Fail> {
+    let design = read(alloc, CHAIN)?;
+    let lists = read_lists(alloc, &design)?;
+    let top = top(alloc, &design)?;
+    let start = low(alloc, &design, &top)?;
+    let torn = torn(alloc, &design, &lists, &start, digits)?;
+    let end = settle_picked(alloc, &design, &lists, Direction::Widen, &torn, 1, 0)?;
+    Ok((torn, end.windows))
+}
+
+/// Picks, and whether net b rises after them. Worker 1 draws net a, which has nothing to read, and publishes its eight
+/// words. Worker 0 draws net b, loads the sixteen words of both nets, and publishes the eight of b.
+const TORN: [(&[u8], bool); 6] = [
+    // Worker 0 loads the least time of a before worker 1 publishes it, and all else after.
+    (b"1001111111100000000000000000000000", false),
+    // Worker 0 loads the whole window of a before.
+    (b"1000000000111111110000000000000000", false),
+    // Worker 0 loads both times after worker 1 published them, and both slews before.
+    (b"1110000011111100000000000000000000", false),
+    // Worker 0 loads the greatest slew alone before.
+    (b"1111000001111100000000000000000000", false),
+    // Worker 0 loads all of the rising window after, and the falling one before, in which nothing switches.
+    (b"1111100000000011110000000000000000", true),
+    // Worker 0 loads all after.
+    (b"1111111110000000000000000000000000", true),
+];
+
+#[test]
+fn a_torn_read_makes_no_window_and_a_further_round_mends_it(rt: HostRuntime) -> Result<(), Fail> {
+    for (digits, rises) in &TORN {
+        let (torn, settled) = torn_and_settled(rt.alloc(), digits)?;
+        let b = if *rises { rises_at(1500) } else { QUIET };
+        assert_eq!(rt; torn.pairs(), [rises_at(1000), b].as_slice());
+        assert_eq!(rt;
+            settled.pairs(),
+            [rises_at(1000), rises_at(1500)].as_slice()
+        );
+    }
+    Ok(())
+}
