@@ -3,9 +3,9 @@
 
     compare.py PROGRAM [COUNT] [SEED]
 
-Each text goes through `PROGRAM solve FILE`, some with `--miller`, and through the judge; standard
-output, standard error and status have to be the same. A text on which they differ is kept and named, and the
-status is then 1.
+Each text goes through `PROGRAM solve FILE` or `PROGRAM replay FILE ..`, some with `--miller`, and
+through the judge; standard output, standard error and status have to be the same. A text on which
+they differ is kept and named, and the status is then 1.
 """
 
 import os
@@ -16,7 +16,7 @@ import tempfile
 from collections import Counter
 
 import plain
-from plain import BOTH, BOTTOM, QUIET, Arc, Coupling, Design, Net, Quad, Sink, Table, live
+from plain import BOTH, BOTTOM, QUIET, Arc, Coupling, Design, Flop, Net, Port, Quad, Sink, Table, live
 
 PATIENCE = 120
 
@@ -106,6 +106,30 @@ def random_period(rng, unit):
         return None
     short = rng.randint(1, 2 * unit), rng.randint(1, 8 * unit), rng.randint(unit, 20 * unit)
     return rng.choice([*short, *short, 1, 999, rng.randint(1, 10**7), plain.MOST_ENTRY])
+
+
+def with_checks(rng, design):
+    """The design with check points at some of its sinks, and then with a period."""
+    places = [(n, sink) for n, net in enumerate(design.nets) for sink in range(len(net.sinks))]
+    if not places or rng.random() < 0.25:
+        return design
+    unit = rng.choice([1, 10, 1000, 30000])
+    tables = [*design.tables, *(random_table(rng, unit, rng.choice([0, -unit]), 2 * unit, 6 * unit) for _ in range(3))]
+
+    def sides(values):
+        return [None if rng.random() < 0.2 else rng.choice(values) for _ in BOTH]
+
+    checks = []
+    for _ in range(rng.choice([1, 2, 3, rng.randint(1, 12)])):
+        hold, name, place = rng.random() < 0.5, rng.choice(["y", "f/D", "~", "end", "x" * 2049]), rng.choice(places)
+        if rng.random() < 0.4:
+            times = [0, 0, unit, rng.randint(-unit, unit), rng.randint(-unit, unit), plain.MOST_ENTRY, -plain.MOST_ENTRY]
+            checks.append(Port(hold, name, *place, *sides(times)))
+        else:
+            checks.append(Flop(hold, name, *place, *rng.choice(places), *sides(range(len(tables)))))
+    checks += rng.sample(checks, rng.randint(0, min(2, len(checks))))
+    period = rng.choice([unit, 10 * unit, 100 * unit]) if design.period is None else design.period
+    return design._replace(period=period, tables=tables, checks=checks)
 
 
 def random_miller(rng):
@@ -244,8 +268,16 @@ def with_bad_part(rng, design):
     nets, tables = list(design.nets), list(design.tables)
     n = rng.randrange(len(nets))
     net, size = nets[n], len(nets)
-    way = rng.randrange(13)
-    if way == 12:
+    way = rng.randrange(15)
+    if way >= 13 and design.checks:
+        at = rng.randrange(len(design.checks))
+        point = design.checks[at]
+        changes = [dict(net=size), dict(net=-1), dict(sink=len(nets[point.net].sinks)), dict(name=""), dict(name="a b"),
+                   dict(name="y" * 2050), dict(rise=2**40 + 1), dict(fall=-2**40 - 1), dict(rise=2**32)]
+        changes += [dict(clock=size), dict(clock_sink=2**32 - 1), dict(fall=len(tables)), dict(rise=-1)] * isinstance(point, Flop)
+        checks = [point._replace(**rng.choice(changes)) if k == at else other for k, other in enumerate(design.checks)]
+        design = rng.choice([design._replace(checks=checks), design._replace(checks=checks), design._replace(period=None)])
+    elif way == 12:
         numbers = rng.choice([(0, 4, 13), (5, 4, 8), (0, 9, 8), (-1, 4, 8), (13, 13, 13), (0, 256, 8)])
         design = design._replace(miller=numbers)
     elif way == 0 and net.arcs:
@@ -350,7 +382,7 @@ def with_bad_text(rng, text):
 def random_text(rng):
     """The bytes of one random file."""
     design = random_rivals(rng) if rng.random() < 0.3 else random_design(rng)
-    design = design._replace(miller=random_miller(rng))
+    design = with_checks(rng, design)._replace(miller=random_miller(rng))
     way = rng.random()
     if way < 0.14:
         design = moved_to_time_limit(rng, design)
@@ -371,12 +403,43 @@ def source(name="a", kind="i", rise=BOTTOM, fall=BOTTOM, load=0, couplings=(), s
     return Net(name, kind, load, (rise, fall), list(couplings), list(sinks), [])
 
 
+def checked_designs():
+    """Designs with checks at the ends of what is taken, each with a word that says what it is."""
+    most, end, rises = plain.MOST_ENTRY, plain.MOST_TIME, Quad(1000, 1200, 0, 0)
+    nets = [source("a", rise=rises, sinks=[Sink("y", 2 * 10**6, [])]), source("c", fall=rises, sinks=[Sink("f", 0, [])])]
+    for hold in (False, True):
+        for side in (0, 1, -1, most, -most, most + 1, -most - 1):
+            yield f"port {hold} by {side}", Design(most, [], nets, checks=[Port(hold, "y", 0, 0, side, side)])
+        for time in (end - 2, -end):
+            late = [source("a", rise=Quad(time, time, 0, 0), sinks=[Sink("y", 2 * 10**6, [])])]
+            for side in (most, -most):
+                yield f"port {hold} by {side} at {time}", Design(1, [], late, checks=[Port(hold, "y", 0, 0, side, None)])
+        for place in ((0, 0), (1, 0), (2, 0), (0, 1), (-1, 0)):
+            yield f"port {hold} at {place}", Design(7, [], nets, checks=[Port(hold, "y", *place, 3, 4)])
+            for clock in ((0, 0), (1, 0), (0, 1), (2, 0)):
+                for value in (-most, 0, most):
+                    tables, point = [Table([0], [0], [[value]])], Flop(hold, "f", *place, *clock, 0, None)
+                    yield f"flop {hold} at {place} by {clock} and {value}", Design(7, tables, nets, checks=[point])
+        yield f"no side {hold}", Design(7, [], nets, checks=[Port(hold, "y", 0, 0, None, None)])
+        yield f"table past the last {hold}", Design(7, [], nets, checks=[Flop(hold, "y", 0, 0, 0, 0, None, 0)])
+        yield f"no period {hold}", Design(None, [], nets, checks=[Port(hold, "y", 0, 0, None, None)])
+        equal = [Port(hold, name, 0, 0, 5, 5) for name in "xyz"]
+        yield f"equal checks {hold}", Design(7, [], nets, checks=equal)
+        peak = Table([0, 10, 20], [0, 10, 20], [[1, 2, 3], [4, 90, 5], [6, 7, 8]])
+        for slew in (0, 1, 9, 10, 11, 20, 21):
+            data = source("d", rise=Quad(0, 5, 3, slew + 3), sinks=[Sink("f/D", 10**6, [])])
+            clock = source("k", rise=Quad(0, 3, 0, slew), fall=Quad(9, 9, 0, 0), sinks=[Sink("f/CK", 0, [])])
+            points = [Flop(hold, "f/D", 0, 0, 1, 0, 0, 0), Flop(hold, "f/CK", 1, 0, 0, 0, 0, 0)]
+            yield f"peak {hold} by slews to {slew}", Design(100, [peak], [data, clock], checks=points)
+
+
 def edge_designs():
     """Designs at the ends of what is taken, each with a word that says what it is."""
     one, table = Quad(1000, 1000, 0, 0), Table([0], [0], [[5]])
     end, slew_end = plain.MOST_TIME, plain.MOST_SLEW
     plain_sink, wire = Sink("s", 0, []), Sink("s", 10**6, [])
     yield "empty", Design(None, [], [])
+    yield from checked_designs()
     for period in (1, plain.MOST_ENTRY, plain.MOST_ENTRY + 1, 0):
         yield f"period {period}", Design(period, [], [])
     yield "unused tables", Design(7, [table, table], [])
@@ -479,6 +542,9 @@ def edge_designs():
     for more in BOTH:
         reader = Net("c", "w", 0, QUIET, [Coupling(1, 0)] * (rest + more), [], [Arc(0, 0, 0, 0, 0, 0)] * arcs)
         yield f"{more} reads too many", Design(None, [table], [*many, reader])
+    pin = Sink("s", 0, [0] * len(reader.couplings))
+    reader = reader._replace(sinks=[pin], arcs=reader.arcs + [Arc(2, 0, 0, 0, 0, 0)])
+    yield "too many reads and a loop", Design(None, [table], [*many, reader])
     slope, flat = Table([0], [0, 10000], [[800, 2800]]), Table([0], [0], [[0]])
     for fall in (100, 200, 201, 399, 400, 401, 5000):
         feeders = [source("p", rise=Quad(0, 0, 0, 0), sinks=[plain_sink]),
@@ -501,7 +567,8 @@ def edge_texts():
                (b"quiet", bottom), (b" 0 0\n", b" 0 -0\n"), (b"1000 1000", b"-1000 +1000"),
                (b"1000 1000", b"-1000 1000"), (b"1000 1000 0 0", b"1000 1000 0"), (b"1000", "\uff11000".encode()),
                (b"counts 0", b"counts 00"), (b"counts 0 1 0\nperiod none", b"counts 0 1 1\nperiod 1"),
-               (b"counts 0 1 0", b"counts 0 262145 0"), (b"counts 0 1 0", b"counts 0 4294967296 0"),
+               (b"counts 0 1 0", b"counts 0 262145 0"), (b"counts 0 1 0", b"counts 0 1 1048577"),
+               (b"counts 0 1 0", b"counts 0 4294967296 0"),
                (b"0 0 0 0\n", b"0 0 0 -1\n"), (b"period none", b"period 0"), (b"period none", b"period"),
                (b"period none", b"period none none"), (b"rise 1000", b"fall 1000"), (b"net a", b"net \xe9"),
                (b"xtalk", b"\xef\xbb\xbfxtalk"), (b"net", b"Net")]
@@ -532,10 +599,25 @@ def random_words(rng, folder):
     pieces += [["--workers", n] for n in numbers] + [[f"--workers={n}"] for n in numbers]
     pieces += [["--kind", k] for k in kinds] + [[f"--kind={k}"] for k in kinds]
     pieces += [["--miller", m] for m in millers] + [[f"--miller={m}"] for m in millers]
+    orders = ["0", "5", "18446744073709551615", "18446744073709551616", "-5", "", "0x5", "0" * 19 + "7", "0" * 20 + "7"]
+    pieces += [["--order"]] + [["--order", n] for n in orders] + [[f"--order={n}"] for n in orders]
+    right = [["--order", "5"], ["--workers=3"]]
     for _ in range(400):
         parts = [rng.choice(pieces) for _ in range(rng.choice([0, 1, 1, 2, 2, 3]))]
         parts.insert(rng.randint(0, len(parts)), [file] if rng.random() < 0.8 else [])
-        yield [rng.choice(["solve"] * 19 + ["sol"]), *(word for part in parts for word in part)]
+        command = rng.choice(["solve"] * 12 + ["replay"] * 7 + ["sol"])
+        for part in right if command == "replay" and rng.random() < 0.8 else []:
+            parts.insert(rng.randint(0, len(parts)), part)
+        yield [command, *(word for part in parts for word in part)]
+
+
+def random_command(rng, file):
+    """The words of `solve`, of the whole report or of its checks, or those of `replay` in some order; and the kind."""
+    if rng.random() < 0.7:
+        kind = rng.choice(["all", "all", "checks"])
+        return ["solve", file, *(["--kind", kind] if kind != "all" else [])], kind
+    order = rng.choice([0, 1, 5, 2**64 - 1, rng.randrange(2**64)])
+    return ["replay", file, "--order", str(order), "--workers", str(rng.choice([1, 2, 3, 7, 64]))], "all"
 
 
 def random_option(rng):
@@ -612,7 +694,7 @@ def note(counts, verdict):
         inner_extremes(design, low) or inner_extremes(design, high))
     counts["a slew table with a value below 0"] += any(
         value < 0 for net in design.nets for arc in net.arcs for row in design.tables[arc.slew].rows for value in row)
-    for word in (" sure", " possible", "unconstrained", "least -"):
+    for word in (" sure", " possible", "unconstrained", "least -", " idle", " setup -", " hold -", "path setup", "path hold", "step "):
         counts[f"report with `{word.strip()}`"] += word in report
 
 
@@ -658,12 +740,14 @@ def main(words):
             file = os.path.join(folder, f"random-{seed}-{number}.xt")
         with open(file, "wb") as out:
             out.write(text)
-        options, miller = random_option(random.Random(f"{seed} {what}"))
+        rng = random.Random(f"{seed} {what}")
+        options, miller = random_option(rng)
         verdict = plain.judge(text, miller)
         if verdict.low is not None and what.startswith("random") and number % 10 == 0:
             laws(random.Random(number), verdict.design, verdict)
         note(counts, verdict)
-        hold(what, ["solve", file, *options], plain.answer(file, verdict), file)
+        command, kind = random_command(rng, file)
+        hold(what, [*command, *options], plain.answer(file, text, verdict, kind), file)
     print(f"{len(texts)} edges and {count} random texts with seed {seed}")
     for status, times in sorted(statuses.items()):
         print(f"status {status}: {times}")

@@ -17,6 +17,8 @@ import random
 import sys
 from collections import namedtuple
 
+import refusals
+
 Quad = namedtuple("Quad", "tlo thi slo shi")
 Table = namedtuple("Table", "slews loads rows")
 Coupling = namedtuple("Coupling", "to cap")
@@ -24,7 +26,10 @@ Sink = namedtuple("Sink", "name base coefs")
 Arc = namedtuple("Arc", "source sink input output delay slew")
 Net = namedtuple("Net", "name kind load given couplings sinks arcs")
 CLASSICAL = (0, 4, 8)
-Design = namedtuple("Design", "period tables nets miller", defaults=[CLASSICAL])
+Design = namedtuple("Design", "period tables nets miller checks", defaults=[CLASSICAL, ()])
+Flop = namedtuple("Flop", "hold name net sink clock clock_sink rise fall")
+Port = namedtuple("Port", "hold name net sink rise fall")
+Slack = namedtuple("Slack", "point edge greatest least")
 Verdict = namedtuple("Verdict", "design envelope passed low high")
 
 EDGES = ("rise", "fall")
@@ -35,7 +40,7 @@ QUIET = (BOTTOM, BOTTOM)
 
 MOST_BYTES, MOST_NAME, MOST_GRID, SMALL_BOX = 2**28, 2049, 64, 20_000
 MOST_NETS, MOST_TABLES, MOST_COUPLINGS = 2**18, 2**18, 2**20
-MOST_COEFS, MOST_ARCS, MOST_READS = 2**24, 2**22, 2**27
+MOST_COEFS, MOST_ARCS, MOST_READS, MOST_CHECKS = 2**24, 2**22, 2**27, 2**20
 MOST_TIME, MOST_SLEW, MOST_CAP, MOST_WIRE, MOST_ENTRY = 2**46, 2**40, 2**46, 2**102, 2**40
 MOST_QUARTERS = 12
 
@@ -48,7 +53,7 @@ def line(*fields):
 def linked(design):
     """The text of a design: every design has exactly one."""
     version = 1 if design.miller == CLASSICAL else 2
-    text = [line("xtalk-design", version), line("counts", len(design.tables), len(design.nets), 0)]
+    text = [line("xtalk-design", version), line("counts", len(design.tables), len(design.nets), len(design.checks))]
     text.append(line("period", "none" if design.period is None else design.period))
     text.extend(miller_lines(design))
     for table in design.tables:
@@ -68,7 +73,18 @@ def linked(design):
         for arc in net.arcs:
             edges = EDGES[arc.input], EDGES[arc.output]
             text.append(line("arc", arc.source, arc.sink, *edges, arc.delay, arc.slew))
+    text.extend(map(check_line, design.checks))
     return "".join(text) + line("end")
+
+def kind_of(point):
+    """What a check point tests."""
+    return "hold" if point.hold else "setup"
+
+def check_line(point):
+    """The line of a check point in the text of its design; an edge that is not checked has a dash."""
+    word, places = ("port", point[2:4]) if isinstance(point, Port) else ("flop", point[2:6])
+    sides = ["-" if side is None else side for side in (point.rise, point.fall)]
+    return line(word, kind_of(point), point.name, *places, *sides)
 
 def miller_lines(design):
     """The line of the Miller numbers, which the classical ones do not have."""
@@ -96,7 +112,7 @@ def guess(text):
         return Quad(tlo, thi, slo, shi)
 
     (version,) = fields("xtalk-design")
-    tables_count, nets_count, _ = numbers("counts")
+    tables_count, nets_count, checks_count = numbers("counts")
     (period,) = fields("period")
     low, mid, high = CLASSICAL if version == "1" else numbers("miller")
     tables, nets = [], []
@@ -120,14 +136,21 @@ def guess(text):
             ends = EDGES.index(before), EDGES.index(after)
             arcs.append(Arc(int(feeder), int(sink), *ends, int(delay), int(slew)))
         nets.append(Net(name, kind, int(load), given, couplings, sinks, arcs))
-    return Design(None if period == "none" else int(period), tables, nets, (low, mid, high))
+    checks = [guess_check(lines.pop().split(" ")) for _ in range(checks_count)]
+    return Design(None if period == "none" else int(period), tables, nets, (low, mid, high), checks)
+
+def guess_check(fields):
+    """The only check point that these fields can be of."""
+    word, kind, name, *rest = fields
+    *places, rise, fall = [None if field == "-" else int(field) for field in rest]
+    return {"flop": Flop, "port": Port}.get(word, Port)(kind == "hold", name, *places, rise, fall)
 
 def read_linked(data):
     """The design whose linked text these bytes are, or None where there is no such design."""
     text = data.decode("latin-1")
     try:
         design = guess(text)
-    except (ValueError, IndexError):
+    except (ValueError, IndexError, TypeError):
         return None
     return design if sound(design) and linked(design) == text else None
 
@@ -162,6 +185,21 @@ def sound_net(design, number):
         and all(0 <= arc.source < len(nets) for arc in net.arcs)
         and all(0 <= arc.sink < len(nets[arc.source].sinks) for arc in net.arcs)
         and all(0 <= t < len(tables) for arc in net.arcs for t in (arc.delay, arc.slew))
+    )
+
+def sound_check(design, point):
+    """Whether a check point keeps its ranges and names only what the design has."""
+    nets, sides = design.nets, [side for side in (point.rise, point.fall) if side is not None]
+
+    def has_sink(n, sink):
+        return n is not None and sink is not None and 0 <= n < len(nets) and 0 <= sink < len(nets[n].sinks)
+
+    return (
+        design.period is not None
+        and sound_name(point.name)
+        and has_sink(point.net, point.sink)
+        and (all(abs(side) <= MOST_ENTRY for side in sides) if isinstance(point, Port) else
+             has_sink(point.clock, point.clock_sink) and all(0 <= side < len(design.tables) for side in sides))
     )
 
 def reads(nets):
@@ -202,9 +240,11 @@ def sound(design):
         and (design.period is None or 1 <= design.period <= MOST_ENTRY)
         and len(design.tables) <= MOST_TABLES
         and len(nets) <= MOST_NETS
+        and len(design.checks) <= MOST_CHECKS
         and all(map(sound_table, design.tables))
         and len({net.name for net in nets}) == len(nets)
         and all(sound_net(design, number) for number in range(len(nets)))
+        and all(sound_check(design, point) for point in design.checks)
         and sum(len(net.couplings) for net in nets) <= MOST_COUPLINGS
         and sum(len(net.couplings) * len(net.sinks) for net in nets) <= MOST_COEFS
         and sum(len(net.arcs) for net in nets) <= MOST_ARCS
@@ -416,8 +456,86 @@ def guilty_lines(design, low, high):
                     who = net.name, EDGES[e], nets[coupling.to].name, thousandths(coupling.cap)
                     yield line("guilty", *who, "fast", fast, "slow", slow)
 
+def window_at(design, windows, n, e, sink):
+    """The window of an edge behind the wire to a sink; None where the edge never switches."""
+    quad = windows[n][e]
+    if not live(quad):
+        return None
+    w0, w1 = wire_range(design, overlap_in(design, windows), n, e, sink)
+    return Quad(quad.tlo + w0, quad.thi + w1, quad.slo + slew_growth(w0), quad.shi + slew_growth(w1))
+
+def slack_in(design, windows, point, e):
+    """By how much data could come later, or earlier for hold; None where data or clock are dead."""
+    data, side = window_at(design, windows, point.net, e, point.sink), (point.rise, point.fall)[e]
+    if data is None:
+        return None
+    if isinstance(point, Port):
+        return data.tlo + side if point.hold else design.period - side - data.thi
+    clock = window_at(design, windows, point.clock, 0, point.clock_sink)
+    if clock is None:
+        return None
+    _, need = table_range(design.tables[side], clock.slo, clock.shi, data.slo, data.shi)
+    if point.hold:
+        return data.tlo - clock.thi - need
+    return design.period + clock.tlo - need - data.thi
+
+def slacks(design, low, high):
+    """The checks by point and edge, each with its two slacks, or with none where it is idle."""
+    for point in design.checks:
+        for e in BOTH:
+            if (point.rise, point.fall)[e] is not None:
+                both = slack_in(design, high, point, e), slack_in(design, low, point, e)
+                yield Slack(point, e, *((None, None) if None in both else both))
+
+def sum_by_arc(design, windows, n, arc, late):
+    """The wire and the delay that an arc adds on the latest or the earliest way, and the bound there."""
+    meets = overlap_in(design, windows)
+    earliest, latest, box = arrival_and_box(design, windows, meets, n, arc)
+    wire = wire_range(design, meets, arc.source, arc.input, arc.sink)[late]
+    delay = table_range(design.tables[arc.delay], *box)[late]
+    return wire, delay, (latest if late else earliest) + delay
+
+def worst_path(design, windows, n, e, late):
+    """From which edge of a source a bound comes, when, and the steps to it: net, edge, wire, delay.
+    At each net the first arc counts that gives the bound."""
+    steps = []
+    while design.nets[n].arcs:
+        goal = windows[n][e].thi if late else windows[n][e].tlo
+        sums = ((arc, *sum_by_arc(design, windows, n, arc, late)) for arc in design.nets[n].arcs
+                if arc.output == e and live(windows[arc.source][arc.input]))
+        arc, wire, delay, _ = next(found for found in sums if found[3] == goal)
+        steps.append((n, e, wire, delay))
+        n, e = arc.source, arc.input
+    return n, e, windows[n][e].thi if late else windows[n][e].tlo, steps[::-1]
+
+def path_lines(design, high, checks, hold):
+    """The check of a kind with the least slack, the first of equals, and the path of its data."""
+    active = [slack for slack in checks if slack.point.hold == hold and slack.greatest is not None]
+    if not active:
+        return
+    point, e, slack, _ = min(active, key=lambda one: one.greatest)
+    late = not hold
+    yield line("path", kind_of(point), point.name, EDGES[e], thousandths(slack))
+    n, f, time, steps = worst_path(design, high, point.net, e, late)
+    end = wire_range(design, overlap_in(design, high), point.net, e, point.sink)[late]
+    data = window_at(design, high, point.net, e, point.sink)
+    assert time + sum(wire + delay for _, _, wire, delay in steps) + end == (data.thi if late else data.tlo)
+    yield line("from", design.nets[n].name, EDGES[f], thousandths(time))
+    for n, f, wire, delay in steps:
+        yield line("step", design.nets[n].name, EDGES[f], "wire", thousandths(wire), "delay", thousandths(delay))
+    yield line("to", "wire", thousandths(end))
+
+def checks_lines(design, low, high):
+    """The lines on checks, on the worst setup check and on the worst hold check."""
+    checks = list(slacks(design, low, high))
+    for point, e, *both in checks:
+        told = ["idle"] if both == [None, None] else map(thousandths, both)
+        yield line("check", point.name, EDGES[e], kind_of(point), *told)
+    for hold in (False, True):
+        yield from path_lines(design, high, checks, hold)
+
 def report(design, low, high, kind="all"):
-    """The text that stands for a design without checks and its two extreme fixpoints."""
+    """The text that stands for a design and its two extreme fixpoints."""
     nets, period = design.nets, design.period
     depth, pairs = max(levels(nets), default=0), coupled_pairs(nets)
     entries = sum(len(net.couplings) for net in nets)
@@ -438,6 +556,7 @@ def report(design, low, high, kind="all"):
             text.append(line("unconstrained", net.name))
     if kind == "all":
         text.extend(guilty_lines(design, low, high))
+    text.extend(checks_lines(design, low, high))
     return "".join(text) + line("end")
 
 def judge(data, miller=None):
@@ -453,23 +572,28 @@ def judge(data, miller=None):
         return Verdict(design, top, passed, None, None)
     return Verdict(design, top, None, fixpoint(design, nothing(design)), fixpoint(design, top))
 
-def answer(file, verdict, kind="all"):
-    """Status, standard output and standard error that a verdict on a file asks for."""
+def answer(file, data, verdict, kind="all"):
+    """Status, standard output and standard error that a file with this verdict asks for."""
+    told = refusals.answer(file, data)
+    if told:
+        return told[0], "", told[1]
     if verdict.design is None:
-        return 3, "", f"{file}:1: X9\n"
+        raise AssertionError(f"{file}: read line by line and taken, as a whole refused")
     if verdict.passed:
         _, kind, net, value = verdict.passed
         return 5, "", line("limit:", kind, net, value)
     return 0, report(verdict.design, verdict.low, verdict.high, kind), ""
 
+OPTIONS = {"solve": ("--workers", "--kind", "--miller"), "replay": ("--order", "--workers", "--miller")}
+
 def job(words):
     """The file, the kind of report and the Miller numbers, if any, that a command line asks
-    for, or None."""
+    for, or None. `replay` asks for the whole report, in an order that does not matter."""
     files, said, rest = [], {}, list(words[1:])
     while rest:
         word = rest.pop(0)
         name, equals, value = word.partition("=")
-        if name not in ("--workers", "--kind", "--miller"):
+        if name not in OPTIONS.get(words[0], ()):
             files.append(word)
             continue
         value = value if equals else rest.pop(0) if rest else ""
@@ -477,7 +601,9 @@ def job(words):
             return None
         said[name] = value
     workers, kind = said.get("--workers", "1"), said.get("--kind", "all")
-    if words[:1] != ["solve"] or len(files) != 1 or not plain_word(files[0]):
+    if words[:1] not in (["solve"], ["replay"]) or len(files) != 1 or not plain_word(files[0]):
+        return None
+    if words[0] == "replay" and not ("--workers" in said and is_number(said.get("--order", "")) and int(said["--order"]) < 2**64):
         return None
     if not is_number(workers) or not 1 <= int(workers) <= 64 or kind not in ("all", "checks"):
         return None
@@ -510,7 +636,7 @@ def outcome(words):
         return 6, "", f"read fault: {name}\n"
     if len(data) > MOST_BYTES:
         return 5, "", line("limit:", "file", name, MOST_BYTES + 1)
-    return answer(name, judge(data, miller), kind)
+    return answer(name, data, judge(data, miller), kind)
 
 def selftest(times):
     """Compares what is computed by a short cut with what plain counting gives."""

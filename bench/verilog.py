@@ -61,6 +61,7 @@ class Module:
 
     def __init__(self, name):
         self.name, self.nets, self.numbers, self.instances, self.header = name, [], {}, [], []
+        self.instance_names = set()
 
     def net(self, name):
         """The number of the net with a name, which is a new one where no net has it."""
@@ -212,8 +213,9 @@ class Reader:
         """Instances of a cell behind its name."""
         while True:
             name = self.expect("name")
-            if any(name.text == instance[1] for instance in module.instances):
+            if name.text in module.instance_names:
                 raise Refusal("V5", name.line)
+            module.instance_names.add(name.text)
             token = self.next()
             if token.what == "[":
                 raise Refusal("V3", token.line)
