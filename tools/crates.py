@@ -124,8 +124,14 @@ def picture(own, kit):
 
 
 def main(words):
+    if words in (["-h"], ["--help"]):
+        print(__doc__)
+        return
     path = Path(words[0]) if words else Path(__file__).resolve().parent.parent / "crates.txt"
-    print("\n".join(picture(*read(path))))
+    try:
+        print("\n".join(picture(*read(path))))
+    except OSError as fault:
+        sys.exit(f"crates.py: {fault}")
 
 
 if __name__ == "__main__":

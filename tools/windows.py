@@ -41,6 +41,8 @@ def read(path, wanted):
             for line in lines:
                 words = line.split()
                 ended = words == ["end"]
+                if words[:1] in (["net"], ["guilty"]) and words[2] not in EDGES:
+                    raise ValueError(words[2])
                 if words[:1] == ["net"] and (wanted is None or words[1] in wanted):
                     if words[3:] == ["quiet"]:
                         windows[words[1], words[2]] = None
@@ -150,15 +152,22 @@ def picture(windows, links, period, names):
 
 
 def main():
-    if len(sys.argv) < 2 or sys.argv[1] in ("-h", "--help"):
+    if len(sys.argv) < 2:
         sys.stderr.write(__doc__)
         sys.exit(2)
+    if sys.argv[1] in ("-h", "--help"):
+        sys.stdout.write(__doc__)
+        return
     path, names = sys.argv[1], list(dict.fromkeys(sys.argv[2:]))
     windows, links, period = read(path, set(names) if names else None)
     for name in names:
         if not any((name, edge) in windows for edge in EDGES):
             stop(f"{path} has no windows of a net {name}")
-    sys.stdout.write(picture(windows, links, period, names or list(dict.fromkeys(net for net, _ in windows))))
+    try:
+        sys.stdout.write(picture(windows, links, period, names or list(dict.fromkeys(net for net, _ in windows))))
+        sys.stdout.flush()
+    except OSError as fault:
+        stop(f"the picture can't be written: {fault}")
 
 
 if __name__ == "__main__":
