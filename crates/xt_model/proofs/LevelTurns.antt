@@ -1,8 +1,8 @@
 -- One turn of each loop over levels and arcs.
-use Rattle.std.proofs.Common.{◌≡◌, ℕ, ◌+◌, ◌<◌, ◌≤◌, max, List, length, map, take, get_or, Some, IfSome, refl, ap, ◌∙◌, arith}
+use Rattle.std.proofs.Common.{◌≡◌, ℕ, ◌+◌, ◌<◌, ◌≤◌, max, List, length, map, take, get_or, set, Some, IfSome, refl, ap, ◌∙◌, arith}
 use Rattle.std.specs.List.{slice_get}
-use Rattle.std.proofs.lemmas.List.{take_more, map_more, take_all}
-use Rattle.std.proofs.lemmas.List.Elements.{All-more, Contains-get_or}
+use Rattle.std.proofs.lemmas.List.{take_more, map_more, take_all, get_or-set_same}
+use Rattle.std.proofs.lemmas.List.Elements.{All-more}
 use Rattle.std.proofs.lemmas.Option.{slice_get-get_or}
 use Rattle.xt_model.specs.declared.net.TimingArc.{TimingArc}
 use Rattle.xt_model.specs.declared.net.Net.{Net}
@@ -57,13 +57,14 @@ waits_at levels arcs i d lt none = rw (slice_get-get_or arcs i d lt) none
 pub known_whole : (levels : List ℕ) (arcs : List TimingArc) (i : ℕ) → length arcs ≤ i → HaveLevels levels (take i arcs) → HaveLevels levels arcs
 known_whole levels arcs i past known = rw (take_all i arcs past) at known
 
--- the first arc of a net whose input has no level shows what the net waits for
-pub waits_for : (nets : List Net) (levels : List ℕ) (net : ℕ) (n : Net) (next : ℕ) (d : TimingArc) → AreInputsThere nets → slice_get nets net ≡ Some n → next < length n.arcs
-    → IfSome (slice_get n.arcs next) (λ a. get_or levels a.from.0 0 ≡ 0) → IsWaitedFor nets levels net (get_or n.arcs next d).from.0
-waits_for nets levels net n next d inputs at lt none =
+-- the first arc of a net whose input has no level, once its cursor stands there, shows what the net waits for
+pub waits_for : (nets : List Net) (levels cursors : List ℕ) (net last : ℕ) (n : Net) (next : ℕ) (d : TimingArc) → AreInputsThere nets → slice_get nets net ≡ Some n → net ≡ last → net < length cursors
+    → next < length n.arcs → IfSome (slice_get n.arcs next) (λ a. get_or levels a.from.0 0 ≡ 0) → IsWaitedFor nets levels (set cursors net next) last (get_or n.arcs next d).from.0
+waits_for nets levels cursors net last n next d inputs at is within lt none =
     let arc : slice_get n.arcs next ≡ Some (get_or n.arcs next d) = slice_get-get_or n.arcs next d lt in
-    record {
+    let stands : get_or (set cursors net next) net 0 ≡ next = get_or-set_same cursors net next 0 within in
+    rw (← is) (record {
       there = inputs net n at next d lt;
-      reads = (n, get_or n.arcs next d, at, Contains-get_or n.arcs next d lt, refl);
+      input = rw stands (n, get_or n.arcs next d, at, arc, refl);
       waits = rw arc at none;
-    }
+    })

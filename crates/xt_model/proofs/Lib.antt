@@ -1,6 +1,7 @@
 pub mod LevelLaws
 mod LevelTurns
 mod ListLaws
+pub mod LoopLaws
 pub mod OrderLaws
 pub mod PairLaws
 mod WalkSteps

@@ -1,18 +1,21 @@
 -- The steps of a walk keep what it has found.
-use Rattle.std.proofs.Common.{◌≡◌, ◌≢◌, ℕ, ◌+◌, ◌-◌, ◌<◌, ◌≤◌, ◌==◌, List, [], ◌∷◌, ◌++◌, length, map, take, drop, replicate, get_or, set, Some, refl, sym, ap, ◌∙◌, if◌then◌else◌, arith, inl, inr}
+use Rattle.std.proofs.Common.{◌≡◌, ◌≢◌, ℕ, zero, suc, ◌+◌, ◌-◌, ◌<◌, ◌≤◌, ◌==◌, List, [], ◌∷◌, ◌++◌, length, map, take, drop, replicate, get_or, set, Some, refl, sym, ap, ◌∙◌, if◌then◌else◌, arith, inl, inr}
 use Rattle.std.specs.List.{slice_get}
 use Rattle.std.proofs.lemmas.Bool.{cases_lt, cases_eq}
 use Rattle.std.proofs.lemmas.Bool.Decides.{nat_tests}
-use Rattle.std.proofs.lemmas.List.{get_or_past, get_or_push, get_or_append_left, get_or-set_same, get_or-set_other, get_or-take, get_or-drop, get_or-replicate, get_or-map, length-set, length-take-le, length-drop, length-replicate, length_push, length-map}
+use Rattle.std.proofs.lemmas.List.{get_or_past, get_or_push, get_or_append_left, get_or-set_same, get_or-set_other, get_or-take, get_or-replicate, get_or-map, length-set, length-take-le, length-replicate, length_push, length-map}
 use Rattle.std.proofs.lemmas.List.Sums.{sum_by-set, count_by-le-length}
-use Rattle.std.proofs.lemmas.Option.{same_Some, slice_get_within}
+use Rattle.std.proofs.lemmas.List.Elements.{All-contains}
+use Rattle.std.proofs.lemmas.Option.{same_Some, slice_get_within, get_or_from_slice_get}
 use Rattle.xt_model.specs.declared.net.TimingArc.{TimingArc}
 use Rattle.xt_model.specs.declared.net.Net.{Net}
-use Rattle.xt_model.specs.Levels.{greatest_of, level_from, AreLevels, Reads, IsLoop}
+use Rattle.xt_model.specs.Levels.{greatest_of, level_from, AreLevels, Reads}
+use Rattle.xt_model.specs.Loops.{IsInput, IsEndless, IsFirstEndless, IsToldLoop}
 use Rattle.xt_model.specs.Limits.{most_nets}
 use Rattle.xt_model.specs.visits.Walk.{HaveLevels, IsWalk, zeros_in, last_of}
 use Rattle.xt_model.proofs.ListLaws.{element_at}
-use Rattle.xt_model.proofs.LevelLaws.{greatest_least, level_agrees}
+use Rattle.xt_model.proofs.LevelLaws.{greatest_least, level_agrees, input_below}
+use Rattle.xt_model.proofs.LoopLaws.{input_reads, endless_at}
 
 -- one 0 less after a greater number is put in its place
 pub zeros_filled : (ns : List ℕ) (i v : ℕ) → i < length ns → get_or ns i 0 ≡ 0 → 0 < v → zeros_in (set ns i v) + 1 ≡ zeros_in ns
@@ -50,6 +53,7 @@ walk_begins nets n e =
       there = λ k h. absurd (omega arith);
       waits = λ k h. absurd (omega arith);
       place = λ k h. absurd (omega arith);
+      begins = λ i h. absurd (omega arith);
       steps = λ k h. absurd (omega arith);
       on_path = λ i h z. let none : get_or (blank n) i 0 ≡ 0 = still_zero n i in absurd (omega arith);
       stands = λ i h z. let none : get_or (blank n) i 0 ≡ 0 = still_zero n i in absurd (omega arith);
@@ -72,9 +76,10 @@ level_kept levels net v arcs unknown known = level_agrees (set levels net v) lev
 module _ (nets : List Net) (levels cursors places path : List ℕ) (w : IsWalk nets levels cursors places path) where
   -- a net that was never on the path is put at its end
   pub walk_enters : (net number : ℕ) → net < length nets → get_or levels net 0 ≡ 0 → get_or places net 0 ≡ 0
-      → number ≡ length path + 1 → (0 < length path → Reads nets (last_of path) net)
+      → number ≡ length path + 1 → (length path ≡ 0 → (i : ℕ) → i < net → 0 < get_or levels i 0)
+      → (0 < length path → IsInput nets (last_of path) (get_or cursors (last_of path) 0) net)
       → IsWalk nets levels cursors (set places net number) (path ++ net ∷ [])
-  walk_enters net number there unknown fresh is reads =
+  walk_enters net number there unknown fresh is lower input =
       let counts : length places ≡ length nets = w.places_count in
       let len : length (path ++ net ∷ []) ≡ length path + 1 = length_push path net in
       let before : (k : ℕ) → k < length path → get_or (path ++ net ∷ []) k 0 ≡ get_or path k 0 = λ k h. get_or_append_left path (net ∷ []) 0 k h in
@@ -105,13 +110,17 @@ module _ (nets : List Net) (levels cursors places path : List ℕ) (w : IsWalk n
               rw (before k lt) (elsewhere (get_or path k 0) ne ∙ old)
           | inr ge ↦ let e : k ≡ length path = omega arith in rw (e, at_end) placed
         ];
+        begins = λ i h. elim (cases_lt 0 (length path)) [
+          | inl some ↦ let e = before 0 some in w.begins i (omega arith)
+          | inr none ↦ let e : length path ≡ 0 = omega arith in let new : get_or (path ++ net ∷ []) 0 0 ≡ net = rw e at at_end in lower e i (omega arith)
+        ];
         steps = λ k h. elim (cases_lt (k + 1) (length path)) [
           | inl lt ↦ let lower : k < length path = omega arith in rw (before k lower, before (k + 1) lt) (w.steps k lt)
           | inr ge ↦
               let lower : k < length path = omega arith in
               let e : k + 1 ≡ length path = omega arith in
               let last : k ≡ length path - 1 = omega arith in
-              rw (before k lower, e, at_end, last) (reads (omega arith))
+              rw (before k lower, e, at_end, last) (input (omega arith))
         ];
         on_path = λ i h z. elim (cases_eq i net) [
           | inl e ↦ rw e (omega arith)
@@ -127,10 +136,10 @@ module _ (nets : List Net) (levels cursors places path : List ℕ) (w : IsWalk n
         ];
       }
 
-  -- a net's cursor moves on over arcs whose inputs have levels
-  pub walk_advances : (net to : ℕ) (n : Net) → slice_get nets net ≡ Some n → to ≤ length n.arcs → HaveLevels levels (take to n.arcs)
+  -- the cursor of the net at the end of the path moves on over arcs whose inputs have levels
+  pub walk_advances : (net to : ℕ) (n : Net) → net ≡ last_of path → 0 < length path → slice_get nets net ≡ Some n → to ≤ length n.arcs → HaveLevels levels (take to n.arcs)
       → IsWalk nets levels (set cursors net to) places path
-  walk_advances net to n at within known =
+  walk_advances net to n last some at within known =
       let counts : length cursors ≡ length nets = w.cursors_count in
       let lt : net < length nets = slice_get_within nets net n at in
       let moved : get_or (set cursors net to) net 0 ≡ to = get_or-set_same cursors net to 0 (omega arith) in
@@ -159,7 +168,14 @@ module _ (nets : List Net) (levels cursors places path : List ℕ) (w : IsWalk n
         there = w.there;
         waits = w.waits;
         place = w.place;
-        steps = w.steps;
+        begins = w.begins;
+        steps = λ k h.
+            let other : get_or path k 0 ≢ net = λ e. (
+            let here : get_or places (get_or path k 0) 0 ≡ k + 1 = w.place k (omega arith) in
+            let there : get_or places (last_of path) 0 ≡ (length path - 1) + 1 = w.place (length path - 1) (omega arith) in
+            let same : get_or places (get_or path k 0) 0 ≡ get_or places (last_of path) 0 = ap (λ m. get_or places m 0) (e ∙ last) in
+            absurd (omega arith)) in
+            rw (elsewhere (get_or path k 0) other) (w.steps k h);
         on_path = w.on_path;
         stands = w.stands;
       }
@@ -220,6 +236,16 @@ module _ (nets : List Net) (levels cursors places path : List ℕ) (w : IsWalk n
         there = λ k h. rw (left k (omega arith)) (w.there k (omega arith));
         waits = λ k h. rw (left k (omega arith)) (elsewhere (get_or path k 0) (others k (omega arith)) ∙ w.waits k (omega arith));
         place = λ k h. rw (left k (omega arith)) (w.place k (omega arith));
+        begins = λ i h.
+            let some_left : 0 < length path - 1 = elim (cases_lt 0 (length path - 1)) [
+              | inl lt ↦ lt
+              | inr none ↦ let z : get_or (take (length path - 1) path) 0 0 ≡ 0 = get_or_past (take (length path - 1) path) 0 0 (omega arith) in absurd (omega arith)
+            ] in
+            let e : get_or (take (length path - 1) path) 0 0 ≡ get_or path 0 0 = left 0 some_left in
+            let old : 0 < get_or levels i 0 = w.begins i (omega arith) in
+            let ne : i ≢ net = λ e. (let z : get_or levels i 0 ≡ 0 = rw e unknown in absurd (omega arith)) in
+            let kept = elsewhere i ne in
+            omega arith;
         steps = λ k h. rw (left k (omega arith), left (k + 1) (omega arith)) (w.steps k (omega arith));
         on_path = λ i h z.
             let ne : i ≢ net = λ e. (let has : get_or (set levels net v) i 0 ≡ v = rw e given in absurd (omega arith)) in
@@ -259,25 +285,74 @@ module _ (nets : List Net) (levels cursors places path : List ℕ) (w : IsWalk n
   pub no_level_past : length nets ≤ most_nets → (i : ℕ) → get_or levels i 0 ≤ most_nets
   no_level_past few i = let counts : length levels ≡ length nets = w.levels_count in omega (arith, w.most i)
 
-  -- the end of the path reads a net that waits on it: from there on the path is a loop
-  pub walk_loops : (net : ℕ) → 0 < length path → Reads nets (last_of path) net → get_or levels net 0 ≡ 0 → 0 < get_or places net 0
-      → IsLoop nets (drop (get_or places net 0 - 1) path)
-  walk_loops net some reads unknown on =
-      let from = get_or places net 0 - 1 in
-      let within : get_or places net 0 ≤ length path = w.on_path net on unknown in
-      let len : length (drop from path) ≡ length path - from = length-drop from path in
-      let stands : get_or path from 0 ≡ net = w.stands net on unknown in
-      record {
-        some = omega arith;
-        steps = λ k h.
-            let a : get_or (drop from path) k 0 ≡ get_or path (from + k) 0 = get_or-drop from path k 0 in
-            let b : get_or (drop from path) (k + 1) 0 ≡ get_or path ((from + k) + 1) 0 = get_or-drop from path (k + 1) 0 ∙ ap (λ m. get_or path m 0) (omega arith) in
-            rw (a, b) (w.steps (from + k) (omega arith));
-        closes =
-            let a : get_or (drop from path) (length (drop from path) - 1) 0 ≡ last_of path = get_or-drop from path (length (drop from path) - 1) 0 ∙ ap (λ m. get_or path m 0) (omega arith) in
-            let b : get_or (drop from path) 0 0 ≡ net = get_or-drop from path 0 0 ∙ (ap (λ m. get_or path m 0) (omega arith) ∙ stands) in
-            rw (a, b) reads;
-      }
+  -- a net with a level reads nets that have lesser ones
+  level_falls : (a b : ℕ) → 0 < get_or levels a 0 → Reads nets a b → (0 < get_or levels b 0) × (get_or levels b 0 < get_or levels a 0)
+  level_falls a b known r =
+      let here : get_or levels a 0 ≡ level_from levels r.0.arcs = w.each a r.0 r.2 known in
+      let below : get_or levels r.1.from.0 0 < level_from levels r.0.arcs = input_below levels r.0.arcs r.1 r.3 in
+      let more : 0 < get_or levels r.1.from.0 0 = All-contains (λ m. 0 < get_or levels m.from.0 0) r.0.arcs r.1 (w.inputs a r.0 r.2 known) r.3 in
+      let same : get_or levels r.1.from.0 0 ≡ get_or levels b 0 = ap (λ m. get_or levels m 0) r.4 in
+      (omega arith, omega arith)
+
+  levels_fall : (along : ℕ → ℕ) → ((i : ℕ) → Reads nets (along i) (along (i + 1))) → 0 < get_or levels (along 0) 0
+      → (i : ℕ) → (0 < get_or levels (along i) 0) × (get_or levels (along i) 0 + i ≤ get_or levels (along 0) 0)
+  levels_fall along reads known zero = (known, omega arith)
+  levels_fall along reads known (suc i) =
+      let so_far = levels_fall along reads known i in
+      let next = level_falls (along i) (along (i + 1)) so_far.0 (reads i) in
+      let e : i + 1 ≡ suc i = omega arith in
+      let same : get_or levels (along (i + 1)) 0 ≡ get_or levels (along (suc i)) 0 = ap (λ m. get_or levels (along m) 0) e in
+      (omega (arith, next.0), omega (arith, next.1, so_far.1))
+
+  -- so no walk from it is endless
+  not_endless : (net : ℕ) → 0 < get_or levels net 0 → IsEndless nets net → ⊥
+  not_endless net known e =
+      let start : get_or levels (e.0 0) 0 ≡ get_or levels net 0 = ap (λ m. get_or levels m 0) e.1 in
+      let far = levels_fall e.0 e.2 (omega arith) (get_or levels net 0) in
+      absurd (omega (arith, far.0, far.1))
+
+  -- the input of the arc at a net's cursor is the first that is endless, if it is so
+  first_endless : (a b : ℕ) → IsInput nets a (get_or cursors a 0) b → IsEndless nets b → IsFirstEndless nets a (get_or cursors a 0) b
+  first_endless a b input endless = record {
+    input = input;
+    endless = endless;
+    first = λ j c h i e.
+        let known : HaveLevels levels (take (get_or cursors a 0) i.0.arcs) = w.before a i.0 i.2 in
+        let within : j < length i.0.arcs = slice_get_within i.0.arcs j i.1 i.3 in
+        let most : get_or cursors a 0 ≤ length i.0.arcs = w.cursors_within a i.0 i.2 in
+        let size : length (take (get_or cursors a 0) i.0.arcs) ≡ get_or cursors a 0 = length-take-le (get_or cursors a 0) i.0.arcs most in
+        let there : get_or (take (get_or cursors a 0) i.0.arcs) j i.1 ≡ i.1 = get_or-take (get_or cursors a 0) i.0.arcs j i.1 h ∙ get_or_from_slice_get i.0.arcs j i.1 i.1 i.3 in
+        let level : 0 < get_or levels (get_or (take (get_or cursors a 0) i.0.arcs) j i.1).from.0 0 = known j i.1 (omega arith) in
+        let same : get_or levels (get_or (take (get_or cursors a 0) i.0.arcs) j i.1).from.0 0 ≡ get_or levels c 0 = ap (λ (m : TimingArc). get_or levels m.from.0 0) there ∙ ap (λ m. get_or levels m 0) i.4 in
+        not_endless c (omega arith) e;
+  }
+
+  -- the end of the path waits for a net that stands on it: from there on the path is the told loop
+  pub walk_loops : (net : ℕ) → 0 < length path → IsInput nets (last_of path) (get_or cursors (last_of path) 0) net → get_or levels net 0 ≡ 0 → 0 < get_or places net 0
+      → IsToldLoop nets (drop (get_or places net 0 - 1) path)
+  walk_loops net some input unknown on =
+      let back = get_or places net 0 - 1 in
+      let on_it : get_or places net 0 ≤ length path = w.on_path net on unknown in
+      let stands : get_or path back 0 ≡ net = w.stands net on unknown in
+      let within : back < length path = omega arith in
+      let closes : IsInput nets (last_of path) (get_or cursors (last_of path) 0) (get_or path back 0) = rw stands input in
+      let endless : (k : ℕ) → k < length path → IsEndless nets (get_or path k 0) =
+      endless_at nets path back within (λ k h. input_reads nets _ _ _ (w.steps k h)) (input_reads nets _ _ _ closes) in (
+        path,
+        back,
+        record {
+          within = within;
+          starts = record { endless = endless 0 some; least = λ m h e. not_endless m (w.begins m h) e };
+          goes = λ i h. (get_or cursors (get_or path i 0) 0, first_endless (get_or path i 0) (get_or path (i + 1) 0) (w.steps i h) (endless (i + 1) h));
+          once = λ i j lt h e.
+              let here : get_or places (get_or path i 0) 0 ≡ i + 1 = w.place i (omega arith) in
+              let there : get_or places (get_or path j 0) 0 ≡ j + 1 = w.place j h in
+              let same : get_or places (get_or path i 0) 0 ≡ get_or places (get_or path j 0) 0 = ap (λ m. get_or places m 0) e in
+              absurd (omega arith);
+          returns = (get_or cursors (last_of path) 0, first_endless (last_of path) (get_or path back 0) closes (endless back within));
+        },
+        refl,
+      )
 
   -- a walk with no net left has the levels
   pub walk_ends : ((i : ℕ) → i < length nets → 0 < get_or levels i 0) → AreLevels nets levels

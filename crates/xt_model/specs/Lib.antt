@@ -6,6 +6,7 @@ pub mod Miller
 pub mod Parts
 pub mod Sound
 pub mod Levels
+pub mod Loops
 pub mod Assign
 pub mod Build
 pub mod Couples

@@ -12,7 +12,9 @@ use thiserror::Error;
 pub struct NoMemory;
 
 /// Why parts make no design: their arcs make a loop, or memory was wanted and there was none. Each net
-/// of a loop has an arc from the next, and the last one from the first.
+/// of a loop has an arc from the next, and the last one from the first. Of several loops one is told: begin
+/// at the net of the least number from which one can go back along arcs without end, go back from each net
+/// along its first arc that allows this, and the way runs into that loop and round it.
 #[derive(Debug, Drop, Error)]
 pub enum BuildFault {
     #[error("the timing arcs make a loop")]

@@ -6,9 +6,9 @@ ghost use Rattle.std.specs.Prelude.{slice_index, IfSome, MatchOption, IfOk, IfEr
 ghost use Rattle.std.specs.List.{All, slice_get};
 ghost use Rattle.xt_model.specs.Build.{IsFaultOf};
 ghost use Rattle.xt_model.specs.Limits.{most_nets};
-ghost use Rattle.xt_model.specs.Levels.{AreLevels, level_from, greatest_of, IsLoop, Reads};
+ghost use Rattle.xt_model.specs.Levels.{AreLevels, level_from, greatest_of};
 ghost use Rattle.xt_model.specs.visits.Walk.{AreInputsThere, HaveLevels, IsWalkOf, HasLessLeft, KeepsLevels};
-ghost use Rattle.xt_model.specs.visits.Walk.{HasInputs, WaitsAt, IsWaitedFor, last_of};
+ghost use Rattle.xt_model.specs.visits.Walk.{HasInputs, HasLevelsBelow, WaitsAt, WaitsFor, last_of};
 
 use crate::fault::BuildFault;
 use crate::net::{Net, NetId, TimingArc};
@@ -95,7 +95,8 @@ impl Walk {
         requires there { net < length nets.now }
         requires waits { slice_index self.old.levels.items net ≡ 0 }
         requires fresh { slice_index self.old.places.items net ≡ 0 }
-        requires reads { 0 < length self.old.path.items → Reads nets.now (last_of self.old.path.items) net }
+        requires begins { length self.old.path.items ≡ 0 → HasLevelsBelow self.old net }
+        requires follows { 0 < length self.old.path.items → WaitsFor nets.now self.old net }
         ensures walk { OnOk result (IsWalkOf nets.now self.new) }
         ensures levels { self.new.levels.items ≡ self.old.levels.items }
         ensures less { OnOk result (HasLessLeft self.new self.old) }
@@ -134,8 +135,7 @@ impl Walk {
         ensures levels { self.new.levels.items ≡ self.old.levels.items }
         ensures places { self.new.places.items ≡ self.old.places.items }
         ensures path { self.new.path.items ≡ self.old.path.items }
-        ensures next { MatchOption result (HasInputs nets.now self.old net)
-            (IsWaitedFor nets.now self.old.levels.items net) }
+        ensures next { MatchOption result (HasInputs nets.now self.old net) (WaitsFor nets.now self.new) }
     {
         let arcs = nets[net as usize].arcs.as_slice();
         let next = first_waiting(arcs, &self.levels, self.cursors[net as usize]);
@@ -151,7 +151,7 @@ impl Walk {
     fn wait_for(&mut self, alloc: Global, nets: &[Net], input: u32) -> Result<(), BuildFault>
         requires walk { IsWalkOf nets.now self.old }
         requires some { 0 < length self.old.path.items }
-        requires waits { IsWaitedFor nets.now self.old.levels.items (last_of self.old.path.items) input }
+        requires waits { WaitsFor nets.now self.old input }
         ensures walk { OnOk result (IsWalkOf nets.now self.new) }
         ensures levels { self.new.levels.items ≡ self.old.levels.items }
         ensures less { OnOk result (HasLessLeft self.new self.old) }
@@ -173,6 +173,7 @@ impl Walk {
         requires few { length nets.now ≤ most_nets }
         requires there { root < length nets.now }
         requires waits { slice_index self.old.levels.items root ≡ 0 }
+        requires begins { HasLevelsBelow self.old root }
         ensures walk { OnOk result (IsWalkOf nets.now self.new) }
         ensures keeps { OnOk result (KeepsLevels self.old self.new) }
         ensures less { OnOk result (HasLessLeft self.new self.old) }

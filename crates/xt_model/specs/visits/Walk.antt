@@ -4,7 +4,8 @@ use Rattle.std.specs.List.{All, slice_get, slice_index}
 use Rattle.xt_model.specs.declared.net.TimingArc.{TimingArc}
 use Rattle.xt_model.specs.declared.net.Net.{Net}
 use Rattle.xt_model.specs.declared.visits.Walk.{Walk}
-use Rattle.xt_model.specs.Levels.{level_from, Reads}
+use Rattle.xt_model.specs.Levels.{level_from}
+use Rattle.xt_model.specs.Loops.{IsInput}
 
 -- the input of each arc is a net that is there
 abbrev pub AreInputsThere : List Net → Type 0
@@ -24,8 +25,9 @@ zeros_in ns = count_by (λ n. n == 0) ns
 
 -- Each level that is known is the one that the net's arcs make, and no greater than the number of known
 -- levels. The arcs before a net's cursor have inputs with levels. The path is a list of nets without a
--- level of which each reads the next; a net's place is 1 more than where it stands on the path, and 0 for
--- a net that was never on it.
+-- level: every net of a number below its first has one, and the next of each net on it is the input of the
+-- arc at that net's cursor. A net's place is 1 more than where it stands on the path, and 0 for a net that
+-- was never on it.
 pub record IsWalk (nets : List Net) (levels cursors places path : List ℕ) : Type 0 where
   pub levels_count : length levels ≡ length nets
   pub cursors_count : length cursors ≡ length nets
@@ -39,7 +41,9 @@ pub record IsWalk (nets : List Net) (levels cursors places path : List ℕ) : Ty
   pub there : (k : ℕ) → k < length path → slice_index path k < length nets
   pub waits : (k : ℕ) → k < length path → slice_index levels (slice_index path k) ≡ 0
   pub place : (k : ℕ) → k < length path → slice_index places (slice_index path k) ≡ k + 1
-  pub steps : (k : ℕ) → k + 1 < length path → Reads nets (slice_index path k) (slice_index path (k + 1))
+  pub begins : (i : ℕ) → i < slice_index path 0 → 0 < slice_index levels i
+  pub steps : (k : ℕ) → k + 1 < length path
+      → IsInput nets (slice_index path k) (slice_index cursors (slice_index path k)) (slice_index path (k + 1))
   pub on_path : (i : ℕ) → 0 < slice_index places i → slice_index levels i ≡ 0 → slice_index places i ≤ length path
   pub stands : (i : ℕ) → 0 < slice_index places i → slice_index levels i ≡ 0
       → slice_index path (slice_index places i - 1) ≡ i
@@ -48,11 +52,11 @@ pub record IsWalk (nets : List Net) (levels cursors places path : List ℕ) : Ty
 abbrev pub last_of : List ℕ → ℕ
 last_of path = slice_index path (length path - 1)
 
--- net a reads net b, which is there and has no level yet
-pub record IsWaitedFor (nets : List Net) (levels : List ℕ) (a b : ℕ) : Type 0 where
-  pub there : b < length nets
-  pub reads : Reads nets a b
-  pub waits : slice_index levels b ≡ 0
+-- the net is the input of the arc at the cursor of net a; it is there and has no level yet
+pub record IsWaitedFor (nets : List Net) (levels cursors : List ℕ) (a net : ℕ) : Type 0 where
+  pub there : net < length nets
+  pub input : IsInput nets a (slice_index cursors a) net
+  pub waits : slice_index levels net ≡ 0
 
 -- how much of a walk is left: each net may still come onto the path once and leave it once
 abbrev pub steps_left : List ℕ → List ℕ → ℕ
@@ -69,6 +73,14 @@ HasLessLeft w v = steps_left w.places.items w.path.items < steps_left v.places.i
 -- every net with a level keeps one
 abbrev pub KeepsLevels : Walk → Walk → Type 0
 KeepsLevels w v = (i : ℕ) → 0 < slice_index w.levels.items i → 0 < slice_index v.levels.items i
+
+-- every net of a number below this one has a level
+abbrev pub HasLevelsBelow : Walk → ℕ → Type 0
+HasLevelsBelow w net = (i : ℕ) → i < net → 0 < slice_index w.levels.items i
+
+-- the net at the end of the path waits for this one
+abbrev pub WaitsFor : List Net → Walk → ℕ → Type 0
+WaitsFor nets w net = IsWaitedFor nets w.levels.items w.cursors.items (last_of w.path.items) net
 
 -- the inputs of all arcs of this net have levels
 abbrev pub HasInputs : List Net → Walk → ℕ → Type 0
