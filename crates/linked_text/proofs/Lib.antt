@@ -16,5 +16,4 @@ pub mod WholeLaws
 mod Refusals
 mod WorkedTexts
 mod WorkedMeanings
-mod NoLoop
 mod Pieces

@@ -1,5 +1,6 @@
 use Rattle.std.proofs.Common.{map}
-use Rattle.linked_text.proofs.NoLoop.{no_loop}
+use Rattle.xt_model.proofs.LevelLaws.{no_loop}
+use Rattle.xt_model.proofs.LoopLaws.{told_is_loop}
 use Rattle.linked_text.proofs.WholeLaws.{few_reads, sound_parts, means_loop}
 use Rattle.linked_text.proofs.design.read.Goals as goal
 
@@ -12,4 +13,5 @@ from_parts-requires c = record { sound = sound_parts c.args.bytes.now c.in_ok-pa
 pub returns-in-Err-Loop : goal.returns-in-Err-Loop
 returns-in-Err-Loop c =
     rw c.refused-in-Err-Loop.ensures (means_loop c.args.bytes.now c.in_ok-parts.parts c.in_ok-parts.last.now _ _ c.in_ok-parts.ensures c.in_ok-rest.ensures
-    (λ levelled. no_loop c.in_ok-parts.parts.nets levelled.0 (map (λ n. n.0) c.in-Err-Loop.field-0-0) levelled.1 (rw c.in-Err-Loop.field-0-is at c.in-Err-Loop.ensures.loops)))
+    (λ levelled. no_loop c.in_ok-parts.parts.nets levelled.0 (map (λ n. n.0) c.in-Err-Loop.field-0-0) levelled.1
+    (told_is_loop c.in_ok-parts.parts.nets (map (λ n. n.0) c.in-Err-Loop.field-0-0) (rw c.in-Err-Loop.field-0-is at c.in-Err-Loop.ensures.loops))))
