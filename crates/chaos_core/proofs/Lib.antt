@@ -19,3 +19,4 @@ pub mod Turns
 pub mod Workers
 pub mod Chained
 pub mod Settling
+pub mod OnlyWorker

@@ -6,3 +6,4 @@ pub mod Runs
 pub mod Memories
 pub mod Machine
 pub mod Rounds
+pub mod OnlyWorker

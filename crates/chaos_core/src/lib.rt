@@ -2,6 +2,7 @@
 //! words in memory for them.
 #![tactic(auto)]
 
+mod alone;
 mod board;
 mod laws;
 mod loaded;

@@ -12,6 +12,7 @@ ghost use Rattle.chaos_core.specs.Memories.{knowledge_of};
 ghost use Rattle.chaos_core.specs.Machine.{count_open};
 ghost use Rattle.chaos_core.specs.Rounds.{HasOpen, HasRoom, IsPick, IsPicked, IsRound, pause_at, play_at};
 
+use crate::alone::round_alone;
 use crate::memory::MemoryBoard;
 use crate::run::is_done;
 use crate::steps::worker_step;
@@ -140,6 +141,10 @@ pub(crate) fn round(
         → IsRound board.old.setting lists.now order (length workers.old)
         (pause_at source.old.state board.old) (pause_at source.new.state board.new) }
 {
+    if workers.len() == 1 {
+        round_alone(board, design, lists, direction, source);
+        return;
+    }
     board.restart();
     reset_all(workers);
     let _order = design.order();

@@ -101,7 +101,7 @@ fn moves_down(way: Direction, word: usize) -> bool
 }
 
 /// Moves a word to a value, where that is further in the direction.
-fn publish<B: Board>(board: &mut B, way: Direction, word: usize, value: u64)
+pub(crate) fn publish<B: Board>(board: &mut B, way: Direction, word: usize, value: u64)
     requires way { (B.knows board.old).setting.way ≡ way }
     requires word { word < 8 * nets_of (B.knows board.old).setting }
     requires value { CanPublish (B.knows board.old) word value }

@@ -1,5 +1,4 @@
-use Rattle.std.proofs.Common.{◌≡◌, ℕ, ◌%◌, ◌∙◌, sym, subst, length, set}
-use Rattle.std.specs.Prelude.{max}
+use Rattle.std.proofs.Common.{◌%◌, ◌∙◌, sym, subst, set}
 use Rattle.xt_meaning.specs.Words.{MovesUp}
 use Rattle.chaos_core.specs.Boards.{Publishes}
 use Rattle.chaos_core.specs.Memories.{Memory, knowledge_of}
