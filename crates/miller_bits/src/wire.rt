@@ -31,10 +31,13 @@ fn in_quarters(base: i128) -> i128
     4 * base
 }
 
-/// The delay in fs of a sum in quarters of a milliohm times an attofarad.
+/// The delay in fs of a sum in quarters of a milliohm times an attofarad, by 64 bits where the sum fits.
 fn elmore_delay(quarters: i128) -> i128
     ensures { result ≡ elmore_delay quarters }
 {
+    if let Ok(quarters) = i64::try_from(quarters) {
+        return i128::from(quarters.div_euclid(4_000_000));
+    }
     quarters.div_euclid(4_000_000)
 }
 

@@ -1,15 +1,17 @@
 -- Values of a table: their bounds, and how they go along each axis.
-use Rattle.std.proofs.Common.{◌≡◌, ℕ, ◌+◌, ◌*◌, ◌^◌, ◌<◌, ◌≤◌, sym, ◌∙◌, ap, subst, length, get_or, ℤ, pos, negsuc, neg_ℤ, ◌+ℤ◌, ◌-ℤ◌, ◌*ℤ◌, ◌≤ℤ◌, ◌<ℤ◌, arith}
+use Rattle.std.proofs.Common.{◌≡◌, ℕ, ◌+◌, ◌-◌, ◌*◌, ◌^◌, ◌<◌, ◌≤◌, inl, inr, refl, sym, ◌∙◌, ap, subst, length, get_or, ℤ, pos, negsuc, neg_ℤ, ◌+ℤ◌, ◌-ℤ◌, ◌*ℤ◌, ◌≤ℤ◌, ◌<ℤ◌, arith}
 use Rattle.std.specs.Int.{int_div_euclid}
+use Rattle.std.proofs.lemmas.Bool.{cases_lt}
 use Rattle.std.proofs.lemmas.Int.{ints, by_lt_z}
 use Rattle.std.proofs.lemmas.Nat.{mul-add-lt, mul-le}
 use Rattle.std.proofs.Math.IntN.{*ℤ_comm, *ℤ-zero}
 use Rattle.xt_model.specs.Tables.{TableParts, IsTable, IsTableNumber}
-use Rattle.xt_meaning.specs.Lookup.{Span, span_at, span_of, cell_value, value_in, table_value}
+use Rattle.xt_meaning.specs.Lookup.{Span, span_at, span_of, whole_span, cell_value, value_in, table_value}
 use Rattle.table_box.specs.Spans.{IsSpan}
-use Rattle.table_box.proofs.Products.{mixed, mixed_rises, mixed_falls, mixed_most, mixed_least, mul_swap, corners_by_first, corners_by_second}
+use Rattle.table_box.specs.Mixes.{mixed, along_slews}
+use Rattle.table_box.proofs.Products.{mixed_rises, mixed_falls, mixed_most, mixed_least, mul_swap, corners_by_first, corners_by_second}
 use Rattle.table_box.proofs.Floors.{floor_mono, floor_scaled, floor_most, floor_least}
-use Rattle.table_box.proofs.Axis.{IsConvexAlong, span_of_sound}
+use Rattle.table_box.proofs.Axis.{IsConvexAlong, span_of_sound, span_on_line, span_single}
 
 -- v is from m to k
 pub record IsBetween (m k v : ℤ) : Type 0 where
@@ -74,22 +76,22 @@ upper_end p q w h b r s e = ap (λ n. int_div_euclid n (w *ℤ h)) (only_second 
 lower_end : (p q w h a : ℤ) → pos 0 <ℤ w → pos 0 <ℤ h → a ≡ pos 0 → int_div_euclid (mixed p q w a) (w *ℤ h) ≡ int_div_euclid p h
 lower_end p q w h a r s e = ap (λ n. int_div_euclid n (w *ℤ h)) (only_first p q w a e) ∙ fraction_scaled p w h r s
 
+swapped_area : (n w h : ℤ) → int_div_euclid n (w *ℤ h) ≡ int_div_euclid n (h *ℤ w)
+swapped_area n w h = ap (int_div_euclid n) (*ℤ_comm w h)
+
 mul_assoc : (a b c : ℤ) → (a *ℤ b) *ℤ c ≡ a *ℤ (c *ℤ b)
 mul_assoc a b c = ap (λ n. n *ℤ c) (*ℤ_comm a b) ∙ (mul_swap b a c ∙ (ap (λ n. n *ℤ a) (*ℤ_comm b c) ∙ *ℤ_comm (c *ℤ b) a))
 
 -- ---- a table
--- a number of a row, mixed along the loads, and one of a column, mixed along the slews
+-- a number of a row, mixed along the loads
 abbrev pub along_loads : TableParts → ℕ → Span → ℤ
 along_loads t row c = mixed (cell_value t row c.first) (cell_value t row c.second) c.below c.above
-
-abbrev pub along_slews : TableParts → ℕ → Span → ℤ
-along_slews t column s = mixed (cell_value t s.first column) (cell_value t s.second column) s.below s.above
 
 value_by_slew : (t : TableParts) (s c : Span) → value_in t s c ≡ int_div_euclid (mixed (along_loads t s.first c) (along_loads t s.second c) s.below s.above) (s.width *ℤ c.width)
 value_by_slew t s c = ap (λ n. int_div_euclid n (s.width *ℤ c.width))
     (corners_by_first (cell_value t s.first c.first) (cell_value t s.first c.second) (cell_value t s.second c.first) (cell_value t s.second c.second) s.below s.above c.below c.above)
 
-value_by_load : (t : TableParts) (s c : Span) → value_in t s c ≡ int_div_euclid (mixed (along_slews t c.first s) (along_slews t c.second s) c.below c.above) (s.width *ℤ c.width)
+pub value_by_load : (t : TableParts) (s c : Span) → value_in t s c ≡ int_div_euclid (mixed (along_slews t c.first s) (along_slews t c.second s) c.below c.above) (s.width *ℤ c.width)
 value_by_load t s c = ap (λ n. int_div_euclid n (s.width *ℤ c.width))
     (corners_by_second (cell_value t s.first c.first) (cell_value t s.first c.second) (cell_value t s.second c.first) (cell_value t s.second c.second) s.below s.above c.below c.above)
 
@@ -182,9 +184,6 @@ module _ (t : TableParts) (ok : IsTable t) where
         (subst (IsBetween m k) (value_by_load t s (span_at t.loads a i)) start)
         (subst (IsBetween m k) (value_by_load t s (span_at t.loads b i)) end))
 
-    by_load_first : (n h : ℤ) → int_div_euclid n (s.width *ℤ h) ≡ int_div_euclid n (h *ℤ s.width)
-    by_load_first n h = ap (int_div_euclid n) (*ℤ_comm s.width h)
-
     loads_joined : (i : ℕ) → i + 2 < length t.loads
         → value_in t s (span_at t.loads (get_or t.loads (i + 1) (pos 0)) (i + 1)) ≡ value_in t s (span_at t.loads (get_or t.loads (i + 1) (pos 0)) i)
     loads_joined i h =
@@ -192,10 +191,10 @@ module _ (t : TableParts) (ok : IsTable t) where
         let line : ℤ = get_or t.loads (i + 1) (pos 0) in
         let second : ℤ = get_or t.loads (i + 1 + 1) (pos 0) in
         value_by_load t s (span_at t.loads line (i + 1))
-        ∙ (by_load_first _ (second -ℤ line)
+        ∙ (swapped_area _ s.width (second -ℤ line)
         ∙ (lower_end (along_slews t (i + 1) s) (along_slews t (i + 1 + 1) s) (second -ℤ line) s.width (line -ℤ line) (columns_wide (i + 1) (omega arith)) sound_s.positive (omega (arith, ints))
         ∙ (sym (upper_end (along_slews t i s) (along_slews t (i + 1) s) (line -ℤ first) s.width (line -ℤ line) (columns_wide i (omega arith)) sound_s.positive (omega (arith, ints)))
-        ∙ (sym (by_load_first _ (line -ℤ first))
+        ∙ (sym (swapped_area _ s.width (line -ℤ first))
         ∙ sym (value_by_load t s (span_at t.loads line i))))))
 
     pub loads_convex : IsConvexAlong t.loads (λ c. IsBetween m k (value_in t s c))
@@ -203,6 +202,44 @@ module _ (t : TableParts) (ok : IsTable t) where
       between = λ i a x b h l p q u start end. loads_between i a x b h p q start end;
       joined = λ i h held. subst (IsBetween m k) (loads_joined i h) held;
     }
+
+  -- the value on a grid line needs the numbers of that line alone
+  module _ (s : Span) (sound_s : IsSpan (length t.slews) s) where
+    on_first : (c : Span) → pos 0 <ℤ c.width → c.below ≡ c.width → c.above ≡ pos 0 → value_in t s c ≡ int_div_euclid (along_slews t c.first s) s.width
+    on_first c wide below above =
+        let p = along_slews t c.first s in let q = along_slews t c.second s in
+        let P : ℤ → Type 0 = λ b. int_div_euclid (mixed p q b c.above) (c.width *ℤ s.width) ≡ int_div_euclid p s.width in
+        value_by_load t s c ∙ (swapped_area _ s.width c.width ∙ subst P (sym below) (lower_end p q c.width s.width c.above wide sound_s.positive above))
+
+    on_second : (c : Span) → pos 0 <ℤ c.width → c.below ≡ pos 0 → c.above ≡ c.width → value_in t s c ≡ int_div_euclid (along_slews t c.second s) s.width
+    on_second c wide below above =
+        let p = along_slews t c.first s in let q = along_slews t c.second s in
+        let P : ℤ → Type 0 = λ a. int_div_euclid (mixed p q c.below a) (c.width *ℤ s.width) ≡ int_div_euclid q s.width in
+        value_by_load t s c ∙ (swapped_area _ s.width c.width ∙ subst P (sym above) (upper_end p q c.width s.width c.below wide sound_s.positive below))
+
+    pub on_line : (line : ℕ) → line < length t.loads → value_in t s (span_of t.loads (get_or t.loads line (pos 0))) ≡ int_div_euclid (along_slews t line s) s.width
+    on_line line h = let g : ℤ = get_or t.loads line (pos 0) in elim (cases_lt 1 (length t.loads)) [
+      | inl p ↦ elim (cases_lt (line + 1) (length t.loads)) [
+        | inl q ↦
+            let up = ok.loads.rising.each line (line + 1) (omega arith) q in
+            let c = span_at t.loads g line in
+            ap (value_in t s) (span_on_line t.loads ok.loads line h line q (inl refl)) ∙ on_first c (omega (arith, ints, up)) refl (omega (arith, ints))
+        | inr q ↦
+            let i = line - 1 in
+            let e : i + 1 ≡ line = omega arith in
+            let up = ok.loads.rising.each i (i + 1) (omega arith) (omega arith) in
+            let c = span_at t.loads g i in
+            let second : get_or t.loads (i + 1) (pos 0) ≡ g = ap (λ n. get_or t.loads n (pos 0)) e in
+            let P : ℕ → Type 0 = λ n. value_in t s c ≡ int_div_euclid (along_slews t n s) s.width in
+            ap (value_in t s) (span_on_line t.loads ok.loads line h i (omega arith) (inr (e, omega arith)))
+            ∙ subst P e (on_second c (omega (arith, ints, up)) (omega (arith, ints, second)) (omega (arith, ints, second)))
+      ]
+      | inr p ↦
+          let some = ok.loads.some in
+          let P : ℕ → Type 0 = λ n. int_div_euclid (along_slews t 0 s) s.width ≡ int_div_euclid (along_slews t n s) s.width in
+          let e : 0 ≡ line = omega arith in
+          ap (value_in t s) (span_single t.loads ok.loads g (omega arith)) ∙ (on_first whole_span (omega (arith, ints)) refl refl ∙ subst P e refl)
+    ]
 
   -- ---- whole rows, from one load to another
   pub rows_convex : (m k c0 c1 : ℤ) → IsConvexAlong t.slews (λ s. (c : ℤ) → c0 ≤ℤ c → c ≤ℤ c1 → IsBetween m k (value_in t s (span_of t.loads c)))

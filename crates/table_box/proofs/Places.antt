@@ -81,6 +81,21 @@ pub placed_sound : (xs : List ℤ) (x : ℤ) (p : Span) → IsIndex xs → p ≡
 placed_sound xs x p ok e = subst (IsSpan (length xs)) (sym e) (span_of_sound xs ok x)
 
 -- ---- a range of numbers on an axis
+-- the lines at or below a greater number that is below the next line
+pub reach_all : (xs : List ℤ) (x y : ℤ) (n : ℕ) → x ≤ℤ y → ReachUpTo xs x n → n ≡ length xs → ReachUpTo xs y n
+reach_all xs x y n h r e = record {
+  within = r.within;
+  reached = λ j k. let b = r.reached j k in omega (arith, ints, h, b);
+  beyond = λ j k l. absurd (omega arith);
+}
+
+pub reach_below : (xs : List ℤ) (x y : ℤ) (n : ℕ) → IsIndex xs → x ≤ℤ y → ReachUpTo xs x n → y <ℤ get_or xs n (pos 0) → ReachUpTo xs y n
+reach_below xs x y n ok h r below = record {
+  within = r.within;
+  reached = λ j k. let b = r.reached j k in omega (arith, ints, h, b);
+  beyond = λ j k l. let b = rises xs ok n j k l in omega (arith, ints, below, b);
+}
+
 -- the lines below x, where the first n lie at or below it: all of them, or all but the last
 pub below_none : (xs : List ℤ) (x : ℤ) (n : ℕ) → ReachUpTo xs x n → n ≡ 0 → LieBelow xs x 0
 below_none xs x n r none = record {

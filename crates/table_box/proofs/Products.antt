@@ -2,6 +2,7 @@
 use Rattle.std.proofs.Common.{◌≡◌, ◌+◌, ◌*◌, ◌≤◌, ap, ℤ, pos, negsuc, ◌+ℤ◌, ◌*ℤ◌, ◌≤ℤ◌, arith, mul-le-mul_right}
 use Rattle.std.proofs.lemmas.Int.{ints}
 use borrow.Author.Differences.{product_is, sum_is_lem, up, down}
+use Rattle.table_box.specs.Mixes.{mixed}
 
 pub mul_add_right : (a b c : ℤ) → (a +ℤ b) *ℤ c ≡ (a *ℤ c) +ℤ (b *ℤ c)
 mul_add_right a b c = let e = sum_is_lem a b in omega (arith, ints, product_is, ap (λ n. n * up c) e, ap (λ n. n * down c) e)
@@ -31,10 +32,6 @@ mul_mono a b (pos n) h k =
     let e : up a + down b ≤ up b + down a = omega (arith, ints) in
     omega (arith, ints, product_is, mul-le-mul_right n e)
 mul_mono a b (negsuc n) h k = absurd (omega (arith, ints))
-
--- p and q, weighted by a distance each
-abbrev pub mixed : ℤ → ℤ → ℤ → ℤ → ℤ
-mixed p q below above = (p *ℤ below) +ℤ (q *ℤ above)
 
 -- the weight that moves from the first to the second changes the sum by the difference of both
 moved : (p q b a d : ℤ) → mixed p q b (a +ℤ d) +ℤ (p *ℤ d) ≡ mixed p q (b +ℤ d) a +ℤ (q *ℤ d)

@@ -41,11 +41,9 @@ product_least m n x d h p q =
 pub factors_back : (a b : ℤ) → SFits w64 a → SFits w64 b → to_z w64 (of_z w64 a) *ℤ to_z w64 (of_z w64 b) ≡ a *ℤ b
 factors_back a b p q = ap (λ n. n *ℤ to_z w64 (of_z w64 b)) (to_z-of_z p) ∙ ap (λ n. a *ℤ n) (to_z-of_z q)
 
--- three factors of 64 bits, the first known by another name
-pub corner_back : (x v d e : ℤ) → x ≡ v → SFits w64 x → SFits w64 d → SFits w64 e → (to_z w64 (of_z w64 x) *ℤ to_z w64 (of_z w64 d)) *ℤ to_z w64 (of_z w64 e) ≡ (v *ℤ d) *ℤ e
-corner_back x v d e same p q r =
-    ap (λ n. n *ℤ to_z w64 (of_z w64 e)) (factors_back x d p q)
-    ∙ (ap (λ n. (x *ℤ d) *ℤ n) (to_z-of_z r) ∙ ap (λ n. (n *ℤ d) *ℤ e) same)
+-- the same, with the first factor known by another name
+pub product_named : (x v d : ℤ) → x ≡ v → SFits w64 x → SFits w64 d → to_z w64 (of_z w64 x) *ℤ to_z w64 (of_z w64 d) ≡ v *ℤ d
+product_named x v d same p q = factors_back x d p q ∙ ap (λ n. n *ℤ d) same
 
 -- a sum of two numbers of at most 2^123 in size is what the machine makes
 pub wide_sum_fits : (a b : ℤ) → neg_ℤ (pos (2 ^ 123)) ≤ℤ a → a ≤ℤ pos (2 ^ 123) → neg_ℤ (pos (2 ^ 123)) ≤ℤ b → b ≤ℤ pos (2 ^ 123)
@@ -58,10 +56,6 @@ wide_sum_back a b p q r s = omega (arith, ints)
 
 pub sum_same : (a a' b b' : ℤ) → a ≡ a' → b ≡ b' → a +ℤ b ≡ a' +ℤ b'
 sum_same a a' b b' e f = ap (λ n. n +ℤ b) e ∙ ap (λ n. a' +ℤ n) f
-
--- a distance that two products share, as the machine reads it
-pub row_back : (u v d x y : ℤ) → SFits w64 d → ((u *ℤ to_z w64 (of_z w64 d)) *ℤ x) +ℤ ((v *ℤ to_z w64 (of_z w64 d)) *ℤ y) ≡ ((u *ℤ d) *ℤ x) +ℤ ((v *ℤ d) *ℤ y)
-row_back u v d x y p = ap (λ n. ((u *ℤ n) *ℤ x) +ℤ ((v *ℤ n) *ℤ y)) (to_z-of_z p)
 
 -- a quotient of two numbers of 128 bits, as the machine reads them
 pub fraction_back : (x y a b : ℤ) → SFits w128 x → SFits w128 y → x ≡ a → y ≡ b → int_div_euclid (to_z w128 (of_z w128 x)) (to_z w128 (of_z w128 y)) ≡ int_div_euclid a b

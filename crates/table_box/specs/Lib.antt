@@ -1,3 +1,4 @@
 pub mod Spans
 pub mod Rows
 pub mod Stretches
+pub mod Mixes

@@ -5,10 +5,11 @@ ghost use Rattle.xt_meaning.specs.Lookup.{greatest_over, least_over, span_of, ta
 ghost use Rattle.table_box.specs.Spans.{IsSpan, span_in};
 ghost use Rattle.table_box.specs.Stretches.{IsStretch, box_of};
 ghost use Rattle.table_box.specs.Rows.{row_least, row_greatest};
+ghost use Rattle.table_box.specs.Mixes.{AreBeside};
 
 use crate::place::Place;
 use crate::stretch::Stretch;
-use crate::values::value;
+use crate::values::{Columns, value_on_line};
 use xt_model::Table;
 
 /// The least and the greatest number of two ranges.
@@ -19,20 +20,22 @@ fn joined(a: (i64, i64), b: (i64, i64)) -> (i64, i64)
     (a.0.min(b.0), a.1.max(b.1))
 }
 
-/// The value at one slew and the greatest of several loads, where that at the least of them is `start`.
-fn end_value(table: &Table, slew: &Place, loads: &Stretch, start: i64) -> i64
-    requires table { IsTable table.now }
-    requires slew { IsSpan (length table.now.slews) (span_in slew.now) }
-    requires loads { IsStretch table.now.loads loads.now }
-    requires start { start ≡ value_in table.now (span_in slew.now) (span_of table.now.loads loads.now.from) }
+/// The value at one slew and the greatest of several loads, by the columns beside the least of them, at which it is
+/// `start`.
+fn end_value(columns: &Columns, loads: &Stretch, start: i64) -> i64
+    requires loads { IsStretch columns.now.table.now.loads loads.now }
+    requires beside { AreBeside (span_of columns.now.table.now.loads loads.now.from) columns.now }
+    requires start { start ≡ value_in columns.now.table.now (span_in columns.now.slew.now)
+        (span_of columns.now.table.now.loads loads.now.from) }
     requires number { IsTableNumber start }
-    ensures value { result ≡ value_in table.now (span_in slew.now) (span_of table.now.loads loads.now.to) }
+    ensures value { result ≡ value_in columns.now.table.now (span_in columns.now.slew.now)
+        (span_of columns.now.table.now.loads loads.now.to) }
     ensures number { IsTableNumber result }
 {
     if loads.single {
         return start;
     }
-    value(table, slew, &loads.end)
+    columns.moved(&loads.end).value(&loads.end)
 }
 
 /// The least and the greatest value at one slew, over several loads. Between neighbouring grid lines the values go one
@@ -44,11 +47,12 @@ fn row_range(table: &Table, slew: &Place, loads: &Stretch) -> (i64, i64)
     ensures least { result.0 ≡ row_least table.now (span_in slew.now) loads.now.from loads.now.to }
     ensures greatest { result.1 ≡ row_greatest table.now (span_in slew.now) loads.now.from loads.now.to }
 {
-    let start = value(table, slew, &loads.start);
-    let end = end_value(table, slew, loads, start);
+    let columns = Columns::beside(table, slew, &loads.start);
+    let start = columns.value(&loads.start);
+    let end = end_value(&columns, loads, start);
     let mut range = joined((start, start), (end, end));
     for line in loads.first..loads.last {
-        let value = value(table, slew, &Place::on_line(table.loads(), line));
+        let value = value_on_line(table, slew, line);
         range = joined(range, (value, value));
     }
     range

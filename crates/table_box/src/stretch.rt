@@ -1,4 +1,5 @@
-ghost use Rattle.std.specs.Prelude.{◌≡◌, ◌↔◌, ◌≤ℤ◌, IsTrue};
+ghost use Rattle.std.specs.Prelude.{◌≡◌, ◌↔◌, ◌<◌, ◌≤ℤ◌, ◌<ℤ◌, pos, length, IsTrue};
+ghost use Rattle.std.specs.List.{slice_index_or};
 ghost use Rattle.xt_model.specs.Tables.{IsIndex};
 ghost use Rattle.table_box.specs.Spans.{LieBelow, ReachUpTo};
 ghost use Rattle.table_box.specs.Stretches.{IsStretch};
@@ -26,13 +27,26 @@ fn are_same(a: i64, b: i64) -> bool
     a == b
 }
 
-/// How many grid lines lie at or below `to`, where so many lie at or below `from`.
+/// Whether a number lies below a grid line.
+fn is_below(index: &[i64], x: i64, line: usize) -> bool
+    requires { line < length index.now }
+    ensures { IsTrue result ↔ (x <ℤ slice_index_or index.now line (pos 0)) }
+{
+    x < index[line]
+}
+
+/// How many grid lines lie at or below `to`, where so many lie at or below `from`: as many, where `to` lies below the
+/// next one.
 fn lines_to(index: &[i64], from: i64, to: i64, lines: usize) -> usize
     requires index { IsIndex index.now }
+    requires ordered { from ≤ℤ to }
     requires lines { ReachUpTo index.now from lines }
     ensures { ReachUpTo index.now to result }
 {
-    if from == to {
+    if lines == index.len() {
+        return lines;
+    }
+    if is_below(index, to, lines) {
         return lines;
     }
     lines_up_to(index, to)

@@ -1,8 +1,10 @@
-ghost use Rattle.std.specs.Prelude.{◌≡◌, ◌<◌, ◌^◌, ◌≤ℤ◌, ◌<ℤ◌, ◌+ℤ◌, ◌*ℤ◌, pos, neg_ℤ, length};
+ghost use Rattle.std.specs.Prelude.{◌≡◌, ◌<◌, ◌^◌, ◌≤ℤ◌, ◌<ℤ◌, ◌*ℤ◌, pos, neg_ℤ, length, IsTrue};
 ghost use Rattle.std.specs.Int.{int_div_euclid};
 ghost use Rattle.xt_model.specs.Tables.{IsTable, IsTableNumber};
-ghost use Rattle.xt_meaning.specs.Lookup.{cell_value, table_value, value_in, weighted};
+ghost use Rattle.std.specs.List.{slice_index_or};
+ghost use Rattle.xt_meaning.specs.Lookup.{Span, cell_value, span_of, table_value, value_in};
 ghost use Rattle.table_box.specs.Spans.{IsSpan, span_in};
+ghost use Rattle.table_box.specs.Mixes.{AreBeside, along_slews};
 
 use crate::place::Place;
 use xt_model::Table;
@@ -19,18 +21,17 @@ fn scaled(value: i64, distance: i64) -> i128
     i128::from(value) * i128::from(distance)
 }
 
-/// A number of a table, times a distance along each axis.
-fn corner(value: i64, slew_distance: i64, load_distance: i64) -> i128
-    requires value { IsTableNumber value }
-    requires slew_low { pos 0 ≤ℤ slew_distance }
-    requires slew_high { slew_distance ≤ℤ pos (2 ^ 41) }
-    requires load_low { pos 0 ≤ℤ load_distance }
-    requires load_high { load_distance ≤ℤ pos (2 ^ 41) }
-    ensures value { result ≡ (value *ℤ slew_distance) *ℤ load_distance }
-    ensures low { neg_ℤ (pos (2 ^ 122)) ≤ℤ result }
-    ensures high { result ≤ℤ pos (2 ^ 122) }
+/// The number of a column at a slew, times a distance along the loads.
+fn weighed(number: i128, distance: i64) -> i128
+    requires number_low { neg_ℤ (pos (2 ^ 82)) ≤ℤ number }
+    requires number_high { number ≤ℤ pos (2 ^ 82) }
+    requires low { pos 0 ≤ℤ distance }
+    requires high { distance ≤ℤ pos (2 ^ 41) }
+    ensures value { result ≡ number *ℤ distance }
+    ensures low { neg_ℤ (pos (2 ^ 123)) ≤ℤ result }
+    ensures high { result ≤ℤ pos (2 ^ 123) }
 {
-    scaled(value, slew_distance) * i128::from(load_distance)
+    number * i128::from(distance)
 }
 
 /// The value of a row and a column.
@@ -43,30 +44,16 @@ fn cell(table: &Table, row: usize, column: usize) -> i64
     table.values()[row * table.loads().len() + column]
 }
 
-/// The two values of a row beside a load, each times its distances.
-fn weighted_row(table: &Table, row: usize, slew_distance: i64, load: &Place) -> i128
-    requires row { row < length table.now.slews }
-    requires low { pos 0 ≤ℤ slew_distance }
-    requires high { slew_distance ≤ℤ pos (2 ^ 41) }
-    requires load { IsSpan (length table.now.loads) (span_in load.now) }
-    ensures value { result
-        ≡ ((cell_value table.now row load.now.first *ℤ slew_distance) *ℤ load.now.below)
-        +ℤ ((cell_value table.now row load.now.second *ℤ slew_distance) *ℤ load.now.above) }
-    ensures low { neg_ℤ (pos (2 ^ 123)) ≤ℤ result }
-    ensures high { result ≤ℤ pos (2 ^ 123) }
-{
-    corner(cell(table, row, load.first), slew_distance, load.below)
-        + corner(cell(table, row, load.second), slew_distance, load.above)
-}
-
-/// The four values beside a slew and a load, each times its distances.
-fn weighted_sum(table: &Table, slew: &Place, load: &Place) -> i128
+/// The two values beside a slew in a column, each times its distance.
+fn column_at(table: &Table, slew: &Place, column: usize) -> i128
     requires slew { IsSpan (length table.now.slews) (span_in slew.now) }
-    requires load { IsSpan (length table.now.loads) (span_in load.now) }
-    ensures { result ≡ weighted table.now (span_in slew.now) (span_in load.now) }
+    requires column { column < length table.now.loads }
+    ensures value { result ≡ along_slews table.now column (span_in slew.now) }
+    ensures low { neg_ℤ (pos (2 ^ 82)) ≤ℤ result }
+    ensures high { result ≤ℤ pos (2 ^ 82) }
 {
-    weighted_row(table, slew.first, slew.below, load)
-        + weighted_row(table, slew.second, slew.above, load)
+    scaled(cell(table, slew.first, column), slew.below)
+        + scaled(cell(table, slew.second, column), slew.above)
 }
 
 /// The area of a cell.
@@ -92,17 +79,81 @@ fn floor(sum: i128, area: i128) -> i128
     sum.div_euclid(area)
 }
 
-/// The value at a place of the slews and one of the loads: the floor of the exact bilinear fraction.
-pub(crate) fn value(table: &Table, slew: &Place, load: &Place) -> i64
+/// A table and a slew, with the two columns beside a load and the numbers of both at the slew.
+#[derive(Clone, Copy)]
+pub(crate) struct Columns<'a> {
+    table: &'a Table,
+    slew: &'a Place,
+    first: usize,
+    second: usize,
+    at_first: i128,
+    at_second: i128,
+}
+
+impl<'a> Columns<'a> {
+    /// The columns beside a load.
+    pub fn beside(table: &'a Table, slew: &'a Place, load: &Place) -> Columns<'a>
+        requires table { IsTable table.now }
+        requires slew { IsSpan (length table.now.slews) (span_in slew.now) }
+        requires load { IsSpan (length table.now.loads) (span_in load.now) }
+        ensures table { result.table.now ≡ table.now }
+        ensures slew { result.slew.now ≡ slew.now }
+        ensures beside { AreBeside (span_in load.now) result }
+    {
+        Columns {
+            table,
+            slew,
+            first: load.first,
+            second: load.second,
+            at_first: column_at(table, slew, load.first),
+            at_second: column_at(table, slew, load.second),
+        }
+    }
+
+    /// Whether these are the columns beside a load.
+    fn are_beside(&self, load: &Place) -> bool
+        ensures { IsTrue result → (load.now.first ≡ self.now.first) × (load.now.second ≡ self.now.second) }
+    {
+        load.first == self.first && load.second == self.second
+    }
+
+    /// The columns beside another load, at the same slew: those that are at hand, where it lies between them.
+    pub fn moved(&self, load: &Place) -> Columns<'a>
+        requires load { IsSpan (length self.now.table.now.loads) (span_in load.now) }
+        requires beside { (before : Span) × AreBeside before self.now }
+        ensures table { result.table.now ≡ self.now.table.now }
+        ensures slew { result.slew.now ≡ self.now.slew.now }
+        ensures beside { AreBeside (span_in load.now) result }
+    {
+        if self.are_beside(load) {
+            return *self;
+        }
+        Columns::beside(self.table, self.slew, load)
+    }
+
+    /// The value at a load between the columns: the floor of the exact bilinear fraction.
+    pub fn value(&self, load: &Place) -> i64
+        requires load { IsSpan (length self.now.table.now.loads) (span_in load.now) }
+        requires beside { AreBeside (span_in load.now) self.now }
+        ensures value { result ≡ value_in self.now.table.now (span_in self.now.slew.now) (span_in load.now) }
+        ensures number { IsTableNumber result }
+    {
+        let sum = weighed(self.at_first, load.below) + weighed(self.at_second, load.above);
+        floor(sum, area(self.slew.width, load.width)) as i64
+    }
+}
+
+/// The value at a slew and a grid line of the loads: the floor of the exact linear fraction.
+pub(crate) fn value_on_line(table: &Table, slew: &Place, line: usize) -> i64
     requires table { IsTable table.now }
     requires slew { IsSpan (length table.now.slews) (span_in slew.now) }
-    requires load { IsSpan (length table.now.loads) (span_in load.now) }
-    ensures value { result ≡ value_in table.now (span_in slew.now) (span_in load.now) }
+    requires line { line < length table.now.loads }
+    ensures value { result
+        ≡ value_in table.now (span_in slew.now)
+        (span_of table.now.loads (slice_index_or table.now.loads line (pos 0))) }
     ensures number { IsTableNumber result }
 {
-    let sum = weighted_sum(table, slew, load);
-    let area = area(slew.width, load.width);
-    floor(sum, area) as i64
+    floor(column_at(table, slew, line), i128::from(slew.width)) as i64
 }
 
 /// The value of a table at a slew in fs and a load in aF, each brought within the ends of its index:
@@ -111,9 +162,7 @@ pub fn at(table: &Table, slew: i64, load: i64) -> i64
     ensures value { result ≡ table_value table.now slew load }
     ensures number { IsTableNumber result }
 {
-    value(
-        table,
-        &Place::of(table.slews(), slew),
-        &Place::of(table.loads(), load),
-    )
+    let at_slew = Place::of(table.slews(), slew);
+    let at_load = Place::of(table.loads(), load);
+    Columns::beside(table, &at_slew, &at_load).value(&at_load)
 }

@@ -1,0 +1,75 @@
+-- The quotient is that of the definition, and a number of the table's size.
+use Rattle.std.proofs.Common.{◌≡◌, ◌^◌, sym, ◌∙◌, ap, subst, ℤ, pos, neg_ℤ, ◌+ℤ◌, ◌*ℤ◌, ◌≤ℤ◌, arith, to_z, of_z, to_z-of_z, w64, SFits}
+use Rattle.std.specs.Int.{w128}
+use Rattle.std.proofs.lemmas.Int.{ints}
+use Rattle.xt_model.specs.Tables.{IsTableNumber}
+use Rattle.xt_meaning.specs.Lookup.{value_in}
+use Rattle.table_box.specs.Spans.{span_in}
+use Rattle.table_box.proofs.Bilinear.{value_number, value_by_load}
+use Rattle.table_box.proofs.Widths.{wide_sum_fits, sum_same, factors_back, fraction_back, number_fits, number_back}
+use Rattle.table_box.proofs.values.Columns.value.Goals as goal
+
+fits : (x : ℤ) → neg_ℤ (pos (2 ^ 82)) ≤ℤ x → x ≤ℤ pos (2 ^ 82) → SFits w128 x
+fits x h k = omega (arith, ints)
+
+wide : (x : ℤ) → neg_ℤ (pos (2 ^ 123)) ≤ℤ x → x ≤ℤ pos (2 ^ 123) → SFits w128 x
+wide x h k = omega (arith, ints)
+
+low_back : (x : ℤ) → neg_ℤ (pos (2 ^ 82)) ≤ℤ x → x ≤ℤ pos (2 ^ 82) → neg_ℤ (pos (2 ^ 82)) ≤ℤ to_z w128 (of_z w128 x)
+low_back x h k = let P : ℤ → Type 0 = λ n. neg_ℤ (pos (2 ^ 82)) ≤ℤ n in subst P (sym (to_z-of_z (fits x h k))) h
+
+high_back : (x : ℤ) → neg_ℤ (pos (2 ^ 82)) ≤ℤ x → x ≤ℤ pos (2 ^ 82) → to_z w128 (of_z w128 x) ≤ℤ pos (2 ^ 82)
+high_back x h k = let P : ℤ → Type 0 = λ n. n ≤ℤ pos (2 ^ 82) in subst P (sym (to_z-of_z (fits x h k))) k
+
+-- a product of the code, with its first factor known by another name
+part : (w n d v : ℤ) → w ≡ to_z w128 (of_z w128 n) *ℤ to_z w64 (of_z w64 d) → n ≡ v → SFits w128 n → SFits w64 d → w ≡ v *ℤ d
+part w n d v e f p q = e ∙ (ap (λ x. x *ℤ to_z w64 (of_z w64 d)) (to_z-of_z p ∙ f) ∙ ap (λ x. v *ℤ x) (to_z-of_z q))
+
+both : (a b x y : ℤ) → SFits w128 a → SFits w128 b → a ≡ x → b ≡ y → to_z w128 (of_z w128 a) +ℤ to_z w128 (of_z w128 b) ≡ x +ℤ y
+both a b x y p q e f = sum_same _ _ _ _ (to_z-of_z p ∙ e) (to_z-of_z q ∙ f)
+
+pub weighed-requires-clause-number_low : goal.weighed-requires-clause-number_low
+weighed-requires-clause-number_low c = let b = c.requires.beside in low_back _ b.low_first b.high_first
+
+pub weighed-requires-clause-number_high : goal.weighed-requires-clause-number_high
+weighed-requires-clause-number_high c = let b = c.requires.beside in high_back _ b.low_first b.high_first
+
+pub weighed-requires-2-clause-number_low : goal.weighed-requires-2-clause-number_low
+weighed-requires-2-clause-number_low c = let b = c.requires.beside in low_back _ b.low_second b.high_second
+
+pub weighed-requires-2-clause-number_high : goal.weighed-requires-2-clause-number_high
+weighed-requires-2-clause-number_high c = let b = c.requires.beside in high_back _ b.low_second b.high_second
+
+pub overflow_add-sum : goal.overflow_add-sum
+overflow_add-sum c = let e = c.weighed.ensures in let f = c.weighed-2.ensures in wide_sum_fits c.weighed.result c.weighed-2.result e.low e.high f.low f.high
+
+quotient : (c : goal.After-floor) → c.floor.result ≡ value_in c.args.self.now.table.now (span_in c.args.self.now.slew.now) (span_in c.args.load.now)
+quotient c =
+    let k = c.args.self.now in let load = c.args.load.now in let b = c.requires.beside in
+    let e = c.weighed.ensures in let f = c.weighed-2.ensures in
+    let slew_fits : SFits w64 k.slew.now.width = omega (arith, ints, b.slew) in
+    let load_fits : SFits w64 load.width = omega (arith, ints, c.requires.load) in
+    let below_fits : SFits w64 load.below = omega (arith, ints, c.requires.load) in
+    let above_fits : SFits w64 load.above = omega (arith, ints, c.requires.load) in
+    let area_fits : SFits w128 c.area.result = omega (arith, ints, c.area.type_inv) in
+    let first = part _ _ load.below _ e.value b.at_first (fits _ b.low_first b.high_first) below_fits in
+    let second = part _ _ load.above _ f.value b.at_second (fits _ b.low_second b.high_second) above_fits in
+    c.floor.ensures
+    ∙ (fraction_back _ _ _ _ (wide_sum_fits c.weighed.result c.weighed-2.result e.low e.high f.low f.high) area_fits
+    (both c.weighed.result c.weighed-2.result _ _ (wide _ e.low e.high) (wide _ f.low f.high) first second)
+    (c.area.ensures.value ∙ factors_back k.slew.now.width load.width slew_fits load_fits)
+    ∙ sym (value_by_load k.table.now (span_in k.slew.now) (span_in load)))
+
+number : (c : goal.After-floor) → IsTableNumber c.floor.result
+number c =
+    let k = c.args.self.now in let b = c.requires.beside in
+    subst IsTableNumber (sym (quotient c)) (value_number k.table.now b.table (span_in k.slew.now) (span_in c.args.load.now) b.slew c.requires.load)
+
+pub overflow_cast-result : goal.overflow_cast-result
+overflow_cast-result c = number_fits c.floor.result (number c)
+
+pub returns-clause-value : goal.returns-clause-value
+returns-clause-value c = number_back c.floor.result (number c) ∙ quotient c
+
+pub returns-clause-number : goal.returns-clause-number
+returns-clause-number c = subst IsTableNumber (sym (number_back c.floor.result (number c))) (number c)
