@@ -10,4 +10,3 @@ pub mod GatherLaws
 pub mod QuarterLaws
 pub mod FormLaws
 pub mod UniqueLaws
-pub mod Soundness

@@ -17,6 +17,3 @@ pub use fault::TreeFault;
 pub use form::{SinkForm, WireForm};
 pub use part::{Resistor, Tap};
 pub use tree::Tree;
-
-#[cfg(test)]
-mod tests;

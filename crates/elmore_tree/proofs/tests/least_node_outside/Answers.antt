@@ -1,6 +1,0 @@
-use Rattle.std.proofs.Common.{refl}
-use Rattle.elmore_tree.proofs.Soundness.{sound_by}
-use Rattle.elmore_tree.proofs.tests.least_node_outside.Goals as goal
-
-pub tree-requires : goal.tree-requires
-tree-requires g c = sound_by _ refl
