@@ -25,6 +25,11 @@ pub record IsFormOf (t : TreeParts) (form : WireForm) : Type 0 where
   pub paths : (paths : ℕ → List ℕ) × ArePaths t paths
   pub sums : (paths : ℕ → List ℕ) → ArePaths t paths → IsFormBy t paths form
 
+-- a tree that reaches each node that has to be reached
+pub record IsTakenTree (t : TreeParts) : Type 0 where
+  pub tree : IsMeshed t → ⊥
+  pub reached : (k : ℕ) → IsTrue (is_needed t k) → IsJoined t k
+
 -- why the wire has no form: it is no tree, or a needed node is not reached; want of memory is always free
 abbrev pub IsFaultOf : TreeParts → TreeFault → Type 0
 IsFaultOf t NotTree = IsMeshed t
