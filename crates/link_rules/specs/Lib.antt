@@ -1,0 +1,14 @@
+pub mod Bits
+pub mod Sound
+pub mod Ends
+pub mod Pins
+pub mod Arcs
+pub mod Checks
+pub mod Given
+pub mod Circuit
+pub mod Nodes
+pub mod Wires
+pub mod Bare
+pub mod Limits
+pub mod Refusals
+pub mod Link

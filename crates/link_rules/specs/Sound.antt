@@ -1,0 +1,103 @@
+-- What reading leaves true of what is linked: names fit, numbers of tables and names lead somewhere, and quantities
+-- keep their ranges.
+use Rattle.std.specs.Prelude.{◌≡◌, ◌≢◌, ℕ, ◌<◌, ◌≤◌, ◌^◌, ℤ, pos, [], ◌∷◌, length, Option, Some, IfSome}
+use Rattle.std.specs.List.{All, slice_get}
+use Rattle.name_numbers.specs.Names.{Text}
+use Rattle.xt_model.specs.Limits.{most_period}
+use Rattle.xt_model.specs.Names.{IsName}
+use Rattle.xt_model.specs.Sound.{IsBetween}
+use Rattle.liberty_cells.specs.declared.library.Library.{Library}
+use Rattle.liberty_cells.specs.declared.timing.Timing.{Timing}
+use Rattle.liberty_cells.specs.Pins.{PinParts}
+use Rattle.verilog_net.specs.declared.netlist.Instance.{Instance}
+use Rattle.verilog_net.specs.declared.netlist.Netlist.{Netlist}
+use Rattle.spef_read.specs.declared.parasitics.Name.{Name}
+use Rattle.spef_read.specs.declared.parasitics.CapText.{CapText}
+use Rattle.spef_read.specs.declared.parasitics.ResText.{ResText}
+use Rattle.spef_read.specs.declared.parasitics.WireText.{WireText}
+use Rattle.spef_read.specs.declared.parasitics.Parasitics.{Parasitics}
+use Rattle.sdc_read.specs.declared.constraints.Clock.{Clock}
+use Rattle.sdc_read.specs.declared.constraints.Constraints.{Constraints}
+use Rattle.link_rules.specs.Bits.{Bit, bits}
+
+-- a name of a netlist: of 1 to 1,024 bytes, so that those of an instance and a pin make a name together
+pub record IsShortName (bytes : Text) : Type 0 where
+  pub name : IsName bytes
+  pub short : length bytes ≤ 1024
+
+-- a quantity of a text is 0 to 2^40, in aF or in milliohms
+abbrev pub IsQuantity : ℤ → Type 0
+IsQuantity x = IsBetween (pos 0) (pos (2 ^ 40)) x
+
+-- ---- the library
+
+abbrev pub IsTableNumber : Library → Option ℕ → Type 0
+IsTableNumber library o = IfSome o (λ n. n < length library.tables)
+
+pub record IsSoundTiming (library : Library) (t : Timing) : Type 0 where
+  pub rise : IsTableNumber library t.rise
+  pub fall : IsTableNumber library t.fall
+  pub rise_slew : IsTableNumber library t.rise_slew
+  pub fall_slew : IsTableNumber library t.fall_slew
+
+pub record IsSoundPin (library : Library) (p : PinParts) : Type 0 where
+  pub cap : IsQuantity p.cap
+  pub timings : All (IsSoundTiming library) p.timings
+
+-- the tables that timing groups name are there, and capacitances keep their range
+pub record IsSoundLibrary (library : Library) : Type 0 where
+  pub pins : All (λ cell. All (IsSoundPin library) cell.pins) library.cells
+
+-- ---- the netlist
+
+pub record IsSoundInstance (i : Instance) : Type 0 where
+  pub cell : IsShortName i.cell
+  pub name : IsShortName i.name
+  pub pins : All (λ p. IsShortName p.0) i.pins
+
+-- no two bits have the same name
+pub record HaveOwnNames (netlist : Netlist) : Type 0 where
+  pub differ : (i j : ℕ) (a b : Bit) → i < j → slice_get (bits netlist.nets) i ≡ Some a
+      → slice_get (bits netlist.nets) j ≡ Some b → a.name ≢ b.name
+
+pub record IsSoundNetlist (netlist : Netlist) : Type 0 where
+  pub nets : All (λ net. IsShortName net.0) netlist.nets
+  pub own : HaveOwnNames netlist
+  pub instances : All IsSoundInstance netlist.instances
+
+-- ---- the parasitics
+
+-- the name is there
+abbrev pub IsThere : Parasitics → Name → Type 0
+IsThere p name = name.number < length p.names
+
+pub record IsSoundCap (p : Parasitics) (c : CapText) : Type 0 where
+  pub a : IsThere p c.a
+  pub b : IfSome c.b (IsThere p)
+  pub value : IsQuantity c.value
+
+pub record IsSoundRes (p : Parasitics) (r : ResText) : Type 0 where
+  pub a : IsThere p r.a
+  pub b : IsThere p r.b
+  pub value : IsQuantity r.value
+
+pub record IsSoundWire (p : Parasitics) (w : WireText) : Type 0 where
+  pub name : IsThere p w.name
+  pub total : IsQuantity w.total
+  pub caps : All (IsSoundCap p) w.caps
+  pub resistors : All (IsSoundRes p) w.resistors
+
+pub record AreSoundParasitics (p : Parasitics) : Type 0 where
+  pub names : All (λ e. IsName e.0) p.names
+  pub delimiter : IsName (p.delimiter ∷ [])
+  pub wires : All (IsSoundWire p) p.nets
+
+-- ---- the constraints
+
+-- the clock falls from 0 to 2^40 fs behind its rise; what is set for ports keeps its range by its type
+pub record IsSoundClock (c : Clock) : Type 0 where
+  pub period : IsBetween (pos 1) most_period c.period
+  pub fall : IsQuantity c.fall
+
+pub record AreSoundConstraints (c : Constraints) : Type 0 where
+  pub clock : IfSome c.clock IsSoundClock

@@ -1,0 +1,106 @@
+//! The nets of a design by their pins, before their wires are known.
+
+ghost use Rattle.std.specs.Prelude.{◌≡◌, IfOk};
+ghost use Rattle.xt_model.specs.Names.{IsName};
+
+use std::alloc::{AllocError, Global};
+use std::marker::Model;
+use xt_model::{CheckPoint, Name, Pair, Row, TimingArc};
+
+/// What a net leads from or to: a pin of an instance, or a port. `name` is that of a port, or those of instance and pin
+/// with `/` between them, and `joint` then is where this stands.
+#[derive(Debug, Drop)]
+pub struct End {
+    name: Name,
+    joint: Option<usize>,
+}
+
+impl Model for End {
+    ghost use Rattle.link_rules.specs.Ends.{NetEnd, end_by, IsJoint};
+
+    ghost Value = { NetEnd };
+
+    ghost view = { λ e. end_by e.name e.joint };
+
+    ghost invariant = { λ e. IsJoint e.name e.joint };
+}
+
+impl End {
+    ghost use Rattle.link_rules.specs.Ends.{Pin, Port, end_name, sink_name};
+    ghost use Rattle.link_rules.specs.Sound.{IsShortName};
+
+    /// A port by its name.
+    pub fn port(name: Name) -> End
+        ensures { result ≡ Port name }
+    {
+        End { name, joint: None }
+    }
+
+    /// A pin of an instance by both names.
+    pub fn pin(alloc: Global, instance: &[u8], pin: &[u8]) -> Result<End, AllocError>
+        requires instance { IsShortName instance.now }
+        requires pin { IsShortName pin.now }
+        ensures { IfOk result (λ e. e ≡ Pin instance.now pin.now) }
+    {
+        let joint = instance.len();
+        let mut name = Vec::from_slice(alloc, instance)?;
+        name.push(b'/')?;
+        name.extend_from_slice(pin)?;
+        Ok(End {
+            name: Name::new(name),
+            joint: Some(joint),
+        })
+    }
+
+    /// The name in a design, with `/` before the pin.
+    pub fn name(&self) -> &Name
+        ensures { result.now ≡ sink_name self.now }
+    {
+        &self.name
+    }
+
+    /// The name of the node in parasitics, with their delimiter before the pin.
+    pub fn node(&self, alloc: Global, delimiter: u8) -> Result<Vec<u8>, AllocError>
+        ensures { IfOk result (λ node. node.items ≡ end_name delimiter self.now) }
+    {
+        let mut node = Vec::from_slice(alloc, self.name.bytes())?;
+        if let Some(joint) = self.joint {
+            node[joint] = delimiter;
+        }
+        Ok(node)
+    }
+
+    /// The name in a design, of an end that is not needed any more.
+    pub fn into_name(self) -> Name
+        ensures { result ≡ sink_name self }
+    {
+        let End { name, joint: _ } = self;
+        name
+    }
+}
+
+/// A sink of a net, with its capacitance to ground in aF.
+#[derive(Debug, Drop)]
+pub struct Sink {
+    pub end: End,
+    pub cap: i64,
+}
+
+/// A net by its pins: its name, whether it is that of an input port, the windows that it is given there, what drives
+/// it, its sinks in order and the timing arcs into it.
+#[derive(Debug, Drop)]
+pub struct NetPins {
+    pub name: Name,
+    pub input: bool,
+    pub given: Pair,
+    pub driver: Option<End>,
+    pub sinks: Row<Sink>,
+    pub arcs: Row<TimingArc>,
+}
+
+/// The nets of a design by their pins, and its check points.
+#[derive(Debug, Drop)]
+pub struct Circuit {
+    pub nets: Row<NetPins>,
+    pub checks: Row<CheckPoint>,
+}
