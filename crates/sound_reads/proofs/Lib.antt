@@ -1,0 +1,17 @@
+pub mod Texts
+pub mod Bytes
+pub mod NameLaws
+pub mod Values
+pub mod SpefTokens
+pub mod SpefNames
+pub mod SpefStates
+pub mod SpefTexts
+pub mod VerilogTokens
+pub mod BitNames
+pub mod OwnNames
+pub mod VerilogStates
+pub mod VerilogTexts
+pub mod LibraryUnits
+pub mod LibraryCells
+pub mod SoundNetlists
+pub mod Sounds

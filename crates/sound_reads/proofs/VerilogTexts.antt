@@ -1,0 +1,306 @@
+-- The module of a netlist's text is fine.
+use Rattle.std.specs.Prelude.{◌≡◌, refl, ℕ, Bool, true, false, List, [], ◌∷◌, length, Option, Some, None, Result, Ok, Err, if◌then◌else◌}
+use Rattle.std.specs.List.{AllByRecursion}
+use Rattle.std.proofs.Common.{arith}
+use Rattle.text_forms.specs.Forms.{Token, Refusal, text_at, line_at}
+use Rattle.xt_lex.specs.Faults.{fault_of}
+use Rattle.xt_lex.specs.declared.fault.LexFault.{LexFault}
+use Rattle.xt_lex.specs.declared.fault.LexFault.TheVariants as lexical
+use Rattle.xt_lex.specs.declared.rules.Rules.TheVariants.{Verilog}
+use Rattle.xt_model.specs.declared.code.Code.{Code}
+use Rattle.verilog_net.specs.declared.sort.Sort.{Sort}
+use Rattle.verilog_net.specs.declared.sort.Sort.TheVariants as sorts
+use Rattle.verilog_net.specs.declared.context.Context.{Context}
+use Rattle.verilog_net.specs.declared.context.Context.TheVariants as contexts
+use Rattle.verilog_net.specs.declared.netlist.Netlist.{Netlist}
+use Rattle.verilog_net.specs.declared.netlist.PortRole.{PortRole}
+use Rattle.verilog_net.specs.declared.netlist.Wire.TheVariants as wires
+use Rattle.verilog_net.specs.Sorts.{same_sort, netlist_tokens}
+use Rattle.verilog_net.specs.Forms.{Text, Said, Tokens, NetlistForm, misfits, is_done, form, quiet, refused, role_of, forms, forms_in}
+use Rattle.verilog_net.specs.Forms.{start_forms, between_forms, module_name_forms, header_forms, listed_forms, declaration_forms, body_forms}
+use Rattle.verilog_net.specs.Forms.{left_bound_forms, right_bound_forms, declared_forms, opening_forms, pins_forms, pin_forms, connection_forms}
+use Rattle.verilog_net.specs.Forms.{bit_given_forms, connected_forms, closed_forms}
+use Rattle.verilog_net.specs.Forms as grammar
+use Rattle.verilog_net.specs.Meaning.{State, nothing, means}
+use Rattle.verilog_net.specs.Reading.{rest_means, by_fault, text_state, modules_in, one_of, netlist_of_text}
+use Rattle.sound_reads.proofs.Texts.{Fit, FormKeeps, text_keeps}
+use Rattle.sound_reads.proofs.VerilogTokens as tokens
+use Rattle.sound_reads.proofs.VerilogTokens.{names_named}
+use Rattle.sound_reads.proofs.VerilogStates.{IsNamed, IsFine, IsFineModule, IsBetween, IsInInstance, IsInPin, nothing_fine, begin_module_is, name_module_fine}
+use Rattle.sound_reads.proofs.VerilogStates.{list_name_fine, end_module_fine, declare_fine, left_bound_fine, right_bound_fine, scalar_fine, further_instance}
+use Rattle.sound_reads.proofs.VerilogStates.{begin_pin_fine, connect_fine, connect_bit_fine, connect_name_fine, end_instance_fine}
+
+-- what else holds in a context
+abbrev In : Context → State → Type 0
+In contexts.Start s = IsBetween s
+In contexts.Between s = IsBetween s
+In contexts.ModuleName s = IsBetween s
+In contexts.Opening s = IsInInstance s
+In contexts.Pins s = IsInInstance s
+In contexts.Pin s = IsInPin s
+In contexts.Connection s = IsInPin s
+In contexts.Connected s = IsInInstance s
+In contexts.BitGiven s = IsInInstance s
+In contexts.Closed s = IsInInstance s
+In _ s = Unit {0}
+
+abbrev Holds : Context → State → Type 0
+Holds context s = IsFine s × In context s
+
+abbrev Keeps : Context → NetlistForm → Type 0
+Keeps context f = FormKeeps same_sort misfits forms means tokens.IsNamed Holds context [] f
+
+abbrev AllOf : Context → List NetlistForm → Type 0
+AllOf context fs = AllByRecursion (Keeps context) fs
+
+abbrev Says : Context → Context → Said → Type 0
+Says context next said = (s s' : State) → Holds context s → means said s ≡ Ok s' → Holds next s'
+
+moved : (context : Context) (s s' : State) → ◌≡◌ {A = Result State Code} (Ok s) (Ok s') → Holds context s → Holds context s'
+moved context s s' e h = let same : s ≡ s' = cc in rw same at h
+
+-- ---- forms by their shapes
+module _ (context next : Context) where
+  quiet_keeps : (slots : List Sort) → ((s : State) → In context s → In next s) → Keeps context (quiet slots next)
+  unfolding means
+  quiet_keeps slots n ts fit s s' h e = moved next s s' e (h.0, n s h.1)
+
+  -- a form whose meaning does not want its tokens
+  plain : (slots : List Sort) (says : Tokens → Said) → ((ts : Tokens) → Says context next (says ts)) → Keeps context (form slots says next)
+  plain slots says k ts fit = k ts
+
+  -- a form whose last token is a name
+  one : (says : Text → Said) → ((t : Token Sort) → IsNamed t.text → Says context next (says t.text))
+      → Keeps context (form (sorts.Name ∷ []) (λ ts. says (text_at 0 ts)) next)
+  one says k [] fit = absurd fit
+  one says k (t ∷ []) fit = k t (fit.1 fit.0)
+  one says k (t ∷ u ∷ ts) fit = absurd fit.2
+
+  two : (a : Sort) (says : Text → Text → ℕ → Said) → ((t u : Token Sort) → IsNamed u.text → Says context next (says t.text u.text u.line))
+      → Keeps context (form (a ∷ sorts.Name ∷ []) (λ ts. says (text_at 0 ts) (text_at 1 ts) (line_at 1 ts)) next)
+  two a says k [] fit = absurd fit
+  two a says k (t ∷ []) fit = absurd fit.2
+  two a says k (t ∷ u ∷ []) fit = k t u (fit.2.1 fit.2.0)
+  two a says k (t ∷ u ∷ v ∷ ts) fit = absurd fit.2.2
+
+  names : (says : Text → Text → ℕ → Said) → ((t u : Token Sort) → IsNamed t.text → IsNamed u.text → Says context next (says t.text u.text u.line))
+      → Keeps context (form (sorts.Name ∷ sorts.Name ∷ []) (λ ts. says (text_at 0 ts) (text_at 1 ts) (line_at 1 ts)) next)
+  names says k [] fit = absurd fit
+  names says k (t ∷ []) fit = absurd fit.2
+  names says k (t ∷ u ∷ []) fit = k t u (fit.1 fit.0) (fit.2.1 fit.2.0)
+  names says k (t ∷ u ∷ v ∷ ts) fit = absurd fit.2.2
+
+  three : (a b : Sort) (says : Text → Said) → ((t : Token Sort) → IsNamed t.text → Says context next (says t.text))
+      → Keeps context (form (a ∷ b ∷ sorts.Name ∷ []) (λ ts. says (text_at 2 ts)) next)
+  three a b says k [] fit = absurd fit
+  three a b says k (t ∷ []) fit = absurd fit.2
+  three a b says k (t ∷ u ∷ []) fit = absurd fit.2.2
+  three a b says k (t ∷ u ∷ v ∷ []) fit = k v (fit.2.2.1 fit.2.2.0)
+  three a b says k (t ∷ u ∷ v ∷ w ∷ ts) fit = absurd fit.2.2.2
+
+  used : (rest : List Sort) (says : Text → Said) → ((t : Token Sort) → IsNamed t.text → Says context next (says t.text))
+      → Keeps context (form (sorts.Name ∷ rest) (λ ts. says (text_at 0 ts)) next)
+  used rest says k [] fit = absurd fit
+  used rest says k (t ∷ ts) fit = k t (fit.1 fit.0)
+
+refused_keeps : (context : Context) (slots : List Sort) (code : Code) → Keeps context (refused slots code)
+unfolding means
+refused_keeps context slots code ts fit s s' h e = absurd (cc)
+
+-- ---- what forms say
+module _ (context : Context) where
+  begins : ((s : State) → In context s → IsBetween s) → (ts : Tokens) → Says context contexts.ModuleName grammar.ModuleBegins
+  unfolding means
+  begins n ts s s' h e =
+      let same = begin_module_is s s' h.0 e in
+      let all : Holds contexts.ModuleName s = (h.0, n s h.1) in
+      rw same at all
+
+  says_module : ((s : State) → In context s → IsBetween s) → (name : Text) → Says context contexts.Header (grammar.ModuleName name)
+  unfolding means
+  says_module n name s s' h e = (name_module_fine s s' h.0 name (n s h.1) e, tt)
+
+  says_listed : (name : Text) → Says context contexts.Listed (grammar.Listed name)
+  unfolding means
+  says_listed name s s' h e = (list_name_fine s s' h.0 name e, tt)
+
+  says_end : (ts : Tokens) → Says context contexts.Between grammar.ModuleEnds
+  unfolding means
+  says_end ts s s' h e = let f = end_module_fine s s' h.0 e in (f.0, f.1)
+
+  says_scalar : (role : PortRole) (name : Text) → IsNamed name → Says context contexts.Declared (grammar.Scalar role name)
+  unfolding means
+  says_scalar role name is s s' h e = (declare_fine _ (scalar_fine s h.0 role) s' name is e, tt)
+
+  says_left : (role : PortRole) (digits : Text) → Says context contexts.LeftBound (grammar.Left role digits)
+  unfolding means
+  says_left role digits s s' h e = (left_bound_fine s h.0 s' role digits e, tt)
+
+  says_right : (digits : Text) → Says context contexts.RightBound (grammar.Right digits)
+  unfolding means
+  says_right digits s s' h e = (right_bound_fine s h.0 s' digits e, tt)
+
+  says_further : (name : Text) → IsNamed name → Says context contexts.Declared (grammar.Further name)
+  unfolding means
+  says_further name is s s' h e = (declare_fine s h.0 s' name is e, tt)
+
+  says_instance : (cell name : Text) (line : ℕ) → IsNamed cell → IsNamed name → Says context contexts.Opening (grammar.Instance cell name line)
+  unfolding means
+  says_instance cell name line is also s s' h e =
+      let f = h.0 in
+      let celled : IsFine (record s { cell = cell }) = record {
+        ended = f.ended; nets = f.nets; instances = f.instances; left = f.left; range = f.range; pins = f.pins;
+      } in
+      further_instance (record s { cell = cell }) celled s' name line is also e
+
+  module _ (n : (s : State) → In context s → IsInInstance s) where
+    says_further_instance : (name : Text) (line : ℕ) → IsNamed name → Says context contexts.Opening (grammar.FurtherInstance name line)
+    unfolding means
+    says_further_instance name line is s s' h e = further_instance s h.0 s' name line (n s h.1).0 is e
+
+    says_pin : (name : Text) → IsNamed name → Says context contexts.Pin (grammar.Pin name)
+    unfolding means
+    says_pin name is s s' h e = begin_pin_fine s h.0 s' name (n s h.1) is e
+
+    says_ended : (ts : Tokens) → Says context contexts.Closed grammar.InstanceEnds
+    unfolding means
+    says_ended ts s s' h e = end_instance_fine s h.0 s' (n s h.1) e
+
+-- ---- what a pin is connected to
+says_open : (ts : Tokens) → Says contexts.Connection contexts.Connected grammar.NoConnection
+unfolding means
+says_open ts s s' h e = connect_fine s h.0 s' wires.Open h.1 e
+
+says_constant : (ts : Tokens) → Says contexts.Connection contexts.Connected grammar.Constant
+unfolding means
+says_constant ts s s' h e = connect_fine s h.0 s' wires.Constant h.1 e
+
+says_net : (name : Text) → IsNamed name → Says contexts.Connection contexts.Connected (grammar.Net name)
+unfolding means
+says_net name is s s' h e = connect_name_fine s h.0 s' name is h.1 e
+
+says_bit : (ts : Tokens) → Says contexts.Connection contexts.BitGiven (grammar.Bit (text_at 0 ts) (text_at 2 ts))
+unfolding means
+says_bit ts s s' h e = connect_bit_fine s h.0 s' (text_at 0 ts) (text_at 2 ts) h.1 e
+
+-- ---- the forms of each context
+declaration_keep : (word : Sort) (more : List NetlistForm) → AllOf contexts.Body more → AllOf contexts.Body (declaration_forms word more)
+declaration_keep word more rest = (
+  two contexts.Body contexts.Declared word (λ a b line. grammar.Scalar (role_of a) b) (λ t u is. says_scalar contexts.Body (role_of t.text) u.text is),
+  (plain contexts.Body contexts.LeftBound (word ∷ sorts.LeftBracket ∷ sorts.Number ∷ []) (λ ts. grammar.Left (role_of (text_at 0 ts)) (text_at 2 ts))
+  (λ ts. says_left contexts.Body (role_of (text_at 0 ts)) (text_at 2 ts)),
+  rest),
+)
+
+-- an instance, or the end of the module
+abbrev instance_forms : List NetlistForm
+instance_forms =
+    form (sorts.Name ∷ sorts.Name ∷ []) (λ ts. grammar.Instance (text_at 0 ts) (text_at 1 ts) (line_at 1 ts)) contexts.Opening
+    ∷ form (sorts.Endmodule ∷ []) (λ ts. grammar.ModuleEnds) contexts.Between
+    ∷ []
+
+forms_keep : (context : Context) → AllOf context (forms_in context)
+forms_keep contexts.Start = (
+  plain contexts.Start contexts.ModuleName (sorts.Module ∷ []) (λ ts. grammar.ModuleBegins) (begins contexts.Start (λ s i. i)),
+  (refused_keeps contexts.Start (sorts.Unsupported ∷ []) _, tt),
+)
+forms_keep contexts.Between = (
+  plain contexts.Between contexts.ModuleName (sorts.Module ∷ []) (λ ts. grammar.ModuleBegins) (begins contexts.Between (λ s i. i)),
+  (quiet_keeps contexts.Between contexts.Done (sorts.End ∷ []) (λ s i. tt),
+  (refused_keeps contexts.Between (sorts.Unsupported ∷ []) _, tt)),
+)
+forms_keep contexts.ModuleName =
+    (one contexts.ModuleName contexts.Header (λ a. grammar.ModuleName a) (λ t is. says_module contexts.ModuleName (λ s i. i) t.text), tt)
+forms_keep contexts.Header = (
+  quiet_keeps contexts.Header contexts.Body (sorts.Semicolon ∷ []) (λ s i. tt),
+  (two contexts.Header contexts.Listed sorts.LeftParen (λ a b line. grammar.Listed b) (λ t u is. says_listed contexts.Header u.text),
+  (refused_keeps contexts.Header (sorts.Direction ∷ []) _,
+  (refused_keeps contexts.Header (sorts.LeftParen ∷ sorts.Direction ∷ []) _, tt))),
+)
+forms_keep contexts.Listed = (
+  two contexts.Listed contexts.Listed sorts.Comma (λ a b line. grammar.Listed b) (λ t u is. says_listed contexts.Listed u.text),
+  (quiet_keeps contexts.Listed contexts.Body (sorts.RightParen ∷ sorts.Semicolon ∷ []) (λ s i. tt),
+  (refused_keeps contexts.Listed (sorts.Direction ∷ []) _,
+  (refused_keeps contexts.Listed (sorts.Comma ∷ sorts.Direction ∷ []) _,
+  (refused_keeps contexts.Listed (sorts.RightParen ∷ sorts.Direction ∷ []) _, tt)))),
+)
+forms_keep contexts.Body = declaration_keep sorts.Direction (declaration_forms sorts.NetType instance_forms) (declaration_keep sorts.NetType instance_forms (
+  names contexts.Body contexts.Opening (λ a b line. grammar.Instance a b line) (λ t u is also. says_instance contexts.Body t.text u.text u.line is also),
+  (plain contexts.Body contexts.Between (sorts.Endmodule ∷ []) (λ ts. grammar.ModuleEnds) (says_end contexts.Body), tt),
+))
+forms_keep contexts.LeftBound =
+    (plain contexts.LeftBound contexts.RightBound (sorts.Colon ∷ sorts.Number ∷ []) (λ ts. grammar.Right (text_at 1 ts)) (λ ts. says_right contexts.LeftBound (text_at 1 ts)), tt)
+forms_keep contexts.RightBound =
+    (two contexts.RightBound contexts.Declared sorts.RightBracket (λ a b line. grammar.Further b) (λ t u is. says_further contexts.RightBound u.text is), tt)
+forms_keep contexts.Declared = (
+  two contexts.Declared contexts.Declared sorts.Comma (λ a b line. grammar.Further b) (λ t u is. says_further contexts.Declared u.text is),
+  (quiet_keeps contexts.Declared contexts.Body (sorts.Semicolon ∷ []) (λ s i. tt), tt),
+)
+forms_keep contexts.Opening = (
+  quiet_keeps contexts.Opening contexts.Pins (sorts.LeftParen ∷ []) (λ s i. i),
+  (refused_keeps contexts.Opening (sorts.LeftBracket ∷ []) _, tt),
+)
+forms_keep contexts.Pins = (
+  plain contexts.Pins contexts.Closed (sorts.RightParen ∷ []) (λ ts. grammar.InstanceEnds) (says_ended contexts.Pins (λ s i. i)),
+  (two contexts.Pins contexts.Pin sorts.Dot (λ a b line. grammar.Pin b) (λ t u is. says_pin contexts.Pins (λ s i. i) u.text is),
+  (refused_keeps contexts.Pins (sorts.Name ∷ []) _,
+  (refused_keeps contexts.Pins (sorts.Constant ∷ []) _,
+  (refused_keeps contexts.Pins (sorts.LeftBrace ∷ []) _, tt)))),
+)
+forms_keep contexts.Pin = (quiet_keeps contexts.Pin contexts.Connection (sorts.LeftParen ∷ []) (λ s i. i), tt)
+forms_keep contexts.Connection = (
+  plain contexts.Connection contexts.Connected (sorts.RightParen ∷ []) (λ ts. grammar.NoConnection) says_open,
+  (plain contexts.Connection contexts.Connected (sorts.Constant ∷ sorts.RightParen ∷ []) (λ ts. grammar.Constant) says_constant,
+  (used contexts.Connection contexts.Connected (sorts.RightParen ∷ []) (λ a. grammar.Net a) (λ t is. says_net t.text is),
+  (plain contexts.Connection contexts.BitGiven (sorts.Name ∷ sorts.LeftBracket ∷ sorts.Number ∷ sorts.RightBracket ∷ [])
+  (λ ts. grammar.Bit (text_at 0 ts) (text_at 2 ts)) says_bit,
+  (refused_keeps contexts.Connection (sorts.Name ∷ sorts.LeftBracket ∷ sorts.Number ∷ sorts.Colon ∷ []) _,
+  (refused_keeps contexts.Connection (sorts.LeftBrace ∷ []) _, tt))))),
+)
+forms_keep contexts.BitGiven = (quiet_keeps contexts.BitGiven contexts.Connected (sorts.RightParen ∷ []) (λ s i. i), tt)
+forms_keep contexts.Connected = (
+  plain contexts.Connected contexts.Closed (sorts.RightParen ∷ []) (λ ts. grammar.InstanceEnds) (says_ended contexts.Connected (λ s i. i)),
+  (three contexts.Connected contexts.Pin sorts.Comma sorts.Dot (λ a. grammar.Pin a) (λ t is. says_pin contexts.Connected (λ s i. i) t.text is),
+  (refused_keeps contexts.Connected (sorts.Comma ∷ sorts.Name ∷ []) _,
+  (refused_keeps contexts.Connected (sorts.Comma ∷ sorts.Constant ∷ []) _,
+  (refused_keeps contexts.Connected (sorts.Comma ∷ sorts.LeftBrace ∷ []) _, tt)))),
+)
+forms_keep contexts.Closed = (
+  two contexts.Closed contexts.Opening sorts.Comma (λ a b line. grammar.FurtherInstance b line)
+  (λ t u is. says_further_instance contexts.Closed (λ s i. i) u.text u.line is),
+  (quiet_keeps contexts.Closed contexts.Body (sorts.Semicolon ∷ []) (λ s i. tt), tt),
+)
+forms_keep contexts.Done = tt
+
+all_by : (context : Context) (fs : List NetlistForm) (b : Bool) → (if b then None else Some (forms_in context)) ≡ Some fs → AllOf context fs
+all_by context fs true e = absurd (cc)
+all_by context fs false e = let same : forms_in context ≡ fs = cc in rw same at (forms_keep context)
+
+all_keep : (context : Context) (fs : List NetlistForm) → forms context ≡ Some fs → AllOf context fs
+all_keep context fs e = all_by context fs (is_done context) e
+
+unfaulted : (fault : Option LexFault) (r : Result State (Refusal Code)) (s : State) → by_fault fault r ≡ Ok s → r ≡ Ok s
+unfaulted (Some (lexical.Byte line)) r s e = absurd (cc)
+unfaulted (Some (lexical.Unended line)) r s e = absurd (cc)
+unfaulted (Some lexical.NoMemory) r s e = e
+unfaulted None r s e = e
+
+text_fine : (single : Bool) (bytes : List ℕ) (s : State) → text_state single bytes ≡ Ok s → IsFine s
+unfolding text_state
+text_fine single bytes s e =
+    let read = unfaulted (fault_of Verilog bytes) (rest_means contexts.Start (netlist_tokens bytes) (nothing single)) s e in
+    let end = text_keeps same_sort misfits forms means tokens.IsNamed Holds all_keep contexts.Start (netlist_tokens bytes) (nothing single) s
+        (names_named bytes) (nothing_fine single, refl) read in
+    end.2.0
+
+module_by : (r : Result State (Refusal Code)) (m : Netlist) → ((s : State) → r ≡ Ok s → IsFine s) → one_of (modules_in r) ≡ Ok m → IsFineModule m
+module_by (Err refusal) m f e = absurd (cc)
+module_by (Ok s) m f e = first s.ended (f s refl).ended e
+  where
+    first : (ms : List Netlist) → AllByRecursion IsFineModule ms → one_of (Ok ms) ≡ Ok m → IsFineModule m
+    first [] all e = absurd (cc)
+    first (n ∷ ms) all e = let same : n ≡ m = cc in rw same at all.0
+
+-- the module that a text means is fine
+pub netlist_fine : (bytes : List ℕ) (m : Netlist) → netlist_of_text bytes ≡ Ok m → IsFineModule m
+netlist_fine bytes m e = module_by (text_state true bytes) m (λ s at. text_fine true bytes s at) e

@@ -1,0 +1,99 @@
+-- The names of a netlist's tokens are short names.
+use Rattle.std.specs.Prelude.{◌≡◌, refl, ℕ, Bool, true, false, List, [], ◌∷◌, drop, codes, if◌then◌else◌}
+use Rattle.std.specs.Char.{is_ascii_digit}
+use Rattle.std.specs.List.{AllByRecursion}
+use Rattle.std.specs.Str.{bytes_eq}
+use Rattle.std.proofs.lemmas.Bool.{cond_both, false≢true}
+use Rattle.text_forms.specs.Forms.{Token}
+use Rattle.text_forms.specs.Tokens.{token_by, tokens_to_end}
+use Rattle.xt_lex.specs.Bytes.{begins, last_line}
+use Rattle.xt_lex.specs.Tokens.{TokenText, token_texts}
+use Rattle.xt_lex.specs.declared.rules.Rules.TheVariants.{Verilog}
+use Rattle.xt_lex.specs.declared.token.Kind.{Kind}
+use Rattle.xt_lex.specs.declared.token.Kind.TheVariants as kinds
+use Rattle.verilog_net.specs.declared.sort.Sort.{Sort}
+use Rattle.verilog_net.specs.declared.sort.Sort.TheVariants as sorts
+use Rattle.verilog_net.specs.Sorts.{same_sort, is_direction, is_net_type, is_unsupported, is_name, name_sort, digits_sort, letters_sort, word_sort, mark_sort, sort_by, netlist_tokens}
+
+-- where the sort is that of a name, the bytes are one
+abbrev IsNameAs : List ℕ → Sort → Type 0
+IsNameAs text sort = same_sort sorts.Name sort ≡ true → is_name text ≡ true
+
+-- a token that is a name is a short one
+abbrev pub IsNamed : Token Sort → Type 0
+IsNamed t = IsNameAs t.text t.sort
+
+module _ (text : List ℕ) where
+  abbrev As : Sort → Type 0
+  As sort = IsNameAs text sort
+
+  pub name_as : As (name_sort text)
+  name_as = cond_both_eq (is_name text) refl
+    where
+      cond_both_eq : (b : Bool) → is_name text ≡ b → As (if b then sorts.Name else sorts.Other)
+      cond_both_eq true e h = e
+      cond_both_eq false e h = absurd (false≢true h)
+
+  abbrev from_unsupported : Sort
+  from_unsupported = if is_unsupported text then sorts.Unsupported else name_sort text
+
+  abbrev from_type : Sort
+  from_type = if is_net_type text then sorts.NetType else from_unsupported
+
+  abbrev from_direction : Sort
+  from_direction = if is_direction text then sorts.Direction else from_type
+
+  abbrev from_end : Sort
+  from_end = if bytes_eq text (codes "endmodule") then sorts.Endmodule else from_direction
+
+  letters_as : As (letters_sort text)
+  letters_as =
+      cond_both (bytes_eq text (codes "module")) sorts.Module from_end As (λ e h. absurd (false≢true h)) (λ e.
+      cond_both (bytes_eq text (codes "endmodule")) sorts.Endmodule from_direction As (λ e h. absurd (false≢true h)) (λ e.
+      cond_both (is_direction text) sorts.Direction from_type As (λ e h. absurd (false≢true h)) (λ e.
+      cond_both (is_net_type text) sorts.NetType from_unsupported As (λ e h. absurd (false≢true h)) (λ e.
+      cond_both (is_unsupported text) sorts.Unsupported (name_sort text) As (λ e h. absurd (false≢true h)) (λ e. name_as)))))
+
+  digits_as : (more : List ℕ) → As (digits_sort more)
+  digits_as more = cond_both (begins 39 more) sorts.Constant sorts.Number As (λ e h. absurd (false≢true h)) (λ e h. absurd (false≢true h))
+
+word_as : (text : List ℕ) → IsNameAs text (word_sort text)
+unfolding word_sort
+word_as [] = λ h. absurd (false≢true h)
+word_as (b ∷ more) =
+    cond_both (is_ascii_digit b) (digits_sort more) (letters_sort (b ∷ more)) (IsNameAs (b ∷ more)) (λ e. digits_as (b ∷ more) more) (λ e. letters_as (b ∷ more))
+
+-- a sort that is none of a name
+abbrev IsMark : Sort → Type 0
+IsMark sort = same_sort sorts.Name sort ≡ false
+
+mark_is : (mark : List ℕ) → IsMark (mark_sort mark)
+unfolding mark_sort
+mark_is mark =
+    cond_both (bytes_eq mark (codes "(")) _ _ IsMark (λ e. refl) (λ e.
+    cond_both (bytes_eq mark (codes ")")) _ _ IsMark (λ e. refl) (λ e.
+    cond_both (bytes_eq mark (codes "[")) _ _ IsMark (λ e. refl) (λ e.
+    cond_both (bytes_eq mark (codes "]")) _ _ IsMark (λ e. refl) (λ e.
+    cond_both (bytes_eq mark (codes "{")) _ _ IsMark (λ e. refl) (λ e.
+    cond_both (bytes_eq mark (codes ",")) _ _ IsMark (λ e. refl) (λ e.
+    cond_both (bytes_eq mark (codes ";")) _ _ IsMark (λ e. refl) (λ e.
+    cond_both (bytes_eq mark (codes ":")) _ _ IsMark (λ e. refl) (λ e.
+    cond_both (bytes_eq mark (codes ".")) _ _ IsMark (λ e. refl) (λ e.
+    cond_both (bytes_eq mark (codes "#")) sorts.Unsupported sorts.Other IsMark (λ e. refl) (λ e. refl))))))))))
+
+no_name : (text : List ℕ) (sort : Sort) → IsMark sort → IsNameAs text sort
+no_name text sort mark h = absurd (false≢true (cc))
+
+sorted_as : (kind : Kind) (t : TokenText) → IsNamed (token_by sort_by sorts.End kind t)
+sorted_as kinds.Word t = word_as t.text
+sorted_as kinds.Mark t = no_name t.text (mark_sort t.text) (mark_is t.text)
+sorted_as kinds.Escaped t = name_as (drop 1 t.text)
+sorted_as kinds.Text t = λ h. absurd (false≢true h)
+sorted_as kinds.Break t = λ h. absurd (false≢true h)
+
+all_sorted : (last : ℕ) (ts : List TokenText) → AllByRecursion IsNamed (tokens_to_end sort_by sorts.End false last ts)
+all_sorted last [] = ((λ h. absurd (false≢true h)), tt)
+all_sorted last (t ∷ ts) = (sorted_as t.kind t, all_sorted last ts)
+
+pub names_named : (bytes : List ℕ) → AllByRecursion IsNamed (netlist_tokens bytes)
+names_named bytes = all_sorted (last_line bytes) (token_texts Verilog bytes)

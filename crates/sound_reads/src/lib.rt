@@ -1,0 +1,69 @@
+//! The readers of the files that are linked, each with what its value keeps: names fit, differ and lead somewhere, and
+//! quantities keep their ranges.
+#![tactic(auto)]
+
+ghost use Rattle.std.specs.Prelude.{◌≤◌, length, IfOk};
+ghost use Rattle.liberty_groups.specs.View.{Gives};
+ghost use Rattle.liberty_cells.specs.Library.{library_meant};
+ghost use Rattle.verilog_net.specs.Reading as netlists;
+ghost use Rattle.spef_read.specs.Reading as parasitics;
+ghost use Rattle.sdc_read.specs.Reading as constraints;
+ghost use Rattle.sdc_read.specs.Meaning.{IsScale};
+ghost use Rattle.link_rules.specs.Sound.{IsSoundLibrary, IsSoundNetlist, AreSoundParasitics, AreSoundConstraints};
+
+use liberty_cells::Library;
+use sdc_read::Constraints;
+use spef_read::Parasitics;
+use std::alloc::Global;
+use verilog_net::Netlist;
+use xt_lex::{MOST_BYTES, TextFault};
+
+/// The library of a Liberty text, as `liberty_cells::read_library` reads it: the tables that its timing groups name are
+/// there, and its capacitances are 0 to 2^40 aF. Its scales are powers of ten by which `read_sdc` may count.
+pub fn read_library(alloc: Global, bytes: &[u8]) -> Result<Library, TextFault>
+    requires { length bytes.now ≤ MOST_BYTES }
+    ensures value { Gives (λ library. library) result (library_meant bytes.now) }
+    ensures sound { IfOk result IsSoundLibrary }
+    ensures scales { IfOk result (λ library. IsScale library.time_scale × IsScale library.cap_scale) }
+{
+    liberty_cells::read_library(alloc, bytes)
+}
+
+/// The module of a structural Verilog text, as `verilog_net::read_netlist` reads it: its names have 1 to 1,024 bytes,
+/// and no two of its bits have the same name.
+pub fn read_netlist(alloc: Global, bytes: &[u8]) -> Result<Netlist, TextFault>
+    requires { length bytes.now ≤ MOST_BYTES }
+    ensures value { netlists.Reads (λ netlist. netlist) result (netlists.netlist_of_text bytes.now) }
+    ensures sound { IfOk result IsSoundNetlist }
+{
+    verilog_net::read_netlist(alloc, bytes)
+}
+
+/// The parasitics of a SPEF text, as `spef_read::read_spef` reads them: names have 1 to 2,049 bytes, each name of a net
+/// or a node is among them, and values are 0 to 2^40 aF or mΩ.
+pub fn read_spef(alloc: Global, bytes: &[u8]) -> Result<Parasitics, TextFault>
+    requires { length bytes.now ≤ MOST_BYTES }
+    ensures value { parasitics.Reads (λ parasitics. parasitics) result (parasitics.parasitics_of bytes.now) }
+    ensures sound { IfOk result AreSoundParasitics }
+{
+    spef_read::read_spef(alloc, bytes)
+}
+
+/// The constraints that an SDC text means for a netlist, as `sdc_read::read_sdc` reads them: a clock's period is 1 to
+/// 2^40 fs, and it falls from 0 to 2^40 fs behind its rise.
+pub fn read_sdc(
+    alloc: Global,
+    bytes: &[u8],
+    netlist: &Netlist,
+    time_scale: i32,
+    cap_scale: i32,
+) -> Result<Constraints, TextFault>
+    requires bytes { length bytes.now ≤ MOST_BYTES }
+    requires time { IsScale time_scale }
+    requires cap { IsScale cap_scale }
+    ensures value { constraints.Gives (λ constraints. constraints) result
+        (constraints.constraints_of bytes.now netlist.now.nets time_scale cap_scale) }
+    ensures sound { IfOk result AreSoundConstraints }
+{
+    sdc_read::read_sdc(alloc, bytes, netlist, time_scale, cap_scale)
+}
