@@ -1,15 +1,15 @@
 -- The names of bits: bit k of a bus `a` has the name `a[k]`, in which its bus and its number are found.
-use Rattle.std.specs.Prelude.{◌≡◌, refl, ℕ, suc, ◌+◌, ◌-◌, ◌*◌, ◌/◌, ◌%◌, ◌<◌, ◌≤◌, ◌^◌, nat_le, ◌==◌, Bool, true, false, List, [], ◌∷◌, ◌++◌, length, take, decimal}
-use Rattle.std.specs.Prelude.{Option, Some, None, if◌then◌else◌, slice_index}
+use Rattle.std.specs.Prelude.{◌≡◌, refl, ℕ, suc, ◌+◌, ◌-◌, ◌*◌, ◌/◌, ◌%◌, ◌<◌, ◌≤◌, ◌^◌, nat_le, ◌==◌, Bool, true, false, [], ◌∷◌, ◌++◌, length, decimal}
+use Rattle.std.specs.Prelude.{Option, Some, None, if◌then◌else◌}
 use Rattle.std.specs.List.{AllByRecursion}
 use Rattle.std.specs.Str.{bytes_eq}
-use Rattle.std.proofs.Common.{arith, sym, ap, ◌∙◌, append_assoc, cond}
-use Rattle.std.proofs.lemmas.Bool.{le-leb, leb-true, false≢true}
-use Rattle.std.proofs.lemmas.Fmt.{decimal_by_steps, decimal_injective}
-use Rattle.std.proofs.lemmas.List.{length_push, get_or_push, take_at, append_cancel_left, append_cancel_right}
+use Rattle.std.proofs.Common.{arith, sym, ap, ◌∙◌, append_assoc}
+use Rattle.std.proofs.lemmas.Bool.{le-leb, leb-true}
+use Rattle.std.proofs.lemmas.Fmt.{decimal_by_steps}
+use Rattle.std.proofs.lemmas.List.{length_push, get_or_push, take_at, append_cancel_right}
 use Rattle.std.proofs.lemmas.Slice.Eq.{bytes_eq-Decides}
 use Rattle.name_numbers.specs.Names.{Text}
-use Rattle.verilog_net.specs.Nets.{most_bit, value_after, as_bit, number_of, written, closed_number, bit_here, bit_from}
+use Rattle.verilog_net.specs.Nets.{most_bit, value_after, number_of, written, closed_number, bit_here, bit_from}
 
 -- what stands behind the name of the bus
 abbrev pub tail : ℕ → Text

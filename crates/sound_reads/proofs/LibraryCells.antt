@@ -4,10 +4,10 @@ use Rattle.std.specs.Prelude.{Option, Some, None, IfSome, Result, Ok, Err, if◌
 use Rattle.std.specs.List.{AllByRecursion}
 use Rattle.std.proofs.Common.{arith, subst}
 use Rattle.std.proofs.lemmas.List.{length_push}
-use Rattle.name_numbers.specs.Names.{Text, has_name}
+use Rattle.name_numbers.specs.Names.{Text}
 use Rattle.xt_number.specs.declared.fault.NumberFault.{NumberFault}
 use Rattle.xt_number.specs.Value.{fixed}
-use Rattle.xt_model.specs.declared.code.Code.TheVariants.{L1, L3, L4}
+use Rattle.xt_model.specs.declared.code.Code.TheVariants.{L3, L4}
 use Rattle.xt_model.specs.Tables.{TableParts}
 use Rattle.liberty_groups.specs.Trees.{Entry, Tree, head_of, groups_of}
 use Rattle.liberty_groups.specs.Library.{library_of}
@@ -140,7 +140,7 @@ module _ (bytes : List ℕ) (scales : Scales) (templates : Templates) where
 
   reading : (first : ℕ) (t : Tree) (b has : Bool) (s s' : Numbered) → IsTimed first s
       → (if b then (if does_not_fit bytes s.1.kind has t then refuse (head_of t).line L4
-          else over (add_table bytes (is_delay_kind s.1.kind) scales templates) (groups_of t) s) else Ok s) ≡ Ok s' → IsTimed first s'
+      else over (add_table bytes (is_delay_kind s.1.kind) scales templates) (groups_of t) s) else Ok s) ≡ Ok s' → IsTimed first s'
   reading first t false has s s' h e = let same : s ≡ s' = cc in rw same at h
   reading first t true has s s' h e = fitting first t (does_not_fit bytes s.1.kind has t) s s' h e
 
@@ -148,9 +148,9 @@ module _ (bytes : List ℕ) (scales : Scales) (templates : Templates) where
   unfolding timing_of
   timing_is role t tables x e =
       let b = bound (related_of bytes (attribute bytes (codes "related_pin") t))
-          (λ related. read_tables bytes scales templates t (stands bytes (attribute bytes (codes "related_pin") t)) (tables, empty_timing bytes role related t)) x e in
+      (λ related. read_tables bytes scales templates t (stands bytes (attribute bytes (codes "related_pin") t)) (tables, empty_timing bytes role related t)) x e in
       let start : IsTimed (length tables) (tables, empty_timing bytes role b.0 t) =
-          record { timing = record { rise = tt; fall = tt; rise_slew = tt; fall_slew = tt }; more = omega arith } in
+      record { timing = record { rise = tt; fall = tt; rise_slew = tt; fall_slew = tt }; more = omega arith } in
       reading (length tables) t (is_read_kind (empty_timing bytes role b.0 t).kind) (stands bytes (attribute bytes (codes "related_pin") t))
       (tables, empty_timing bytes role b.0 t) x start b.2
 
@@ -260,14 +260,14 @@ module _ (bytes : List ℕ) where
   unfolding library_in
   library_by t library e =
       let behind : Scales → Templates → Meant Library = λ scales templates. cells_of bytes scales templates t >>= λ x.
-          Ok (record { time_scale = scales.time; cap_scale = scales.cap; tables = x.0; cells = x.1 }) in
+      Ok (record { time_scale = scales.time; cap_scale = scales.cap; tables = x.0; cells = x.1 }) in
       let a = bound (units_of bytes t) (λ scales. templates_of bytes scales t >>= behind scales) library e in
       let b = bound (templates_of bytes a.0 t) (behind a.0) library a.2 in
       let c = bound (cells_of bytes a.0 b.0 t) (λ x. Ok (record { time_scale = a.0.time; cap_scale = a.0.cap; tables = x.0; cells = x.1 })) library b.2 in
       let cells = cells_are bytes a.0 b.0 t c.0 c.1 in
       let same : ◌≡◌ {A = Library} (record { time_scale = a.0.time; cap_scale = a.0.cap; tables = c.0.0; cells = c.0.1 }) library = cc (c.2) in
       let all : IsFine (record { time_scale = a.0.time; cap_scale = a.0.cap; tables = c.0.0; cells = c.0.1 }) =
-          record { scales = units_are bytes t a.0 a.1; cells = cells.cells } in
+      record { scales = units_are bytes t a.0 a.1; cells = cells.cells } in
       rw same at all
 
   -- the library that a text means is fine

@@ -1,5 +1,5 @@
 -- The units of a library are powers of ten by which constraints may count.
-use Rattle.std.specs.Prelude.{◌≡◌, refl, ℕ, List, [], ◌∷◌, Bool, true, false, codes, ℤ, pos, neg_ℤ, ◌≤ℤ◌, ◌+ℤ◌, Option, Some, None, IfSome, Result, Ok, Err}
+use Rattle.std.specs.Prelude.{◌≡◌, refl, ℕ, List, [], ◌∷◌, Bool, codes, ℤ, pos, neg_ℤ, ◌≤ℤ◌, Option, Some, None, IfSome, Result, Ok, Err}
 use Rattle.std.specs.Prelude.{if◌then◌else◌, find}
 use Rattle.std.specs.Str.{bytes_eq, str_eq_ignore_ascii_case}
 use Rattle.std.proofs.Common.{arith, subst}
@@ -8,7 +8,7 @@ use Rattle.std.proofs.lemmas.Int.{ints}
 use Rattle.name_numbers.specs.Names.{Text}
 use Rattle.xt_number.specs.Numeral.{Numeral}
 use Rattle.xt_number.specs.Reading.{numeral_of}
-use Rattle.xt_number.specs.Value.{is_ten_to, unit_powers, power_from, power_of}
+use Rattle.xt_number.specs.Value.{is_ten_to, power_from, power_of}
 use Rattle.liberty_groups.specs.Trees.{Entry, Tree}
 use Rattle.liberty_tables.specs.declared.units.Scales.{Scales}
 use Rattle.liberty_tables.specs.Search.{attribute, contents, only}
@@ -109,7 +109,7 @@ module _ (bytes : List ℕ) where
   units_by (Ok t) (Ok c) s f g e =
       let same : ◌≡◌ {A = Scales} (record { time = t; cap = c }) s = cc in
       let all : AreScales (record { time = t; cap = c }) =
-          record { time_low = (f t refl).0; time_high = (f t refl).1; cap_low = (g c refl).0; cap_high = (g c refl).1 } in
+      record { time_low = (f t refl).0; time_high = (f t refl).1; cap_low = (g c refl).0; cap_high = (g c refl).1 } in
       rw same at all
   units_by (Err line) (Ok c) s f g e = absurd (cc)
   units_by (Ok t) (Err line) s f g e = absurd (cc)

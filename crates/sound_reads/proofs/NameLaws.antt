@@ -1,10 +1,10 @@
 -- Names with their values: what is found is there, and names are kept.
-use Rattle.std.specs.Prelude.{◌≡◌, refl, ℕ, zero, suc, ◌+◌, ◌<◌, ◌≤◌, Bool, true, false, nat_lt, not, List, [], ◌∷◌, ◌++◌, length, map, position}
+use Rattle.std.specs.Prelude.{◌≡◌, refl, ℕ, zero, suc, ◌+◌, ◌<◌, ◌≤◌, Bool, true, false, nat_lt, not, List, [], ◌∷◌, length, map, position}
 use Rattle.std.specs.Prelude.{Option, Some, None, if◌then◌else◌}
 use Rattle.std.specs.List.{AllByRecursion, slice_get, position_or_len}
 use Rattle.std.specs.Str.{bytes_eq}
 use Rattle.std.proofs.Common.{arith, cond}
-use Rattle.std.proofs.lemmas.Bool.{ltb-true, ltb-false}
+use Rattle.std.proofs.lemmas.Bool.{ltb-false}
 use Rattle.std.proofs.lemmas.List.{length-map}
 use Rattle.name_numbers.specs.Names.{Text, found, with_value, ◌>>=◌}
 
@@ -81,7 +81,7 @@ module _ {V : Type 0} where
   past_all name named h =
       let len = length-map named (λ (e : Text × V). e.0) in
       let le = place_past named (position_or_len (bytes_eq name) (map (λ e. e.0) named)) (length (map (λ e. e.0) named))
-          (nat_lt (position_or_len (bytes_eq name) (map (λ e. e.0) named)) (length (map (λ e. e.0) named))) refl len h in
+      (nat_lt (position_or_len (bytes_eq name) (map (λ e. e.0) named)) (length (map (λ e. e.0) named))) refl len h in
       omega (arith, le, len)
 
   -- ---- one more name with its value, or another value of a name

@@ -1,5 +1,5 @@
 -- No two nets of a netlist, and no two bits, have the same name.
-use Rattle.std.specs.Prelude.{◌≡◌, refl, ℕ, zero, suc, ◌+◌, ◌-◌, ◌<◌, ◌≤◌, nat_le, nat_lt, ◌&&◌, ◌||◌, Bool, true, false, not, List, [], ◌∷◌, ◌++◌, length, take, map, position}
+use Rattle.std.specs.Prelude.{◌≡◌, refl, ℕ, suc, ◌+◌, ◌≤◌, nat_le, nat_lt, ◌&&◌, ◌||◌, Bool, true, false, not, List, [], ◌∷◌, ◌++◌, length, take, map}
 use Rattle.std.specs.Prelude.{Option, Some, None, if◌then◌else◌}
 use Rattle.std.specs.List.{AllByRecursion, slice_get, position_or_len, list_any}
 use Rattle.std.specs.Str.{bytes_eq}
@@ -11,9 +11,9 @@ use Rattle.std.proofs.lemmas.Slice.Eq.{bytes_eq-Decides}
 use Rattle.name_numbers.specs.Names.{Text, found, value_of, with_value, ◌>>=◌}
 use Rattle.verilog_net.specs.declared.netlist.Net.{Net}
 use Rattle.verilog_net.specs.Sorts.{is_name}
-use Rattle.verilog_net.specs.Nets.{Nets, most_bit, has_bit, named_bit, bit_from, BitNets, numbers_in, bit_nets_of, with_bit_net, with_net_at, with_net, has_bit_net}
+use Rattle.verilog_net.specs.Nets.{Nets, most_bit, has_bit, named_bit, bit_from, BitNets, bit_nets_of, with_bit_net, with_net_at, with_net, has_bit_net}
 use Rattle.sound_reads.proofs.NameLaws.{entry, entry_at}
-use Rattle.sound_reads.proofs.BitNames.{tail, found_bit, longer}
+use Rattle.sound_reads.proofs.BitNames.{tail, found_bit}
 
 -- ---- what is in a list
 module _ {X : Type 0} where
@@ -77,9 +77,9 @@ module _ {V : Type 0} where
 
     less_by : (n m : ℕ) → nat_lt (1 + n) (suc m) ≡ nat_lt n m
     less_by n m = elim (cases_lt n m) [
-        inl lt ↦ lt-ltb (1 + n) (suc m) (omega (arith, lt)) ∙ sym (lt-ltb n m lt)
+      | inl lt ↦ lt-ltb (1 + n) (suc m) (omega (arith, lt)) ∙ sym (lt-ltb n m lt)
       | inr le ↦ le-ltb (1 + n) (suc m) (omega (arith, le)) ∙ sym (le-ltb n m le)
-      ]
+    ]
 
     found_by : (n m : ℕ) (b : Bool)
         → ((if nat_lt (cond (not b) (1 + n) 0) (suc m) then Some (cond (not b) (1 + n) 0) else None) >>= entry_at (e ∷ more))
@@ -129,12 +129,14 @@ module _ {V : Type 0} where
       turn true false u w o h = refl
       turn false true u w o h = refl
       turn false false u w o h = refl
+
       joined : (b c : Bool) (u w : V) (o : Option V) → b ≡ c
           → (if c then Some w else o) ≡ (if b then Some w else (if c then Some u else o))
       joined true true u w o h = refl
       joined false false u w o h = refl
       joined true false u w o h = absurd (false≢true (sym h))
       joined false true u w o h = absurd (false≢true h)
+
       by : (b : Bool) → bytes_eq name e.0 ≡ b
           → value_of other (with_value name v more) ≡ (if bytes_eq other name then Some v else value_of other more)
           → value_of other (if b then (e.0, v) ∷ more else e ∷ with_value name v more)
@@ -191,7 +193,7 @@ pub bit_bounded : (o : Option (ℕ × ℕ)) (r : ℕ × ℕ) (k : ℕ) → IsBou
 bit_bounded o r k h e t =
     let b = h r e in
     elim (or_cases (nat_le r.0 k && nat_le k r.1) (nat_le r.1 k && nat_le k r.0) t) [
-        inl up ↦ let le = leb-true k r.1 (and_parts (nat_le r.0 k) (nat_le k r.1) up).1 in omega (arith, le, b)
+      | inl up ↦ let le = leb-true k r.1 (and_parts (nat_le r.0 k) (nat_le k r.1) up).1 in omega (arith, le, b)
       | inr down ↦ let le = leb-true k r.0 (and_parts (nat_le r.1 k) (nat_le k r.0) down).1 in omega (arith, le, b)
     ]
 
@@ -217,10 +219,11 @@ range_found name o (e ∷ more) c (inl same) =
     ((0, e.1), found_cons e more name ∙ ap (λ b. if b then Some (0, e.1) else later (found name more)) ((bytes_eq-Decides name e.0).1 (sym is)), ap (λ s. s.1) same)
 range_found name o (e ∷ more) c (inr h) =
     let rest = range_found name o more c.1 h in
-    let apart : name ≡ e.0 → ⊥ = λ is. (each_of (IsClear (shape e)) (shapes more) (name, o) c.0 h).differ (sym is) in
-    ((1 + rest.0.0, rest.0.1),
-    found_cons e more name ∙ (ap (λ b. if b then Some (0, e.1) else later (found name more)) (other_text name e.0 apart) ∙ ap later rest.1),
-    rest.2)
+    let apart : name ≡ e.0 → ⊥ = λ is. (each_of (IsClear (shape e)) (shapes more) (name, o) c.0 h).differ (sym is) in (
+      (1 + rest.0.0, rest.0.1),
+      found_cons e more name ∙ (ap (λ b. if b then Some (0, e.1) else later (found name more)) (other_text name e.0 apart) ∙ ap later rest.1),
+      rest.2,
+    )
 
 -- a name that `named_bit` does not know is that of no bit
 bit_unknown : (name : Text) (nets : Nets) (s : Shape) → AreClear (shapes nets) → Has s (shapes nets) → IsBounded s.1

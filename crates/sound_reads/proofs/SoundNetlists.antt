@@ -1,24 +1,22 @@
 -- A module that is fine is sound to be linked.
-use Rattle.std.specs.Prelude.{◌≡◌, ◌≢◌, refl, ℕ, zero, suc, ◌+◌, ◌-◌, ◌<◌, ◌≤◌, nat_le, ◌==◌, ◌&&◌, ◌||◌, not, Bool, true, false, List, [], ◌∷◌, ◌++◌, length, map, decimal}
-use Rattle.std.specs.Prelude.{Option, Some, None, if◌then◌else◌}
+use Rattle.std.specs.Prelude.{◌≡◌, ◌≢◌, refl, ℕ, zero, suc, ◌+◌, ◌-◌, ◌<◌, ◌≤◌, nat_le, ◌==◌, ◌&&◌, not, true, List, [], ◌∷◌, ◌++◌, length, map, decimal}
+use Rattle.std.specs.Prelude.{Option, Some, None}
 use Rattle.std.specs.Char.{is_ascii_graphic}
-use Rattle.std.specs.List.{All, AllByRecursion, list_all, slice_get}
+use Rattle.std.specs.List.{AllByRecursion, list_all, slice_get}
 use Rattle.std.proofs.Common.{arith, sym, ap, ◌∙◌, append_assoc, ◌⊎◌, inl, inr}
 use Rattle.std.proofs.lemmas.Bool.{and_parts, or_left, or_right, and_from, le-leb, lt-leb, leb-true, not-true, eqb-false, cases_lt}
 use Rattle.std.proofs.lemmas.List.Elements.{All-from_recursion}
 use Rattle.name_numbers.specs.Names.{Text}
-use Rattle.verilog_net.specs.declared.netlist.Net.{Net}
 use Rattle.verilog_net.specs.declared.netlist.Netlist.{Netlist}
 use Rattle.verilog_net.specs.declared.netlist.Instance.{Instance}
-use Rattle.verilog_net.specs.declared.netlist.Wire.{Wire}
 use Rattle.verilog_net.specs.declared.netlist.PortRole.{PortRole}
 use Rattle.verilog_net.specs.Sorts.{is_name}
-use Rattle.verilog_net.specs.Nets.{Nets, most_bit, has_bit, BitNets}
+use Rattle.verilog_net.specs.Nets.{Nets, has_bit}
 use Rattle.link_rules.specs.Bits.{Bit, rising, falling, numbers_of, bit_name, bus_bit, bits_by, bits_from, bits}
 use Rattle.link_rules.specs.Sound.{IsShortName, IsSoundInstance, HaveOwnNames, IsSoundNetlist}
-use Rattle.sound_reads.proofs.Bytes.{IsGraphic, AreGraphic, each-append, each-weaker, each_at, name_is}
+use Rattle.sound_reads.proofs.Bytes.{AreGraphic, each-append, each-weaker, each_at, name_is}
 use Rattle.sound_reads.proofs.BitNames.{tail, same_number, same_bus}
-use Rattle.sound_reads.proofs.OwnNames.{Shape, shape, shapes, NoBitOf, IsClear, AreClear, IsBounded, AreFine, bit_bounded}
+use Rattle.sound_reads.proofs.OwnNames.{Shape, shape, shapes, IsClear, AreClear, IsBounded, bit_bounded}
 use Rattle.sound_reads.proofs.VerilogStates.{IsNamed, IsFineInstance, IsFineModule}
 
 -- ---- short names
@@ -50,7 +48,7 @@ rising_apart : (f n : ℕ) → AreApart (rising f n)
 rising_apart f zero = tt
 rising_apart f (suc n) = (
   each-weaker (λ k. (f + 1 ≤ k) × (k ≤ f + 1 + n)) (λ j. f ≡ j → ⊥) (λ j h e. omega (arith, h, e)) (rising (f + 1) n)
-  (rising_within (f + 1) n (f + 1) (f + 1 + n) (omega arith) (omega arith)),
+      (rising_within (f + 1) n (f + 1) (f + 1 + n) (omega arith) (omega arith)),
   rising_apart (f + 1) n,
 )
 
@@ -65,7 +63,7 @@ falling_apart f zero h = tt
 falling_apart f (suc zero) h = (tt, tt)
 falling_apart f (suc (suc n)) h = (
   each-weaker (λ k. (0 ≤ k) × (k ≤ f - 1)) (λ j. f ≡ j → ⊥) (λ j w e. omega (arith, w, e, h)) (falling (f - 1) (suc n))
-  (falling_within (f - 1) (suc n) 0 (f - 1) (omega arith) (omega (arith, h))),
+      (falling_within (f - 1) (suc n) 0 (f - 1) (omega arith) (omega (arith, h))),
   falling_apart (f - 1) (suc n) (omega (arith, h)),
 )
 
@@ -86,9 +84,9 @@ down_bit r k h =
 
 numbers_are : (r : ℕ × ℕ) → AreNumbers r (numbers_of r)
 numbers_are r = elim (cases_lt r.1 r.0) [
-    inl down ↦ rw (lt-leb r.0 r.1 down) (falls down)
+  | inl down ↦ rw (lt-leb r.0 r.1 down) (falls down)
   | inr up ↦ rw (le-leb r.0 r.1 up) (rises up)
-  ]
+]
   where
     rises : r.0 ≤ r.1 → AreNumbers r (rising r.0 (r.1 - r.0 + 1))
     rises up = record {
@@ -96,6 +94,7 @@ numbers_are r = elim (cases_lt r.1 r.0) [
           (rising_within r.0 (r.1 - r.0 + 1) r.0 r.1 (omega arith) (omega (arith, up)));
       apart = rising_apart r.0 (r.1 - r.0 + 1);
     }
+
     falls : r.1 < r.0 → AreNumbers r (falling r.0 (r.0 - r.1 + 1))
     falls down = record {
       bits = each-weaker (λ k. (r.1 ≤ k) × (k ≤ r.0)) (λ k. has_bit r k ≡ true) (down_bit r) (falling r.0 (r.0 - r.1 + 1))

@@ -1,12 +1,11 @@
 -- The names of a SPEF text are names.
-use Rattle.std.specs.Prelude.{◌≡◌, refl, ℕ, suc, ◌+◌, ◌<◌, ◌≤◌, nat_le, ◌==◌, ◌&&◌, not, Bool, true, false, List, [], ◌∷◌, ◌++◌, length, drop}
-use Rattle.std.specs.Prelude.{Option, Some, None, Result, Ok, Err, if◌then◌else◌}
+use Rattle.std.specs.Prelude.{◌≡◌, refl, ℕ, ◌<◌, ◌≤◌, nat_le, ◌==◌, not, Bool, true, false, [], ◌∷◌, ◌++◌, length}
+use Rattle.std.specs.Prelude.{Option, Some, None, Ok, Err, if◌then◌else◌}
 use Rattle.std.specs.List.{AllByRecursion}
-use Rattle.std.proofs.Common.{arith, cond}
+use Rattle.std.proofs.Common.{arith}
 use Rattle.std.proofs.lemmas.Bool.{cond_both, and_parts, leb-true, eqb-false, not-true}
 use Rattle.name_numbers.specs.Names.{found}
-use Rattle.xt_model.specs.declared.code.Code.{Code}
-use Rattle.xt_model.specs.declared.code.Code.TheVariants.{S1, S5}
+use Rattle.xt_model.specs.declared.code.Code.TheVariants.{S1}
 use Rattle.xt_model.specs.Names.{IsName}
 use Rattle.xt_number.specs.Value.{without_zeros}
 use Rattle.spef_read.specs.declared.marks.Marks.{Marks}

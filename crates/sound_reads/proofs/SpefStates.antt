@@ -1,12 +1,12 @@
 -- What each form of a SPEF text leaves true of the state.
-use Rattle.std.specs.Prelude.{◌≡◌, refl, ℕ, suc, ◌+◌, ◌-◌, ◌<◌, ◌≤◌, ◌&&◌, ◌||◌, Bool, true, false, List, [], ◌∷◌, ◌++◌, length, ℤ, pos, int_le, ◌+ℤ◌}
+use Rattle.std.specs.Prelude.{◌≡◌, refl, ℕ, ◌-◌, ◌<◌, ◌≤◌, ◌&&◌, Bool, true, false, [], ◌∷◌, ◌++◌, length, ℤ, pos, int_le, ◌+ℤ◌}
 use Rattle.std.specs.Prelude.{Option, Some, None, IfSome, is_some, Result, Ok, Err, if◌then◌else◌}
 use Rattle.std.specs.List.{AllByRecursion}
 use Rattle.std.proofs.Common.{arith, subst}
 use Rattle.name_numbers.specs.Names.{found, with_value}
 use Rattle.xt_model.specs.declared.code.Code.{Code}
-use Rattle.xt_model.specs.declared.code.Code.TheVariants.{S1, S3, S4, S5, S6}
-use Rattle.xt_number.specs.Value.{fixed, power_of, without_zeros}
+use Rattle.xt_model.specs.declared.code.Code.TheVariants.{S1, S3, S4}
+use Rattle.xt_number.specs.Value.{fixed, power_of}
 use Rattle.xt_number.specs.declared.fault.NumberFault.{NumberFault}
 use Rattle.spef_read.specs.declared.item.Separator.{Separator}
 use Rattle.spef_read.specs.declared.item.Separator.TheVariants as separators
@@ -19,12 +19,12 @@ use Rattle.spef_read.specs.declared.parasitics.ResText.{ResText}
 use Rattle.spef_read.specs.declared.parasitics.WireText.{WireText}
 use Rattle.spef_read.specs.Words.{Text, counted}
 use Rattle.spef_read.specs.Names.{whole_name, pair_name}
-use Rattle.spef_read.specs.Meaning.{State, Names, nothing, with_separator, set_separator, are_brackets, brackets_by, set_pair, set_brackets}
+use Rattle.spef_read.specs.Meaning.{State, Names, nothing, with_separator, set_separator, are_brackets, set_pair, set_brackets}
 use Rattle.spef_read.specs.Meaning.{number_as, unit_number, with_scale, unit_as, unit_power, set_unit, with_units, index_as, pair_number, pair_as, end_pair}
 use Rattle.spef_read.specs.Meaning.{enter_as, enter, node, net_as, net_by, net_name, value_as, value_of, total_as, net_total, first_as, first_node}
 use Rattle.spef_read.specs.Meaning.{cap_second_as, cap_node, res_second_as, res_node, cap_as, cap_value, res_as, res_value, net_of, end_net}
 use Rattle.sound_reads.proofs.Bytes.{IsGraphic, AreGraphic, each_push, each-weaker}
-use Rattle.sound_reads.proofs.NameLaws.{found_within, with_names, with_values, with_grows, with_some, with_further}
+use Rattle.sound_reads.proofs.NameLaws.{found_within, with_names, with_values, with_grows, with_further}
 use Rattle.sound_reads.proofs.Values.{IsQuantity, zero_is, quantity_from}
 use Rattle.sound_reads.proofs.SpefNames.{IsWhole, IsGraphicMap, whole_name_is, pair_name_is}
 
@@ -77,8 +77,17 @@ Leads s s' = IsFine s' × (length s.names ≤ length s'.names)
 
 pub nothing_fine : IsFine nothing
 nothing_fine = record {
-  delimiter = refl; map = tt; names = tt; nets = tt; net = omega arith; total = zero_is; caps = tt; resistors = tt;
-  first = omega arith; cap_second = tt; res_second = omega arith;
+  delimiter = refl;
+  map = tt;
+  names = tt;
+  nets = tt;
+  net = omega arith;
+  total = zero_is;
+  caps = tt;
+  resistors = tt;
+  first = omega arith;
+  cap_second = tt;
+  res_second = omega arith;
 }
 
 -- ---- more names
@@ -137,8 +146,17 @@ module _ (s s' : State) (h : IsFine s) where
 
   marked_fine : (m : Marks) → IsGraphic m.delimiter → IsFine (marked m)
   marked_fine m g = record {
-    delimiter = g; map = h.map; names = h.names; nets = h.nets; net = h.net; total = h.total; caps = h.caps;
-    resistors = h.resistors; first = h.first; cap_second = h.cap_second; res_second = h.res_second;
+    delimiter = g;
+    map = h.map;
+    names = h.names;
+    nets = h.nets;
+    net = h.net;
+    total = h.total;
+    caps = h.caps;
+    resistors = h.resistors;
+    first = h.first;
+    cap_second = h.cap_second;
+    res_second = h.res_second;
   }
 
   -- the state behind is this one, of as many names
@@ -174,8 +192,17 @@ module _ (s s' : State) (h : IsFine s) where
   numbered : (quantity : Quantity) (o : Option ℤ) → number_as quantity s o ≡ Ok s' → Leads s s'
   numbered quantity None e = absurd (cc)
   numbered quantity (Some power) e = leads_to (record s { quantity = quantity; power = power }) (record {
-    delimiter = h.delimiter; map = h.map; names = h.names; nets = h.nets; net = h.net; total = h.total; caps = h.caps;
-    resistors = h.resistors; first = h.first; cap_second = h.cap_second; res_second = h.res_second;
+    delimiter = h.delimiter;
+    map = h.map;
+    names = h.names;
+    nets = h.nets;
+    net = h.net;
+    total = h.total;
+    caps = h.caps;
+    resistors = h.resistors;
+    first = h.first;
+    cap_second = h.cap_second;
+    res_second = h.res_second;
   }) (omega arith) e
 
   pub unit_number_leads : (quantity : Quantity) (word : Text) → unit_number quantity word s ≡ Ok s' → Leads s s'
@@ -184,12 +211,30 @@ module _ (s s' : State) (h : IsFine s) where
 
   scaled_fine : (quantity : Quantity) (scale : ℤ) → IsFine (with_scale quantity scale s)
   scaled_fine quantities.Capacitance scale = record {
-    delimiter = h.delimiter; map = h.map; names = h.names; nets = h.nets; net = h.net; total = h.total; caps = h.caps;
-    resistors = h.resistors; first = h.first; cap_second = h.cap_second; res_second = h.res_second;
+    delimiter = h.delimiter;
+    map = h.map;
+    names = h.names;
+    nets = h.nets;
+    net = h.net;
+    total = h.total;
+    caps = h.caps;
+    resistors = h.resistors;
+    first = h.first;
+    cap_second = h.cap_second;
+    res_second = h.res_second;
   }
   scaled_fine quantities.Resistance scale = record {
-    delimiter = h.delimiter; map = h.map; names = h.names; nets = h.nets; net = h.net; total = h.total; caps = h.caps;
-    resistors = h.resistors; first = h.first; cap_second = h.cap_second; res_second = h.res_second;
+    delimiter = h.delimiter;
+    map = h.map;
+    names = h.names;
+    nets = h.nets;
+    net = h.net;
+    total = h.total;
+    caps = h.caps;
+    resistors = h.resistors;
+    first = h.first;
+    cap_second = h.cap_second;
+    res_second = h.res_second;
   }
   scaled_fine quantities.Time scale = h
   scaled_fine quantities.Inductance scale = h
@@ -221,8 +266,17 @@ module _ (s s' : State) (h : IsFine s) where
   index_by : (index : Text) (o : Option (ℕ × Text)) → index_as index s o ≡ Ok s' → Leads s s'
   index_by index (Some entry) e = absurd (cc)
   index_by index None e = leads_to (record s { index = index }) (record {
-    delimiter = h.delimiter; map = h.map; names = h.names; nets = h.nets; net = h.net; total = h.total; caps = h.caps;
-    resistors = h.resistors; first = h.first; cap_second = h.cap_second; res_second = h.res_second;
+    delimiter = h.delimiter;
+    map = h.map;
+    names = h.names;
+    nets = h.nets;
+    net = h.net;
+    total = h.total;
+    caps = h.caps;
+    resistors = h.resistors;
+    first = h.first;
+    cap_second = h.cap_second;
+    res_second = h.res_second;
   }) (omega arith) e
 
   pub pair_number_leads : (word : Text) → pair_number word s ≡ Ok s' → Leads s s'
@@ -232,8 +286,16 @@ module _ (s s' : State) (h : IsFine s) where
   pair_by : (r : Result Text Code) → ((name : Text) → r ≡ Ok name → AreGraphic name) → pair_as s r ≡ Ok s' → Leads s s'
   pair_by (Err code) g e = absurd (cc)
   pair_by (Ok name) g e = leads_to (record s { map = with_value s.index name s.map }) (record {
-    delimiter = h.delimiter; map = with_values AreGraphic s.index name s.map (g name refl) h.map; names = h.names; nets = h.nets;
-    net = h.net; total = h.total; caps = h.caps; resistors = h.resistors; first = h.first; cap_second = h.cap_second;
+    delimiter = h.delimiter;
+    map = with_values AreGraphic s.index name s.map (g name refl) h.map;
+    names = h.names;
+    nets = h.nets;
+    net = h.net;
+    total = h.total;
+    caps = h.caps;
+    resistors = h.resistors;
+    first = h.first;
+    cap_second = h.cap_second;
     res_second = h.res_second;
   }) (omega arith) e
 
@@ -277,8 +339,17 @@ module _ (s : State) (h : IsFine s) where
         let f = i.fine in
         let there = i.there in
         leads_to s s' h (record x.1 { first = x.0; cap_second = None }) (record {
-          delimiter = f.delimiter; map = f.map; names = f.names; nets = f.nets; net = f.net; total = f.total; caps = f.caps;
-          resistors = f.resistors; first = omega (arith, there); cap_second = tt; res_second = f.res_second;
+          delimiter = f.delimiter;
+          map = f.map;
+          names = f.names;
+          nets = f.nets;
+          net = f.net;
+          total = f.total;
+          caps = f.caps;
+          resistors = f.resistors;
+          first = omega (arith, there);
+          cap_second = tt;
+          res_second = f.res_second;
         }) i.grows e
 
     pub first_leads : (word : Text) → AreGraphic word → first_node word s ≡ Ok s' → Leads s s'
@@ -290,8 +361,17 @@ module _ (s : State) (h : IsFine s) where
         let i = g x refl in
         let f = i.fine in
         leads_to s s' h (record x.1 { cap_second = Some x.0 }) (record {
-          delimiter = f.delimiter; map = f.map; names = f.names; nets = f.nets; net = f.net; total = f.total; caps = f.caps;
-          resistors = f.resistors; first = f.first; cap_second = i.there; res_second = f.res_second;
+          delimiter = f.delimiter;
+          map = f.map;
+          names = f.names;
+          nets = f.nets;
+          net = f.net;
+          total = f.total;
+          caps = f.caps;
+          resistors = f.resistors;
+          first = f.first;
+          cap_second = i.there;
+          res_second = f.res_second;
         }) i.grows e
 
     pub cap_node_leads : (word : Text) → AreGraphic word → cap_node word s ≡ Ok s' → Leads s s'
@@ -304,8 +384,17 @@ module _ (s : State) (h : IsFine s) where
         let f = i.fine in
         let there = i.there in
         leads_to s s' h (record x.1 { res_second = x.0 }) (record {
-          delimiter = f.delimiter; map = f.map; names = f.names; nets = f.nets; net = f.net; total = f.total; caps = f.caps;
-          resistors = f.resistors; first = f.first; cap_second = f.cap_second; res_second = omega (arith, there);
+          delimiter = f.delimiter;
+          map = f.map;
+          names = f.names;
+          nets = f.nets;
+          net = f.net;
+          total = f.total;
+          caps = f.caps;
+          resistors = f.resistors;
+          first = f.first;
+          cap_second = f.cap_second;
+          res_second = omega (arith, there);
         }) i.grows e
 
     pub res_node_leads : (word : Text) → AreGraphic word → res_node word s ≡ Ok s' → Leads s s'
@@ -321,8 +410,17 @@ module _ (s : State) (h : IsFine s) where
     netted_fine number names le lt whole =
         let f = named_more s names h le whole in
         record {
-          delimiter = f.delimiter; map = f.map; names = f.names; nets = f.nets; net = omega (arith, lt); total = f.total; caps = f.caps;
-          resistors = f.resistors; first = f.first; cap_second = f.cap_second; res_second = f.res_second;
+          delimiter = f.delimiter;
+          map = f.map;
+          names = f.names;
+          nets = f.nets;
+          net = omega (arith, lt);
+          total = f.total;
+          caps = f.caps;
+          resistors = f.resistors;
+          first = f.first;
+          cap_second = f.cap_second;
+          res_second = f.res_second;
         }
 
     abbrev pub LeadsIn : Type 0
@@ -381,8 +479,17 @@ module _ (s : State) (h : IsFine s) where
     total_by : (r : Result ℤ Code) → ((x : ℤ) → r ≡ Ok x → IsQuantity x) → total_as s r ≡ Ok s' → Leads s s'
     total_by (Err code) q e = absurd (cc)
     total_by (Ok value) q e = leads_to s s' h (record s { total = value }) (record {
-      delimiter = h.delimiter; map = h.map; names = h.names; nets = h.nets; net = h.net; total = q value refl; caps = h.caps;
-      resistors = h.resistors; first = h.first; cap_second = h.cap_second; res_second = h.res_second;
+      delimiter = h.delimiter;
+      map = h.map;
+      names = h.names;
+      nets = h.nets;
+      net = h.net;
+      total = q value refl;
+      caps = h.caps;
+      resistors = h.resistors;
+      first = h.first;
+      cap_second = h.cap_second;
+      res_second = h.res_second;
     }) (omega arith) e
 
     pub total_leads : (word : Text) → net_total word s ≡ Ok s' → Leads s s'
@@ -397,9 +504,17 @@ module _ (s : State) (h : IsFine s) where
           let cap : CapText = record { a = s.first; b = s.cap_second; value = value } in
           let fine : IsCap (length s.names) cap = record { a = omega (arith, first, some); b = h.cap_second; value = q value refl } in
           leads_to s s' h (record s { caps = s.caps ++ cap ∷ [] }) (record {
-            delimiter = h.delimiter; map = h.map; names = h.names; nets = h.nets; net = h.net; total = h.total;
+            delimiter = h.delimiter;
+            map = h.map;
+            names = h.names;
+            nets = h.nets;
+            net = h.net;
+            total = h.total;
             caps = each_push (IsCap (length s.names)) s.caps cap h.caps fine;
-            resistors = h.resistors; first = h.first; cap_second = h.cap_second; res_second = h.res_second;
+            resistors = h.resistors;
+            first = h.first;
+            cap_second = h.cap_second;
+            res_second = h.res_second;
           }) (omega arith) e
 
       pub cap_value_leads : (word : Text) → cap_value word s ≡ Ok s' → Leads s s'
@@ -413,9 +528,17 @@ module _ (s : State) (h : IsFine s) where
           let res : ResText = record { a = s.first; b = s.res_second; value = value } in
           let fine : IsRes (length s.names) res = record { a = omega (arith, first, some); b = omega (arith, second, some); value = q value refl } in
           leads_to s s' h (record s { resistors = s.resistors ++ res ∷ [] }) (record {
-            delimiter = h.delimiter; map = h.map; names = h.names; nets = h.nets; net = h.net; total = h.total; caps = h.caps;
+            delimiter = h.delimiter;
+            map = h.map;
+            names = h.names;
+            nets = h.nets;
+            net = h.net;
+            total = h.total;
+            caps = h.caps;
             resistors = each_push (IsRes (length s.names)) s.resistors res h.resistors fine;
-            first = h.first; cap_second = h.cap_second; res_second = h.res_second;
+            first = h.first;
+            cap_second = h.cap_second;
+            res_second = h.res_second;
           }) (omega arith) e
 
       pub res_value_leads : (word : Text) → res_value word s ≡ Ok s' → Leads s s'
@@ -425,9 +548,17 @@ module _ (s : State) (h : IsFine s) where
       end_net_leads e =
           let net = h.net in
           let wire : IsWire (length s.names) (net_of s) =
-              record { name = omega (arith, net, some); total = h.total; caps = h.caps; resistors = h.resistors } in
+          record { name = omega (arith, net, some); total = h.total; caps = h.caps; resistors = h.resistors } in
           leads_to s s' h (end_net s) (record {
-            delimiter = h.delimiter; map = h.map; names = h.names;
+            delimiter = h.delimiter;
+            map = h.map;
+            names = h.names;
             nets = each_push (IsWire (length s.names)) s.nets (net_of s) h.nets wire;
-            net = h.net; total = h.total; caps = tt; resistors = tt; first = h.first; cap_second = h.cap_second; res_second = h.res_second;
+            net = h.net;
+            total = h.total;
+            caps = tt;
+            resistors = tt;
+            first = h.first;
+            cap_second = h.cap_second;
+            res_second = h.res_second;
           }) (omega arith) e

@@ -1,5 +1,5 @@
 -- The state behind a SPEF text is fine.
-use Rattle.std.specs.Prelude.{◌≡◌, refl, ℕ, ◌<◌, ◌≤◌, Bool, true, false, List, [], ◌∷◌, length, Option, Some, None, Result, Ok, Err, if◌then◌else◌}
+use Rattle.std.specs.Prelude.{◌≡◌, ℕ, ◌<◌, ◌≤◌, Bool, true, false, List, [], ◌∷◌, length, Option, Some, None, Result, Ok, if◌then◌else◌}
 use Rattle.std.specs.List.{AllByRecursion}
 use Rattle.std.proofs.Common.{arith}
 use Rattle.std.proofs.lemmas.Bool.{false≢true}
@@ -24,9 +24,9 @@ use Rattle.spef_read.specs.Forms as grammar
 use Rattle.spef_read.specs.Meaning.{State, nothing, means}
 use Rattle.spef_read.specs.Reading.{rest_means, by_fault, text_state}
 use Rattle.sound_reads.proofs.Bytes.{AreGraphic}
-use Rattle.sound_reads.proofs.Texts.{Fit, FormKeeps, FormsKeep, AllKeep, HoldsAtEnd, text_keeps}
+use Rattle.sound_reads.proofs.Texts.{FormKeeps, text_keeps}
 use Rattle.sound_reads.proofs.SpefTokens.{IsPrintable, words_printable}
-use Rattle.sound_reads.proofs.SpefStates.{IsFine, Leads, LeadsIn, nothing_fine, separator_leads, pair_leads, brackets_lead, unit_number_leads, unit_leads, units_lead}
+use Rattle.sound_reads.proofs.SpefStates.{IsFine, nothing_fine, separator_leads, pair_leads, brackets_lead, unit_number_leads, unit_leads, units_lead}
 use Rattle.sound_reads.proofs.SpefStates.{pair_number_leads, end_pair_leads, first_leads, cap_node_leads, res_node_leads, net_name_leads, total_leads}
 use Rattle.sound_reads.proofs.SpefStates.{cap_value_leads, res_value_leads, end_net_leads}
 
@@ -84,9 +84,9 @@ quiet_keeps : (context next : Context) (slots : List Slot) → ((s : State) → 
 unfolding means
 quiet_keeps context next slots n ts fit s s' h e = moved next s s' e (h.0, n s h.1)
 
-untaken_keeps : (context : Context) (word : Sort) → Keeps context (untaken word)
+untaken_keeps : (context : Context) (section : Sort) → Keeps context (untaken section)
 unfolding means
-untaken_keeps context word ts fit s s' h e = absurd (cc)
+untaken_keeps context section ts fit s s' h e = absurd (cc)
 
 begins_keeps : (context : Context) → Keeps context (form (Only sorts.Net ∷ []) (λ ts. grammar.NetBegins) contexts.NetName)
 unfolding means
@@ -176,28 +176,46 @@ module _ (context : Context) where
 section_keep : (context : Context) → AllOf context section_forms
 section_keep context = (
   quiet_keeps context contexts.Pairs (Only sorts.NameMap ∷ []) (λ s i. tt),
-  (quiet_keeps context contexts.Skipped (Only sorts.Skipped ∷ []) (λ s i. tt),
-  (begins_keeps context,
-  (untaken_keeps context sorts.Unsupported,
-  (ends_keeps context, tt)))),
+  (
+    quiet_keeps context contexts.Skipped (Only sorts.Skipped ∷ []) (λ s i. tt),
+    (
+      begins_keeps context,
+      (
+        untaken_keeps context sorts.Unsupported,
+        (ends_keeps context, tt),
+      ),
+    ),
+  ),
 )
 
 header_keep : (context : Context) → AllOf context header_forms
 header_keep context = (
   quiet_keeps context contexts.Header (Only sorts.Title ∷ Only sorts.Text ∷ []) (λ s i. tt),
-  (quiet_keeps context contexts.Flow (Only sorts.Flow ∷ Only sorts.Text ∷ []) (λ s i. tt),
-  (two context contexts.Header (Only sorts.Separator) AnyWord (λ a b. grammar.Separator_is (separator_of a) b) (λ t u f p. says_separator context t.text u.text (p f)),
-  (brackets_keep context,
-  (two context contexts.Header (Only sorts.Brackets) (Only sorts.Word) (λ a b. grammar.Pair b) (λ t u f p. says_pair context u.text),
-  (two context contexts.Unit (Only sorts.Unit) AnyWord (λ a b. grammar.UnitNumber (quantity_of a) b) (λ t u f p. says_unit_number context t.text u.text),
-  section_keep context))))),
+  (
+    quiet_keeps context contexts.Flow (Only sorts.Flow ∷ Only sorts.Text ∷ []) (λ s i. tt),
+    (
+      two context contexts.Header (Only sorts.Separator) AnyWord (λ a b. grammar.Separator_is (separator_of a) b) (λ t u f p. says_separator context t.text u.text (p f)),
+      (
+        brackets_keep context,
+        (
+          two context contexts.Header (Only sorts.Brackets) (Only sorts.Word) (λ a b. grammar.Pair b) (λ t u f p. says_pair context u.text),
+          (
+            two context contexts.Unit (Only sorts.Unit) AnyWord (λ a b. grammar.UnitNumber (quantity_of a) b) (λ t u f p. says_unit_number context t.text u.text),
+            section_keep context,
+          ),
+        ),
+      ),
+    ),
+  ),
 )
 
 closing_keep : (context : Context) → ((s : State) → InNet context s → HasNames s) → AllOf context closing_forms
 closing_keep context n = (
   net_ends_keeps context n,
-  (untaken_keeps context sorts.Inductances,
-  (untaken_keeps context sorts.Unsupported, tt)),
+  (
+    untaken_keeps context sorts.Inductances,
+    (untaken_keeps context sorts.Unsupported, tt),
+  ),
 )
 
 behind_capacitors_keep : (context : Context) → ((s : State) → InNet context s → HasNames s) → AllOf context behind_capacitors
@@ -233,7 +251,7 @@ forms_keep contexts.Connection =
     (quiet_keeps contexts.Connection contexts.Connection (InConnection ∷ []) (λ s i. i), behind_connections_keep contexts.Connection (λ s i. i))
 forms_keep contexts.Capacitors = (
   two contexts.Capacitors contexts.CapSecond (Only sorts.Digits) AnyWord (λ a b. grammar.FirstNode b)
-  (λ t u f p. says_cap_first contexts.Capacitors (λ s i. i) u.text (p f)),
+      (λ t u f p. says_cap_first contexts.Capacitors (λ s i. i) u.text (p f)),
   behind_capacitors_keep contexts.Capacitors (λ s i. i),
 )
 forms_keep contexts.CapSecond = (
@@ -244,7 +262,7 @@ forms_keep contexts.CapValue =
     (one contexts.CapValue contexts.Capacitors ValueWord (λ a. grammar.CapValue a) (λ t f p. says_cap_value contexts.CapValue (λ s i. i) t.text), tt)
 forms_keep contexts.Resistors = (
   two contexts.Resistors contexts.ResSecond (Only sorts.Digits) AnyWord (λ a b. grammar.FirstNode b)
-  (λ t u f p. says_res_first contexts.Resistors (λ s i. i) u.text (p f)),
+      (λ t u f p. says_res_first contexts.Resistors (λ s i. i) u.text (p f)),
   closing_keep contexts.Resistors (λ s i. i),
 )
 forms_keep contexts.ResSecond =

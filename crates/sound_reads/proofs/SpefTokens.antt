@@ -1,12 +1,11 @@
 -- The words of a SPEF text have printable bytes alone.
-use Rattle.std.specs.Prelude.{◌≡◌, refl, ℕ, zero, suc, ◌+◌, Bool, true, false, not, ◌&&◌, ◌==◌, List, [], ◌∷◌, length, take, Option, Some, None}
+use Rattle.std.specs.Prelude.{◌≡◌, ℕ, zero, suc, ◌+◌, Bool, true, false, not, ◌&&◌, ◌==◌, List, [], ◌∷◌, length, take, Option, Some, None}
 use Rattle.std.specs.Prelude.{if◌then◌else◌}
 use Rattle.std.specs.Char.{is_ascii_graphic}
 use Rattle.std.specs.List.{AllByRecursion, prefix_len}
 use Rattle.std.proofs.lemmas.Bool.{cond_both, not-false, false≢true}
 use Rattle.text_forms.specs.Forms.{Token}
 use Rattle.text_forms.specs.Tokens.{token_by, tokens_to_end}
-use Rattle.xt_lex.specs.declared.class.Class.{Class}
 use Rattle.xt_lex.specs.declared.class.Class.TheVariants as classes
 use Rattle.xt_lex.specs.declared.front.Front.{Front}
 use Rattle.xt_lex.specs.declared.token.Kind.{Kind}

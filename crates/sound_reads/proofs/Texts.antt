@@ -1,10 +1,10 @@
 -- A fact of the states of a text that each form keeps is kept by the whole text.
 use Rattle.std.specs.Prelude.{◌≡◌, refl, ℕ, Bool, true, false, if◌then◌else◌, List, [], ◌∷◌, ◌++◌, Option, Some, None, Result, Ok, Err}
 use Rattle.std.specs.List.{AllByRecursion}
-use Rattle.std.proofs.Common.{append_assoc, sym, subst}
+use Rattle.std.proofs.Common.{append_assoc, subst}
 use Rattle.std.proofs.lemmas.List.{append-nil}
-use Rattle.text_forms.specs.Forms.{Token, Form, Refusal, Misfits, agree, agree_one, whole_or}
-use Rattle.text_forms.specs.Meaning.{Reading, Ends, Refuses, Says, behind, go_on, reading, next_state, meaning, text_means}
+use Rattle.text_forms.specs.Forms.{Token, Form, Misfits, agree, agree_one, whole_or}
+use Rattle.text_forms.specs.Meaning.{Says, behind, go_on, reading, next_state, meaning, text_means}
 
 module _ {Slot Sort : Type 0} (fits : Slot → Sort → Bool) (P : Token Sort → Type 0) where
   -- a token for each slot, which fits it and of which P holds
@@ -86,7 +86,7 @@ module _ {Slot Sort Said Context State Code : Type 0} (fits : Slot → Sort → 
         → Goes ts → ((ts : List (Token Sort)) → Fit fits P slots ts → Keeps context (g.says (read ++ ts)) g.next)
         → FormsKeep context read (g ∷ gs) → Inv context s
         → meaning step (whole_or slots (Says (g.says read) t.line (reading fits misfits forms (forms g.next) [] ts))
-            (reading fits misfits forms (Some (g ∷ gs)) read ts)) s ≡ Ok s'
+        (reading fits misfits forms (Some (g ∷ gs)) read ts)) s ≡ Ok s'
         → HoldsAtEnd s'
     whole_by [] g gs t read ts context s s' go one all i h =
         said_by (step (g.says read) s) t.line ts g.next s' go
@@ -96,7 +96,7 @@ module _ {Slot Sort Said Context State Code : Type 0} (fits : Slot → Sort → 
     decided : (gs : List (Form Slot Sort Said Context)) (t : Token Sort) (read ts : List (Token Sort)) (context : Context) (s s' : State)
         → Goes ts → FormsKeep context read gs → Inv context s
         → meaning step (go_on misfits gs t read (reading fits misfits forms (behind forms gs) [] ts)
-            (reading fits misfits forms (Some gs) read ts)) s ≡ Ok s'
+        (reading fits misfits forms (Some gs) read ts)) s ≡ Ok s'
         → HoldsAtEnd s'
     decided [] t read ts context s s' go all i h = absurd (cc)
     decided (g ∷ gs) t read ts context s s' go all i h = whole_by g.slots g gs t read ts context s s' go all.0 all i h

@@ -1,11 +1,10 @@
 -- Numbers of texts keep their range.
-use Rattle.std.specs.Prelude.{◌≡◌, refl, ℕ, zero, suc, ◌^◌, ◌≤◌, Bool, true, false, nat_lt, ℤ, pos, int_le, ◌≤ℤ◌, List, Option, Some, None, Result, Ok, Err}
+use Rattle.std.specs.Prelude.{◌≡◌, refl, ℕ, zero, suc, ◌^◌, ◌≤◌, Bool, true, false, nat_lt, ℤ, pos, int_le, List, Option, Some, None, Ok, Err}
 use Rattle.std.specs.Prelude.{if◌then◌else◌}
 use Rattle.std.proofs.Common.{arith}
 use Rattle.std.proofs.lemmas.Bool.{ltb-false, false≢true}
 use Rattle.std.proofs.lemmas.Int.{ints}
 use Rattle.xt_model.specs.Sound.{IsBetween}
-use Rattle.xt_number.specs.declared.fault.NumberFault.{NumberFault}
 use Rattle.xt_number.specs.declared.fault.NumberFault.TheVariants as fault
 use Rattle.xt_number.specs.Numeral.{Numeral}
 use Rattle.xt_number.specs.Value.{signed, digit_count, size, scaled, fixed_from, fixed}

@@ -2,7 +2,7 @@
 use Rattle.std.specs.Prelude.{◌≡◌, refl, ℕ, ◌≤◌, ◌&&◌, ◌==◌, nat_le, not, Bool, true, false, List, [], ◌∷◌, ◌++◌, length}
 use Rattle.std.specs.Prelude.{Option, Some, None, Result, Ok, Err, if◌then◌else◌}
 use Rattle.std.specs.List.{AllByRecursion, list_all}
-use Rattle.std.proofs.Common.{arith, sym, ap, ◌∙◌, subst}
+use Rattle.std.proofs.Common.{arith, ap, ◌∙◌, subst}
 use Rattle.std.proofs.lemmas.Bool.{false≢true, eqb-true, and_parts, leb-true}
 use Rattle.name_numbers.specs.Names.{Text, has_name, found, with_value}
 use Rattle.xt_model.specs.declared.code.Code.{Code}
@@ -17,10 +17,10 @@ use Rattle.verilog_net.specs.declared.netlist.PortRole.TheVariants as roles
 use Rattle.verilog_net.specs.Sorts.{is_name}
 use Rattle.verilog_net.specs.Nets.{Nets, NetBit, most_bit, value_after, number_of, has_bit, named_bit, same_range, joined_role, BitNets, has_bit_net, is_port}
 use Rattle.verilog_net.specs.Meaning.{State, nothing, begin_module, name_module, list_name, netlist_of, end_module, with_further, declare_again, declare_new}
-use Rattle.verilog_net.specs.Meaning.{declare_as, declare, left_as, left_bound, right_as, right_bound, begin_further, begin_instance, begin_pin, connect}
+use Rattle.verilog_net.specs.Meaning.{declare_as, declare, left_as, left_bound, right_as, right_bound, begin_further, begin_pin, connect}
 use Rattle.verilog_net.specs.Meaning.{connect_new, connect_found, connect_as, connect_name, connect_within, connect_bit_as, connect_bit, instance_of, end_instance}
 use Rattle.sound_reads.proofs.Bytes.{each_push}
-use Rattle.sound_reads.proofs.OwnNames.{Shape, shapes, IsBounded, AreFine, none_fine, further_fine, again_fine}
+use Rattle.sound_reads.proofs.OwnNames.{shapes, IsBounded, AreFine, none_fine, further_fine, again_fine}
 
 abbrev pub IsNamed : Text → Type 0
 IsNamed name = is_name name ≡ true
@@ -79,7 +79,12 @@ module _ (s s' : State) (h : IsFine s) where
 
   named_fine : (name : Text) (modules : List Text) → IsBetween s → IsFine (named name modules)
   named_fine name modules none = record {
-    ended = h.ended; nets = rw none (none_fine []); instances = h.instances; left = h.left; range = h.range; pins = h.pins;
+    ended = h.ended;
+    nets = rw none (none_fine []);
+    instances = h.instances;
+    left = h.left;
+    range = h.range;
+    pins = h.pins;
   }
 
   module_by : (name : Text) (modules : List Text) (b : Bool) → IsBetween s → (if b then Err V5 else Ok (named name modules)) ≡ Ok s' → IsFine s'
@@ -94,7 +99,12 @@ module _ (s s' : State) (h : IsFine s) where
   list_name_fine name e =
       let same : list_name name s ≡ s' = cc in
       let fine : IsFine (list_name name s) = record {
-        ended = h.ended; nets = h.nets; instances = h.instances; left = h.left; range = h.range; pins = h.pins;
+        ended = h.ended;
+        nets = h.nets;
+        instances = h.instances;
+        left = h.left;
+        range = h.range;
+        pins = h.pins;
       } in
       rw same at fine
 
@@ -107,8 +117,12 @@ module _ (s s' : State) (h : IsFine s) where
       let same : closed ≡ s' = cc in
       let whole : IsFineModule (netlist_of s) = record { nets = (s.bit_nets, h.nets); instances = h.instances } in
       let fine : IsFine closed = record {
-        ended = each_push IsFineModule s.ended (netlist_of s) h.ended whole; nets = none_fine s.bit_nets; instances = tt;
-        left = h.left; range = h.range; pins = h.pins;
+        ended = each_push IsFineModule s.ended (netlist_of s) h.ended whole;
+        nets = none_fine s.bit_nets;
+        instances = tt;
+        left = h.left;
+        range = h.range;
+        pins = h.pins;
       } in
       let all : IsFine closed × IsBetween closed = (fine, refl) in
       subst (λ x. IsFine x × IsBetween x) same all
@@ -134,7 +148,12 @@ module _ (s : State) (h : IsFine s) (s' : State) where
   renetted nets named fine e =
       let same : record s { nets = nets; bit_nets = named } ≡ s' = cc in
       let all : IsFine (record s { nets = nets; bit_nets = named }) = record {
-        ended = h.ended; nets = fine; instances = h.instances; left = h.left; range = h.range; pins = h.pins;
+        ended = h.ended;
+        nets = fine;
+        instances = h.instances;
+        left = h.left;
+        range = h.range;
+        pins = h.pins;
       } in
       rw same at all
 
@@ -185,7 +204,12 @@ module _ (s : State) (h : IsFine s) (s' : State) where
   left_by role (Some left) most e =
       let same : record s { role = role; left = left } ≡ s' = cc in
       let all : IsFine (record s { role = role; left = left }) = record {
-        ended = h.ended; nets = h.nets; instances = h.instances; left = most left refl; range = h.range; pins = h.pins;
+        ended = h.ended;
+        nets = h.nets;
+        instances = h.instances;
+        left = most left refl;
+        range = h.range;
+        pins = h.pins;
       } in
       rw same at all
 
@@ -204,7 +228,12 @@ module _ (s : State) (h : IsFine s) (s' : State) where
   right_by (Some right) most e =
       let same : record s { range = Some (s.left, right) } ≡ s' = cc in
       let all : IsFine (record s { range = Some (s.left, right) }) = record {
-        ended = h.ended; nets = h.nets; instances = h.instances; left = h.left; range = bounds s.left right h.left (most right refl); pins = h.pins;
+        ended = h.ended;
+        nets = h.nets;
+        instances = h.instances;
+        left = h.left;
+        range = bounds s.left right h.left (most right refl);
+        pins = h.pins;
       } in
       rw same at all
 
@@ -215,7 +244,12 @@ module _ (s : State) (h : IsFine s) (s' : State) where
 -- a name that is declared without a range
 pub scalar_fine : (s : State) → IsFine s → (role : PortRole) → IsFine (record s { role = role; range = None })
 scalar_fine s h role = record {
-  ended = h.ended; nets = h.nets; instances = h.instances; left = h.left; range = no_range; pins = h.pins;
+  ended = h.ended;
+  nets = h.nets;
+  instances = h.instances;
+  left = h.left;
+  range = no_range;
+  pins = h.pins;
 }
 
 -- ---- instances
@@ -229,7 +263,12 @@ module _ (s : State) (h : IsFine s) (s' : State) where
   further_by name line names false cell is e =
       let same : begun name line names ≡ s' = cc in
       let fine : IsFine (begun name line names) = record {
-        ended = h.ended; nets = h.nets; instances = h.instances; left = h.left; range = h.range; pins = h.pins;
+        ended = h.ended;
+        nets = h.nets;
+        instances = h.instances;
+        left = h.left;
+        range = h.range;
+        pins = h.pins;
       } in
       let all : IsFine (begun name line names) × IsInInstance (begun name line names) = (fine, (cell, is)) in
       subst (λ x. IsFine x × IsInInstance x) same all
@@ -247,7 +286,12 @@ module _ (s : State) (h : IsFine s) (s' : State) where
   pin_by name names false i is e =
       let same : pinned name names ≡ s' = cc in
       let fine : IsFine (pinned name names) = record {
-        ended = h.ended; nets = h.nets; instances = h.instances; left = h.left; range = h.range; pins = h.pins;
+        ended = h.ended;
+        nets = h.nets;
+        instances = h.instances;
+        left = h.left;
+        range = h.range;
+        pins = h.pins;
       } in
       let all : IsFine (pinned name names) × IsInPin (pinned name names) = (fine, (i.0, i.1, is)) in
       subst (λ x. IsFine x × IsInPin x) same all
@@ -263,7 +307,11 @@ module _ (s : State) (h : IsFine s) (s' : State) where
   connected wire i e =
       let same : connect wire s ≡ s' = cc in
       let fine : IsFine (connect wire s) = record {
-        ended = h.ended; nets = h.nets; instances = h.instances; left = h.left; range = h.range;
+        ended = h.ended;
+        nets = h.nets;
+        instances = h.instances;
+        left = h.left;
+        range = h.range;
         pins = each_push (λ p. IsNamed p.0) s.pins (s.pin, wire) h.pins i.2;
       } in
       let all : IsFine (connect wire s) × IsInInstance (connect wire s) = (fine, (i.0, i.1)) in
@@ -309,7 +357,10 @@ module _ (s : State) (h : IsFine s) (s' : State) where
   used_fine name is at none free = record {
     ended = h.ended;
     nets = further_fine name (record { range = None; role = roles.Inner; declared = false }) s.nets s.bit_nets h.nets is no_range at none free;
-    instances = h.instances; left = h.left; range = h.range; pins = h.pins;
+    instances = h.instances;
+    left = h.left;
+    range = h.range;
+    pins = h.pins;
   }
 
   no_bits : (name : Text) → has_bit_net name None s.bit_nets ≡ false
@@ -336,8 +387,12 @@ module _ (s : State) (h : IsFine s) (s' : State) where
       let same : end_instance s ≡ s' = cc in
       let whole : IsFineInstance (instance_of s) = record { cell = i.0; name = i.1; pins = h.pins } in
       let fine : IsFine (end_instance s) = record {
-        ended = h.ended; nets = h.nets; instances = each_push IsFineInstance s.instances (instance_of s) h.instances whole;
-        left = h.left; range = h.range; pins = tt;
+        ended = h.ended;
+        nets = h.nets;
+        instances = each_push IsFineInstance s.instances (instance_of s) h.instances whole;
+        left = h.left;
+        range = h.range;
+        pins = tt;
       } in
       let all : IsFine (end_instance s) × IsInInstance (end_instance s) = (fine, i) in
       subst (λ x. IsFine x × IsInInstance x) same all

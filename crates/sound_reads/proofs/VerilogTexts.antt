@@ -1,7 +1,6 @@
 -- The module of a netlist's text is fine.
-use Rattle.std.specs.Prelude.{◌≡◌, refl, ℕ, Bool, true, false, List, [], ◌∷◌, length, Option, Some, None, Result, Ok, Err, if◌then◌else◌}
+use Rattle.std.specs.Prelude.{◌≡◌, refl, ℕ, Bool, true, false, List, [], ◌∷◌, Option, Some, None, Result, Ok, Err, if◌then◌else◌}
 use Rattle.std.specs.List.{AllByRecursion}
-use Rattle.std.proofs.Common.{arith}
 use Rattle.text_forms.specs.Forms.{Token, Refusal, text_at, line_at}
 use Rattle.xt_lex.specs.Faults.{fault_of}
 use Rattle.xt_lex.specs.declared.fault.LexFault.{LexFault}
@@ -23,7 +22,7 @@ use Rattle.verilog_net.specs.Forms.{bit_given_forms, connected_forms, closed_for
 use Rattle.verilog_net.specs.Forms as grammar
 use Rattle.verilog_net.specs.Meaning.{State, nothing, means}
 use Rattle.verilog_net.specs.Reading.{rest_means, by_fault, text_state, modules_in, one_of, netlist_of_text}
-use Rattle.sound_reads.proofs.Texts.{Fit, FormKeeps, text_keeps}
+use Rattle.sound_reads.proofs.Texts.{FormKeeps, text_keeps}
 use Rattle.sound_reads.proofs.VerilogTokens as tokens
 use Rattle.sound_reads.proofs.VerilogTokens.{names_named}
 use Rattle.sound_reads.proofs.VerilogStates.{IsNamed, IsFine, IsFineModule, IsBetween, IsInInstance, IsInPin, nothing_fine, begin_module_is, name_module_fine}
@@ -149,7 +148,12 @@ module _ (context : Context) where
   says_instance cell name line is also s s' h e =
       let f = h.0 in
       let celled : IsFine (record s { cell = cell }) = record {
-        ended = f.ended; nets = f.nets; instances = f.instances; left = f.left; range = f.range; pins = f.pins;
+        ended = f.ended;
+        nets = f.nets;
+        instances = f.instances;
+        left = f.left;
+        range = f.range;
+        pins = f.pins;
       } in
       further_instance (record s { cell = cell }) celled s' name line is also e
 
@@ -187,9 +191,11 @@ says_bit ts s s' h e = connect_bit_fine s h.0 s' (text_at 0 ts) (text_at 2 ts) h
 declaration_keep : (word : Sort) (more : List NetlistForm) → AllOf contexts.Body more → AllOf contexts.Body (declaration_forms word more)
 declaration_keep word more rest = (
   two contexts.Body contexts.Declared word (λ a b line. grammar.Scalar (role_of a) b) (λ t u is. says_scalar contexts.Body (role_of t.text) u.text is),
-  (plain contexts.Body contexts.LeftBound (word ∷ sorts.LeftBracket ∷ sorts.Number ∷ []) (λ ts. grammar.Left (role_of (text_at 0 ts)) (text_at 2 ts))
-  (λ ts. says_left contexts.Body (role_of (text_at 0 ts)) (text_at 2 ts)),
-  rest),
+  (
+    plain contexts.Body contexts.LeftBound (word ∷ sorts.LeftBracket ∷ sorts.Number ∷ []) (λ ts. grammar.Left (role_of (text_at 0 ts)) (text_at 2 ts))
+        (λ ts. says_left contexts.Body (role_of (text_at 0 ts)) (text_at 2 ts)),
+    rest,
+  ),
 )
 
 -- an instance, or the end of the module
@@ -206,23 +212,35 @@ forms_keep contexts.Start = (
 )
 forms_keep contexts.Between = (
   plain contexts.Between contexts.ModuleName (sorts.Module ∷ []) (λ ts. grammar.ModuleBegins) (begins contexts.Between (λ s i. i)),
-  (quiet_keeps contexts.Between contexts.Done (sorts.End ∷ []) (λ s i. tt),
-  (refused_keeps contexts.Between (sorts.Unsupported ∷ []) _, tt)),
+  (
+    quiet_keeps contexts.Between contexts.Done (sorts.End ∷ []) (λ s i. tt),
+    (refused_keeps contexts.Between (sorts.Unsupported ∷ []) _, tt),
+  ),
 )
 forms_keep contexts.ModuleName =
     (one contexts.ModuleName contexts.Header (λ a. grammar.ModuleName a) (λ t is. says_module contexts.ModuleName (λ s i. i) t.text), tt)
 forms_keep contexts.Header = (
   quiet_keeps contexts.Header contexts.Body (sorts.Semicolon ∷ []) (λ s i. tt),
-  (two contexts.Header contexts.Listed sorts.LeftParen (λ a b line. grammar.Listed b) (λ t u is. says_listed contexts.Header u.text),
-  (refused_keeps contexts.Header (sorts.Direction ∷ []) _,
-  (refused_keeps contexts.Header (sorts.LeftParen ∷ sorts.Direction ∷ []) _, tt))),
+  (
+    two contexts.Header contexts.Listed sorts.LeftParen (λ a b line. grammar.Listed b) (λ t u is. says_listed contexts.Header u.text),
+    (
+      refused_keeps contexts.Header (sorts.Direction ∷ []) _,
+      (refused_keeps contexts.Header (sorts.LeftParen ∷ sorts.Direction ∷ []) _, tt),
+    ),
+  ),
 )
 forms_keep contexts.Listed = (
   two contexts.Listed contexts.Listed sorts.Comma (λ a b line. grammar.Listed b) (λ t u is. says_listed contexts.Listed u.text),
-  (quiet_keeps contexts.Listed contexts.Body (sorts.RightParen ∷ sorts.Semicolon ∷ []) (λ s i. tt),
-  (refused_keeps contexts.Listed (sorts.Direction ∷ []) _,
-  (refused_keeps contexts.Listed (sorts.Comma ∷ sorts.Direction ∷ []) _,
-  (refused_keeps contexts.Listed (sorts.RightParen ∷ sorts.Direction ∷ []) _, tt)))),
+  (
+    quiet_keeps contexts.Listed contexts.Body (sorts.RightParen ∷ sorts.Semicolon ∷ []) (λ s i. tt),
+    (
+      refused_keeps contexts.Listed (sorts.Direction ∷ []) _,
+      (
+        refused_keeps contexts.Listed (sorts.Comma ∷ sorts.Direction ∷ []) _,
+        (refused_keeps contexts.Listed (sorts.RightParen ∷ sorts.Direction ∷ []) _, tt),
+      ),
+    ),
+  ),
 )
 forms_keep contexts.Body = declaration_keep sorts.Direction (declaration_forms sorts.NetType instance_forms) (declaration_keep sorts.NetType instance_forms (
   names contexts.Body contexts.Opening (λ a b line. grammar.Instance a b line) (λ t u is also. says_instance contexts.Body t.text u.text u.line is also),
@@ -242,32 +260,52 @@ forms_keep contexts.Opening = (
 )
 forms_keep contexts.Pins = (
   plain contexts.Pins contexts.Closed (sorts.RightParen ∷ []) (λ ts. grammar.InstanceEnds) (says_ended contexts.Pins (λ s i. i)),
-  (two contexts.Pins contexts.Pin sorts.Dot (λ a b line. grammar.Pin b) (λ t u is. says_pin contexts.Pins (λ s i. i) u.text is),
-  (refused_keeps contexts.Pins (sorts.Name ∷ []) _,
-  (refused_keeps contexts.Pins (sorts.Constant ∷ []) _,
-  (refused_keeps contexts.Pins (sorts.LeftBrace ∷ []) _, tt)))),
+  (
+    two contexts.Pins contexts.Pin sorts.Dot (λ a b line. grammar.Pin b) (λ t u is. says_pin contexts.Pins (λ s i. i) u.text is),
+    (
+      refused_keeps contexts.Pins (sorts.Name ∷ []) _,
+      (
+        refused_keeps contexts.Pins (sorts.Constant ∷ []) _,
+        (refused_keeps contexts.Pins (sorts.LeftBrace ∷ []) _, tt),
+      ),
+    ),
+  ),
 )
 forms_keep contexts.Pin = (quiet_keeps contexts.Pin contexts.Connection (sorts.LeftParen ∷ []) (λ s i. i), tt)
 forms_keep contexts.Connection = (
   plain contexts.Connection contexts.Connected (sorts.RightParen ∷ []) (λ ts. grammar.NoConnection) says_open,
-  (plain contexts.Connection contexts.Connected (sorts.Constant ∷ sorts.RightParen ∷ []) (λ ts. grammar.Constant) says_constant,
-  (used contexts.Connection contexts.Connected (sorts.RightParen ∷ []) (λ a. grammar.Net a) (λ t is. says_net t.text is),
-  (plain contexts.Connection contexts.BitGiven (sorts.Name ∷ sorts.LeftBracket ∷ sorts.Number ∷ sorts.RightBracket ∷ [])
-  (λ ts. grammar.Bit (text_at 0 ts) (text_at 2 ts)) says_bit,
-  (refused_keeps contexts.Connection (sorts.Name ∷ sorts.LeftBracket ∷ sorts.Number ∷ sorts.Colon ∷ []) _,
-  (refused_keeps contexts.Connection (sorts.LeftBrace ∷ []) _, tt))))),
+  (
+    plain contexts.Connection contexts.Connected (sorts.Constant ∷ sorts.RightParen ∷ []) (λ ts. grammar.Constant) says_constant,
+    (
+      used contexts.Connection contexts.Connected (sorts.RightParen ∷ []) (λ a. grammar.Net a) (λ t is. says_net t.text is),
+      (
+        plain contexts.Connection contexts.BitGiven (sorts.Name ∷ sorts.LeftBracket ∷ sorts.Number ∷ sorts.RightBracket ∷ [])
+            (λ ts. grammar.Bit (text_at 0 ts) (text_at 2 ts)) says_bit,
+        (
+          refused_keeps contexts.Connection (sorts.Name ∷ sorts.LeftBracket ∷ sorts.Number ∷ sorts.Colon ∷ []) _,
+          (refused_keeps contexts.Connection (sorts.LeftBrace ∷ []) _, tt),
+        ),
+      ),
+    ),
+  ),
 )
 forms_keep contexts.BitGiven = (quiet_keeps contexts.BitGiven contexts.Connected (sorts.RightParen ∷ []) (λ s i. i), tt)
 forms_keep contexts.Connected = (
   plain contexts.Connected contexts.Closed (sorts.RightParen ∷ []) (λ ts. grammar.InstanceEnds) (says_ended contexts.Connected (λ s i. i)),
-  (three contexts.Connected contexts.Pin sorts.Comma sorts.Dot (λ a. grammar.Pin a) (λ t is. says_pin contexts.Connected (λ s i. i) t.text is),
-  (refused_keeps contexts.Connected (sorts.Comma ∷ sorts.Name ∷ []) _,
-  (refused_keeps contexts.Connected (sorts.Comma ∷ sorts.Constant ∷ []) _,
-  (refused_keeps contexts.Connected (sorts.Comma ∷ sorts.LeftBrace ∷ []) _, tt)))),
+  (
+    three contexts.Connected contexts.Pin sorts.Comma sorts.Dot (λ a. grammar.Pin a) (λ t is. says_pin contexts.Connected (λ s i. i) t.text is),
+    (
+      refused_keeps contexts.Connected (sorts.Comma ∷ sorts.Name ∷ []) _,
+      (
+        refused_keeps contexts.Connected (sorts.Comma ∷ sorts.Constant ∷ []) _,
+        (refused_keeps contexts.Connected (sorts.Comma ∷ sorts.LeftBrace ∷ []) _, tt),
+      ),
+    ),
+  ),
 )
 forms_keep contexts.Closed = (
   two contexts.Closed contexts.Opening sorts.Comma (λ a b line. grammar.FurtherInstance b line)
-  (λ t u is. says_further_instance contexts.Closed (λ s i. i) u.text u.line is),
+      (λ t u is. says_further_instance contexts.Closed (λ s i. i) u.text u.line is),
   (quiet_keeps contexts.Closed contexts.Body (sorts.Semicolon ∷ []) (λ s i. tt), tt),
 )
 forms_keep contexts.Done = tt
@@ -290,7 +328,7 @@ unfolding text_state
 text_fine single bytes s e =
     let read = unfaulted (fault_of Verilog bytes) (rest_means contexts.Start (netlist_tokens bytes) (nothing single)) s e in
     let end = text_keeps same_sort misfits forms means tokens.IsNamed Holds all_keep contexts.Start (netlist_tokens bytes) (nothing single) s
-        (names_named bytes) (nothing_fine single, refl) read in
+    (names_named bytes) (nothing_fine single, refl) read in
     end.2.0
 
 module_by : (r : Result State (Refusal Code)) (m : Netlist) → ((s : State) → r ≡ Ok s → IsFine s) → one_of (modules_in r) ≡ Ok m → IsFineModule m
