@@ -9,10 +9,10 @@ ghost use Rattle.chaos_core.specs.Memories.{IsKept, knowledge_of};
 
 use crate::board::Board;
 use crate::words::{pairs_of, push_numbers};
-use std::alloc::{AllocError, Global};
+use std::alloc::Global;
 use std::marker::Model;
 use std::snapshot::Snapshot;
-use xt_model::{Design, Direction, Windows};
+use xt_model::{Design, Direction, NoMemory, Windows};
 
 /// A board whose words nobody else can move. Its design and its start take no bytes.
 #[derive(Drop)]
@@ -49,7 +49,7 @@ impl MemoryBoard {
         design: &Design,
         direction: Direction,
         start: &Windows,
-    ) -> Result<MemoryBoard, AllocError>
+    ) -> Result<MemoryBoard, NoMemory>
         requires { IsFittingStart direction design.now start.now }
         ensures { IfOk result (λ board. board ≡ record {
           setting = record { design = design.now; way = direction; start = start.now };
@@ -57,9 +57,10 @@ impl MemoryBoard {
           next = 0;
         }) }
     {
-        let _nets = design.nets();
+        let pairs = start.pairs();
+        prove!(pairs.len() == design.nets().len());
         let mut words = Vec::new(alloc);
-        push_numbers(&mut words, start.pairs())?;
+        push_numbers(&mut words, pairs)?;
         Ok(MemoryBoard {
             words,
             next: 0,
@@ -78,7 +79,7 @@ impl MemoryBoard {
     }
 
     /// The windows whose bounds stand in the words. A run in the same direction can start at them.
-    pub fn windows(&self, alloc: Global) -> Result<Windows, AllocError>
+    pub fn windows(&self, alloc: Global) -> Result<Windows, NoMemory>
         ensures numbers { IfOk result (λ windows. numbers_of windows ≡ self.now.words) }
         ensures fits { IfOk result
             (λ windows. IsFittingStart self.now.setting.way self.now.setting.design windows) }

@@ -19,15 +19,15 @@ use crate::steps::worker_step;
 use crate::worker::Worker;
 use drawn_numbers::Source;
 use net_eval::ReadLists;
-use std::alloc::{AllocError, Global};
-use xt_model::{Design, Direction};
+use std::alloc::Global;
+use xt_model::{Design, Direction, NoMemory};
 
 /// So many idle workers.
 pub(crate) fn new_workers(
     alloc: Global,
     lists: &ReadLists,
     count: u32,
-) -> Result<Vec<Worker>, AllocError>
+) -> Result<Vec<Worker>, NoMemory>
     ensures count { IfOk result (λ workers. length workers.items ≡ count) }
     ensures rooms { IfOk result (λ workers. All (HasRoom lists.now) workers.items) }
 {
@@ -113,8 +113,7 @@ fn pick(
     ensures fits { All (IsFitting (knowledge_of board.new) lists.now) workers.new }
     ensures late { count_open (map task_of workers.new) ≤ (knowledge_of board.new).late }
 {
-    let _order = design.order();
-    let _words = board.words();
+    prove!(board.words().len() / 8 == design.nets().len());
     let number = source.draw(workers.len() as u64) as usize;
     let place = next_open(workers, number);
     worker_step(board, &mut workers[place], design, lists, direction);
@@ -147,7 +146,6 @@ pub(crate) fn round(
     }
     board.restart();
     reset_all(workers);
-    let _order = design.order();
     'picks: while any_open(workers) {
         pick(board, workers, design, lists, direction, source);
     }

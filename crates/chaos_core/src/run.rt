@@ -40,7 +40,6 @@ pub fn run_worker<B: Board>(
     ensures done { task_of worker.new ≡ done }
     ensures room { vec_capacity worker.new.loaded ≡ vec_capacity worker.old.loaded }
 {
-    let _order = design.order();
     'steps: while !is_done(worker) {
         worker_step(board, worker, design, lists, direction);
     }

@@ -39,8 +39,7 @@ pub fn run_schedule(
     ensures fits { All (IsFitting (knowledge_of board.new) lists.now) workers.new }
     ensures late { count_open (map task_of workers.new) ≤ (knowledge_of board.new).late }
 {
-    let _order = design.order();
-    let _words = board.words();
+    prove!(board.words().len() / 8 == design.nets().len());
     for pick in picks {
         worker_step(
             board,

@@ -19,8 +19,8 @@ use crate::round::{new_workers, round};
 use crate::worker::Worker;
 use drawn_numbers::Source;
 use net_eval::{ReadLists, closed};
-use std::alloc::{AllocError, Global};
-use xt_model::{Design, Direction, Windows};
+use std::alloc::Global;
+use xt_model::{Design, Direction, NoMemory, Windows};
 
 /// The windows in which a run ended, and the rounds that it made.
 #[derive(Debug, Drop)]
@@ -38,7 +38,7 @@ fn settle_on(
     lists: &ReadLists,
     direction: Direction,
     number: u64,
-) -> Result<Settled, AllocError>
+) -> Result<Settled, NoMemory>
     requires design { board.old.setting.design ≡ design.now }
     requires direction { board.old.setting.way ≡ direction }
     requires start { board.old.words ≡ numbers_of board.old.setting.start }
@@ -51,14 +51,13 @@ fn settle_on(
         → Settles board.old.setting lists.now order (length workers.old) number settled.windows settled.rounds) }
     ensures few { IfOk result (λ settled. (bound : ℕ) → IsRoundBound design.now.nets bound → settled.rounds ≤ bound) }
 {
-    let _bound = design.bound();
-    let _order = design.order();
     let mut source = Source::new(number);
     let mut windows = board.windows(alloc)?;
     let mut rounds: u64 = 0;
     'rounds: while !closed(design, &windows) {
         round(board, workers, design, lists, direction, &mut source);
         windows = board.windows(alloc)?;
+        prove!(rounds < design.bound());
         rounds += 1;
     }
     Ok(Settled { windows, rounds })
@@ -76,7 +75,7 @@ pub fn settle_picked(
     start: &Windows,
     workers: u32,
     number: u64,
-) -> Result<Settled, AllocError>
+) -> Result<Settled, NoMemory>
     requires start { IsFittingStart direction design.now start.now }
     requires lists { AreReadLists design.now lists.now }
     requires some { 1 ≤ workers }
@@ -89,7 +88,6 @@ pub fn settle_picked(
     ensures consistent { direction ≡ Narrow → IfOk result (λ settled. (xs : List Transition)
         → AreConsistent design.now xs → LieWithin (assigned settled.windows) xs) }
 {
-    let _order = design.order();
     let mut board = MemoryBoard::new(alloc, design, direction, start)?;
     let mut workers = new_workers(alloc, lists, workers)?;
     settle_on(

@@ -3,8 +3,8 @@ ghost use Rattle.net_eval.specs.ReadLists.{reads_of};
 ghost use Rattle.chaos_core.specs.Tasks.{task_of, idle};
 
 use net_eval::ReadLists;
-use std::alloc::{AllocError, Global};
-use xt_model::Pair;
+use std::alloc::Global;
+use xt_model::{NoMemory, Pair};
 
 /// What a worker is at: it loads the words of the read list of a net, or publishes the windows of a net, of which
 /// so many words are published.
@@ -35,13 +35,13 @@ pub struct Worker {
 
 impl Worker {
     /// An idle worker for these read lists.
-    pub fn new(alloc: Global, lists: &ReadLists) -> Result<Worker, AllocError>
+    pub fn new(alloc: Global, lists: &ReadLists) -> Result<Worker, NoMemory>
         ensures idle { IfOk result (λ worker. task_of worker ≡ idle) }
         ensures room { IfOk result (λ worker. (net : ℕ)
             → 8 * length (reads_of lists.now net) ≤ vec_capacity worker.loaded) }
     {
         let Some(room) = lists.longest().checked_mul(8) else {
-            return Err(AllocError);
+            return Err(NoMemory);
         };
         let loaded = Vec::with_capacity(alloc, room)?;
         Ok(Worker {

@@ -15,7 +15,8 @@ use Rattle.xt_model.specs.declared.net.NetId.{NetId}
 use Rattle.xt_model.specs.declared.net.TimingArc.{TimingArc}
 use Rattle.xt_model.specs.declared.net.Net.{Net}
 use Rattle.xt_model.specs.Parts.{Parts}
-use Rattle.xt_model.specs.Sound.{IsSoundNet, IsSoundArc}
+use Rattle.xt_model.specs.Sound.{IsSound, IsSoundNet, IsSoundArc}
+use Rattle.xt_model.specs.Levels.{AreOrdered}
 use Rattle.xt_meaning.specs.Reads.{IsAround, LooksAt, IsReadList}
 use Rattle.net_eval.specs.ReadLists.{ids, reads_of, AreReadLists, around, HasGained, HasLooked}
 use Rattle.net_eval.proofs.Steady.{has_sink}
@@ -180,8 +181,10 @@ lists_more d lists more reads own is e h =
       ];
     })
 
-pub lists_are : (d : Parts) (lists : List (List NetId)) (own : ℕ) → length d.nets ≤ own → own ≤ length d.nets → AreListsBefore d lists own → AreReadLists d lists
-lists_are d lists own past most h = record {
+pub lists_are : (d : Parts) (lists : List (List NetId)) (own : ℕ) → IsSound d → AreOrdered d.nets → length d.nets ≤ own → own ≤ length d.nets → AreListsBefore d lists own → AreReadLists d lists
+lists_are d lists own sound ordered past most h = record {
+  sound = sound;
+  ordered = ordered;
   count = omega (arith, h.count);
   each = λ n lt. h.each n (omega arith);
 }

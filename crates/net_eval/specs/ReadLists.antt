@@ -5,6 +5,8 @@ use Rattle.xt_model.specs.declared.net.NetId.{NetId}
 use Rattle.xt_model.specs.declared.net.TimingArc.{TimingArc}
 use Rattle.xt_model.specs.declared.net.Net.{Net}
 use Rattle.xt_model.specs.Parts.{Parts}
+use Rattle.xt_model.specs.Sound.{IsSound}
+use Rattle.xt_model.specs.Levels.{AreOrdered}
 use Rattle.xt_meaning.specs.Reads.{IsAround, LooksAt, IsReadList}
 
 -- the numbers of nets
@@ -15,8 +17,10 @@ ids nets = map (λ n. n.0) nets
 abbrev pub reads_of : List (List NetId) → ℕ → List NetId
 reads_of lists n = slice_index_or lists n []
 
--- a read list for each net
+-- a read list for each net of a design, which is sound and whose nets have an order
 pub record AreReadLists (d : Parts) (lists : List (List NetId)) : Type 0 where
+  pub sound : IsSound d
+  pub ordered : AreOrdered d.nets
   pub count : length lists ≡ length d.nets
   pub each : (n : ℕ) → n < length d.nets → IsReadList d n (ids (reads_of lists n))
 

@@ -7,7 +7,7 @@ ghost use Rattle.xt_meaning.specs.Reads.{IsReadList};
 ghost use Rattle.net_eval.specs.ReadLists.{AreReadLists, HasGained, HasLooked, around, ids, reads_of};
 
 use std::alloc::{AllocError, Global};
-use xt_model::{Design, Net, NetId, Row, TimingArc};
+use xt_model::{Design, Net, NetId, NoMemory, Row, TimingArc};
 
 /// For each net of a design the nets that the operator looks at for it, in order of number, each once.
 /// A net without arcs has an empty list.
@@ -118,7 +118,7 @@ fn read_list(alloc: Global, design: &Design, own: u32) -> Result<Row<NetId>, All
 
 /// The read list of each net, in one pass over the nets. Each list is gathered with its repeats, whose number
 /// the limit of reads bounds, and sorted.
-pub fn read_lists(alloc: Global, design: &Design) -> Result<ReadLists, AllocError>
+pub fn read_lists(alloc: Global, design: &Design) -> Result<ReadLists, NoMemory>
     ensures { IfOk result (λ lists. AreReadLists design.now lists) }
 {
     let mut lists = Vec::new(alloc);

@@ -9,9 +9,9 @@ use crate::texts::{CHAIN, CROSS, EMPTY, LOAD_PAIR, ONE};
 use chaos_core::settle_picked;
 use design_gen::generate;
 use net_eval::{ReadLists, read_lists};
-use std::alloc::{AllocError, Global};
+use std::alloc::Global;
 use std::test::Fail;
-use xt_model::{Design, Direction, Windows};
+use xt_model::{Design, Direction, NoMemory, Windows};
 
 /// Whether runs of so many workers end in these windows, for twenty numbers.
 fn end_alike(
@@ -22,7 +22,7 @@ fn end_alike(
     start: &Windows,
     workers: u32,
     end: &Windows,
-) -> Result<bool, AllocError>
+) -> Result<bool, NoMemory>
     requires start { IsFittingStart way design.now start.now }
     requires lists { AreReadLists design.now lists.now }
     requires some { 1 ≤ workers }
@@ -44,7 +44,7 @@ fn rounds_alike(
     lists: &ReadLists,
     way: Direction,
     start: &Windows,
-) -> Result<Option<u64>, AllocError>
+) -> Result<Option<u64>, NoMemory>
     requires start { IsFittingStart way design.now start.now }
     requires lists { AreReadLists design.now lists.now }
 {

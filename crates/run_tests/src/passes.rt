@@ -9,10 +9,10 @@ ghost use Rattle.xt_meaning.specs.Words.{bound_in, bounds_in, number_for, number
 use crate::starts::{low, read, top};
 use crate::texts::ONE;
 use net_eval::eval;
-use std::alloc::{AllocError, Global};
+use std::alloc::Global;
 use std::test::Fail;
 use window_words::SharedBoard;
-use xt_model::{Design, Direction, NetId, Pair, Windows};
+use xt_model::{Design, Direction, NetId, NoMemory, Pair, Windows};
 
 /// The number of the first word of a net with these windows.
 fn number_of(pair: &Pair) -> u64
@@ -28,14 +28,14 @@ fn first_number(design: &Design, start: &Windows) -> u64
     requires start { IsFittingStart Widen design.now start.now }
     ensures { IsBoundNoFurther Widen 0 (bound_in result) (onward design.now (bounds_in (numbers_of start.now)) 0) }
 {
-    let _nets = design.nets();
+    prove!(!design.nets().is_empty());
     let pair = eval(design, NetId(0), start);
     number_of(&pair)
 }
 
 /// What the first word is found to hold when a pass that was split off lowers it, by the first pass before and after
 /// that pass is joined, and in the end.
-fn found(alloc: Global, design: &Design, start: &Windows) -> Result<[u64; 4], AllocError>
+fn found(alloc: Global, design: &Design, start: &Windows) -> Result<[u64; 4], NoMemory>
     requires some { 0 < length design.now.nets }
     requires start { IsFittingStart Widen design.now start.now }
 {

@@ -14,7 +14,7 @@ use chaos_core::{MemoryBoard, Worker, run_schedule, settle_picked};
 use net_eval::{ReadLists, read_lists};
 use std::alloc::{AllocError, Global};
 use std::test::Fail;
-use xt_model::{Design, Direction, Pair, Quad, Windows};
+use xt_model::{Design, Direction, NoMemory, Pair, Quad, Windows};
 
 const QUIET: Pair = Pair {
     rise: Quad::BOTTOM,
@@ -46,7 +46,7 @@ fn picks(alloc: Global, digits: &[u8]) -> Result<Vec<u32>, AllocError>
 }
 
 /// Two idle workers.
-fn two_workers(alloc: Global, lists: &ReadLists) -> Result<Vec<Worker>, AllocError>
+fn two_workers(alloc: Global, lists: &ReadLists) -> Result<Vec<Worker>, NoMemory>
     ensures count { IfOk result (λ workers. length workers.items ≡ 2) }
     ensures idle { IfOk result (λ workers. All (λ worker. task_of worker ≡ idle) workers.items) }
     ensures rooms { IfOk result (λ workers. All (HasRoom lists.now) workers.items) }
@@ -64,7 +64,7 @@ fn torn(
     lists: &ReadLists,
     start: &Windows,
     digits: &[u8],
-) -> Result<Windows, AllocError>
+) -> Result<Windows, NoMemory>
     requires start { IsFittingStart Widen design.now start.now }
     requires lists { AreReadLists design.now lists.now }
     ensures { IfOk result (IsFittingStart Widen design.now) }

@@ -12,10 +12,10 @@ use crate::rule::{Draw, JoinAgain, Key, Load, Lower, Raise, Restart, SplitOff, W
 use crate::view::View;
 use atomic_table::{Seat, Table};
 use chaos_core::MemoryBoard;
-use std::alloc::{AllocError, Global};
+use std::alloc::Global;
 use std::marker::Model;
 use std::snapshot::Snapshot;
-use xt_model::{Design, Direction, Windows};
+use xt_model::{Design, Direction, NoMemory, Windows};
 
 /// Words that threads share: eight for each net, as `Board` of `chaos_core` says, and one from which numbers are
 /// drawn. Each call but `open` and `close` is one step on one word, and none waits for another thread.
@@ -59,7 +59,7 @@ impl SharedBoard {
         design: &Design,
         direction: Direction,
         start: &Windows,
-    ) -> Result<(SharedBoard, Pass), AllocError>
+    ) -> Result<(SharedBoard, Pass), NoMemory>
         requires start { IsFittingStart direction design.now start.now }
         ensures own { IfOk result (λ opened. IsOf opened.0 opened.1) }
         ensures first { IfOk result (λ opened. opened.1.view
@@ -179,7 +179,7 @@ impl SharedBoard {
     }
 
     /// The words, which are what the first pass has seen. Where there is no memory, the board and the pass are gone.
-    pub fn close(self, first: Pass) -> Result<Vec<u64>, AllocError>
+    pub fn close(self, first: Pass) -> Result<Vec<u64>, NoMemory>
         requires own { IsOf self first }
         requires alone { IsAlone first.view }
         ensures { IfOk result (λ words. words.items ≡ first.view.seen) }

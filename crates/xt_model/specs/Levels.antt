@@ -55,6 +55,10 @@ pub record IsOrderBy (nets : List Net) (levels order : List ℕ) : Type 0 where
 abbrev pub IsOrder : List Net → List ℕ → Type 0
 IsOrder nets order = (levels : List ℕ) × AreLevels nets levels × IsOrderBy nets levels order
 
+-- the nets have an order, as those of each design have
+abbrev pub AreOrdered : List Net → Type 0
+AreOrdered nets = (order : List ℕ) × IsOrder nets order
+
 -- net a has a coupling to net b
 abbrev pub CouplesTo : List Net → ℕ → ℕ → Type 0
 CouplesTo nets a b = (n : Net) × (k : Coupling) × (slice_get nets a ≡ Some n) × Contains n.couplings k × (k.to.0 ≡ b)

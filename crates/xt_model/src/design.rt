@@ -38,7 +38,7 @@ impl Design {
     ghost use Rattle.xt_model.specs.Miller.{IsMiller};
     ghost use Rattle.xt_model.specs.Parts.{Parts, classical_parts};
     ghost use Rattle.xt_model.specs.Sound.{IsSound, IsSoundNet};
-    ghost use Rattle.xt_model.specs.Levels.{AreLevelled, IsLoop, IsLevel, IsDepth, IsOrder, IsPairCount};
+    ghost use Rattle.xt_model.specs.Levels.{AreLevelled, AreOrdered, IsLoop, IsLevel, IsDepth, IsOrder, IsPairCount};
     ghost use Rattle.xt_model.specs.Build.{IsFaultOf, IsRoundBound};
 
     /// The design of these parts, whose couplings count by the classical factors, or the loop that their
@@ -151,6 +151,7 @@ impl Design {
         ensures value { result.now ≡ self.now.nets }
         ensures sound { IsSound self.now }
         ensures levelled { AreLevelled self.now.nets }
+        ensures ordered { AreOrdered self.now.nets }
     {
         self.parts.nets.as_slice()
     }

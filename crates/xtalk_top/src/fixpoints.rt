@@ -7,8 +7,8 @@ ghost use Rattle.xtalk_top.specs.Words.{IsWorkerCount};
 use chaos_core::settle_picked;
 use envelope::quiet;
 use net_eval::read_lists;
-use std::alloc::{AllocError, Global};
-use xt_model::{Design, Direction, Windows};
+use std::alloc::Global;
+use xt_model::{Design, Direction, NoMemory, Windows};
 
 /// Which worker makes a step when: how many workers a run has, from 1 to 64, and the number from which its source picks
 /// them.
@@ -38,7 +38,7 @@ pub fn least_and_greatest(
     design: &Design,
     top: Windows,
     picks: Picks,
-) -> Result<Fixpoints, AllocError>
+) -> Result<Fixpoints, NoMemory>
     requires start { IsFittingStart Narrow design.now top }
     requires workers { IsWorkerCount picks.workers }
     ensures least { IfOk result (λ found. IsLeastFixpoint design.now found.low) }

@@ -7,9 +7,9 @@ worker_step-requires-clause-late c = λ e. may_draw c.args.board.now c.args.work
 
 pub returns-clause-setting : goal.returns-clause-setting
 returns-clause-setting c =
-    let order = c.order-order.result.now in
+    let order = c.requires.lists.ordered.0 in
     one_setting c.args.design.now c.args.lists.now order c.args.board.now c.worker_step.new.board c.args.workers.now c.next_open-place.result c.index-workers-place.result c.worker_step.new.worker c.worker_step.result
-    c.requires.design c.next_open-place.ensures.inside (c.worker_step.ensures.step order c.order-order.ensures.value)
+    c.requires.design c.next_open-place.ensures.inside (c.worker_step.ensures.step order c.requires.lists.ordered.1)
 
 pub returns-clause-pick : goal.returns-clause-pick
 returns-clause-pick c = λ order o.
@@ -24,12 +24,12 @@ returns-clause-pick c = λ order o.
 
 pub returns-clause-fits : goal.returns-clause-fits
 returns-clause-fits c =
-    let order = c.order-order.result.now in
+    let order = c.requires.lists.ordered.0 in
     one_fits c.args.design.now c.args.lists.now order c.args.board.now c.worker_step.new.board c.args.workers.now c.next_open-place.result c.index-workers-place.result c.worker_step.new.worker c.worker_step.result
-    c.requires.design c.next_open-place.ensures.inside (c.worker_step.ensures.step order c.order-order.ensures.value) c.requires.lists c.order-order.ensures.value c.words-words.ensures.kept c.requires.fits c.worker_step.ensures.room
+    c.requires.design c.next_open-place.ensures.inside (c.worker_step.ensures.step order c.requires.lists.ordered.1) c.requires.lists c.requires.lists.ordered.1 c.words.ensures.kept c.requires.fits c.worker_step.ensures.room
 
 pub returns-clause-late : goal.returns-clause-late
 returns-clause-late c =
-    let order = c.order-order.result.now in
+    let order = c.requires.lists.ordered.0 in
     one_late c.args.design.now c.args.lists.now order c.args.board.now c.worker_step.new.board c.args.workers.now c.next_open-place.result c.index-workers-place.result c.worker_step.new.worker c.worker_step.result
-    c.requires.design c.next_open-place.ensures.inside (c.worker_step.ensures.step order c.order-order.ensures.value) c.requires.late
+    c.requires.design c.next_open-place.ensures.inside (c.worker_step.ensures.step order c.requires.lists.ordered.1) c.requires.late

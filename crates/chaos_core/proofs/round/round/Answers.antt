@@ -27,8 +27,8 @@ picks-init c =
 pub picks-smaller : goal.picks-smaller
 picks-smaller c =
     let a = c.args.board.now.setting in
-    let order = c.order-order.result.now in
-    let o = c.order-order.ensures.value in
+    let order = c.requires.lists.ordered.0 in
+    let o = c.requires.lists.ordered.1 in
     let inv = c.picks.invariant in
     let path = inv.path order o in
     let p = play_at c.picks.source.state c.picks.board c.picks.workers in

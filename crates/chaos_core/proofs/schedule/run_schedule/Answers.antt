@@ -10,12 +10,12 @@ pub worker_step-requires-clause-fits : goal.worker_step-requires-clause-fits
 worker_step-requires-clause-fits c =
     let b = c.args.board.now in
     let ls = c.args.lists.now in
-    let order = c.order-order.result.now in
-    let o = c.order-order.ensures.value in
+    let order = c.requires.lists.ordered.0 in
+    let o = c.requires.lists.ordered.1 in
     let inv = c.loop-pick.invariant in
     let picks = c.args.picks.now in
     let pick = get_or picks c.loop-pick.pick-index 0 in
-    let good = good_from b ls c.args.workers.now c.words-words.ensures.kept c.requires.fits in
+    let good = good_from b ls c.args.workers.now c.words.ensures.kept c.requires.fits in
     let inside : pick < length c.loop-pick.workers = let h = c.requires.picks c.loop-pick.pick-index 0 c.loop-pick-test.true in let n = inv.count in omega (arith, h, n) in
     turn_fits b.setting c.args.design.now ls order (state_of b c.args.workers.now) c.requires.design c.requires.lists o good c.loop-pick.board c.loop-pick.workers (take c.loop-pick.pick-index picks) inv.setting
     (inv.state order o) inv.rooms pick c.index-workers-pick.result inside
@@ -32,8 +32,8 @@ loop-pick-preserved c =
     let b = c.args.board.now in
     let d = c.args.design.now in
     let ls = c.args.lists.now in
-    let order = c.order-order.result.now in
-    let o = c.order-order.ensures.value in
+    let order = c.requires.lists.ordered.0 in
+    let o = c.requires.lists.ordered.1 in
     let inv = c.loop-pick.invariant in
     let picks = c.args.picks.now in
     let i = c.loop-pick.pick-index in
@@ -44,7 +44,7 @@ loop-pick-preserved c =
     let ws = c.loop-pick.workers in
     let y = c.index-workers-pick.result in
     let w = c.worker_step.new.worker in
-    let good = good_from b ls c.args.workers.now c.words-words.ensures.kept c.requires.fits in
+    let good = good_from b ls c.args.workers.now c.words.ensures.kept c.requires.fits in
     let inside : pick < length ws = let h = c.requires.picks i 0 c.loop-pick-test.true in let n = inv.count in omega (arith, h, n) in
     record {
       count = length-set ws pick w ∙ inv.count;
@@ -59,16 +59,16 @@ loop-pick-preserved c =
 pub returns-clause-kept : goal.returns-clause-kept
 returns-clause-kept c = λ order n o.
     let b = c.args.board.now in
-    let good = good_from b c.args.lists.now c.args.workers.now c.words-words.ensures.kept c.requires.fits in
+    let good = good_from b c.args.lists.now c.args.workers.now c.words.ensures.kept c.requires.fits in
     reached_by b.setting c.args.design.now c.args.lists.now order (state_of b c.args.workers.now) c.requires.design c.requires.lists o good (take n c.args.picks.now)
 
 pub returns-clause-fits : goal.returns-clause-fits
 returns-clause-fits c =
     let b = c.args.board.now in
     let ls = c.args.lists.now in
-    let order = c.order-order.result.now in
-    let o = c.order-order.ensures.value in
+    let order = c.requires.lists.ordered.0 in
+    let o = c.requires.lists.ordered.1 in
     let inv = c.loop-pick.invariant in
-    let good = good_from b ls c.args.workers.now c.words-words.ensures.kept c.requires.fits in
+    let good = good_from b ls c.args.workers.now c.words.ensures.kept c.requires.fits in
     turn_fits b.setting c.args.design.now ls order (state_of b c.args.workers.now) c.requires.design c.requires.lists o good c.loop-pick.board c.loop-pick.workers (take c.loop-pick.pick-index c.args.picks.now) inv.setting
     (inv.state order o) inv.rooms

@@ -17,8 +17,8 @@ rounds-smaller c =
     let a = c.args.board.now.setting in
     let b = c.rounds.board.setting in
     let d = c.args.design.now in
-    let order = c.order-order.result.now in
-    let o = c.order-order.ensures.value in
+    let order = c.requires.lists.ordered.0 in
+    let o = c.requires.lists.ordered.1 in
     let inv = c.rounds.invariant in
     let n = length c.args.workers.now in
     let p = pause_at c.rounds.source.state c.rounds.board in
@@ -41,8 +41,8 @@ rounds-preserved c =
     let p = pause_at c.rounds.source.state c.rounds.board in
     let q = pause_at c.round.new.source.state c.round.new.board in
     let own = c.round.ensures.setting ∙ inv.setting in
-    let mine = c.order-order.result.now in
-    let o = c.order-order.ensures.value in
+    let mine = c.requires.lists.ordered.0 in
+    let o = c.requires.lists.ordered.1 in
     let first = rounds_here a b lists mine m n p q inv.setting inv.count (c.round.ensures.round mine o) in
     let carry = carried a d lists mine n p q c.requires.design c.requires.some c.requires.lists o inv.kept first in
     record {
@@ -71,15 +71,15 @@ returns-clause-rounds c = λ order o.
 
 pub returns-clause-few : goal.returns-clause-few
 returns-clause-few c = λ bound b.
-    let order = c.order-order.result.now in
-    let o = c.order-order.ensures.value in
+    let order = c.requires.lists.ordered.0 in
+    let o = c.requires.lists.ordered.1 in
     let begin : Pause = record { source = c.args.number; words = c.args.board.now.words } in
     let end = pause_at c.rounds.source.state c.rounds.board in
     few_here c.args.board.now.setting c.args.design.now c.args.lists.now order (length c.args.workers.now) c.rounds.rounds bound begin end c.requires.design c.requires.some c.requires.lists o
     c.in_ok-windows.ensures.kept.words (c.rounds.invariant.path order o) b
 
-pub overflow_add-rounds : goal.overflow_add-rounds
-overflow_add-rounds c =
+pub prove-unreachable-requires : goal.prove-unreachable-requires
+prove-unreachable-requires c =
     let a = c.args.board.now.setting in
     let d = c.args.design.now in
     let lists = c.args.lists.now in
@@ -87,12 +87,14 @@ overflow_add-rounds c =
     let n = length c.args.workers.now in
     let p = pause_at c.rounds.source.state c.rounds.board in
     let q = pause_at c.round.new.source.state c.round.new.board in
-    let order = c.order-order.result.now in
-    let o = c.order-order.ensures.value in
+    let order = c.requires.lists.ordered.0 in
+    let o = c.requires.lists.ordered.1 in
     let begin : Pause = record { source = c.args.number; words = c.args.board.now.words } in
     let round = rounds_here a c.rounds.board.setting lists order (length c.rounds.workers) n p q inv.setting inv.count (c.round.ensures.round order o) in
     let longer = one_more a d lists order n c.rounds.rounds begin p q c.rounds.windows c.requires.design inv.fits.windows.in_range inv.numbers (λ h. both_ways c.closed.result c.rounds-test.true (c.closed.ensures.1 h))
     (inv.path order o) round in
-    let few = few_here a d lists order n (c.rounds.rounds + 1) c.bound-bound.result begin q c.requires.design c.requires.some c.requires.lists o c.in_ok-windows.ensures.kept.words longer c.bound-bound.ensures in
-    let most = c.bound-bound.type_inv in
-    omega (arith, few, most)
+    let few = few_here a d lists order n (c.rounds.rounds + 1) c.bound.result begin q c.requires.design c.requires.some c.requires.lists o c.in_ok-windows.ensures.kept.words longer c.bound.ensures in
+    omega (arith, few, c.if-prove.true)
+
+pub overflow_add-rounds : goal.overflow_add-rounds
+overflow_add-rounds c = let most = c.bound.type_inv in omega (arith, c.if-prove.false, most)

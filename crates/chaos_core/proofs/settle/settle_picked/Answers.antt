@@ -29,10 +29,10 @@ pub returns-clause-consistent : goal.returns-clause-consistent
 returns-clause-consistent c = λ narrow.
     let d = c.args.design.now in
     let within = c.requires.start.within in
-    let o = c.order-order.ensures.value in
+    let o = c.requires.lists.ordered.1 in
     IfOk-weaker
     c.settle_on.result
     (λ settled. IsExtremeFixpoint c.args.direction d settled.windows)
     (λ settled. (xs : List Transition) → AreConsistent d xs → LieWithin (assigned settled.windows) xs)
-    (λ settled h xs are. within_greatest d o.0 within.top settled.windows xs c.order-order.ensures.sound o.1 within.envelope (subst (λ (way : Direction). IsExtremeFixpoint way d settled.windows) narrow h) are)
+    (λ settled h xs are. within_greatest d o.0 within.top settled.windows xs c.requires.lists.sound o.1 within.envelope (subst (λ (way : Direction). IsExtremeFixpoint way d settled.windows) narrow h) are)
     c.settle_on.ensures.extreme

@@ -3,7 +3,7 @@ use Rattle.run_tests.proofs.FirstWord.{first_word}
 use Rattle.run_tests.proofs.passes.first_number.Goals as goal
 
 pub eval-pair-requires-clause-words : goal.eval-pair-requires-clause-words
-eval-pair-requires-clause-words c = windows_read c.args.design.now c.args.start.now 0 c.requires.start.windows.count c.nets-nets.ensures.sound c.requires.some
+eval-pair-requires-clause-words c = windows_read c.args.design.now c.args.start.now 0 c.requires.start.windows.count c.nets.ensures.sound c.requires.some
 
 pub eval-pair-requires-clause-room : goal.eval-pair-requires-clause-room
 eval-pair-requires-clause-room c = windows_within c.args.design.now c.args.start.now 0 c.requires.start.within
