@@ -45,26 +45,6 @@ fn push_edge(
     Ok(())
 }
 
-/// The entries in which an aggressor can do something.
-fn guilty_entries(
-    alloc: Global,
-    design: &Design,
-    low: &Windows,
-    high: &Windows,
-) -> Result<Vec<Guilt>, AllocError>
-    requires low { length low.now ≡ length design.now.nets }
-    requires high { length high.now ≡ length design.now.nets }
-    ensures { IfOk result (λ entries. entries.items ≡ guilty design.now low.now high.now) }
-{
-    let mut entries = Vec::new(alloc);
-    for number in 0..design.nets().len() {
-        let victim = NetId(number as u32);
-        push_edge(&mut entries, design, low, high, victim, Edge::Rise)?;
-        push_edge(&mut entries, design, low, high, victim, Edge::Fall)?;
-    }
-    Ok(entries)
-}
-
 /// The couplings whose aggressor can change the delay of an edge of the victim, in the least windows of a design or in
 /// its greatest, one pair a net: by victim, by edge, rise before fall, and by coupling. Takes time in proportion to the
 /// nets and the couplings. Fails only for want of memory.
@@ -79,8 +59,11 @@ pub fn guilty(
     ensures entries { IfOk result (λ entries. entries.items ≡ guilty design.now low.now high.now) }
     ensures there { IfOk result (λ entries. All (λ g. IsSome (coupling_of design.now g)) entries.items) }
 {
-    match guilty_entries(alloc, design, low, high) {
-        Ok(entries) => Ok(entries),
-        Err(_) => Err(NoMemory),
+    let mut entries = Vec::new(alloc);
+    for number in 0..design.nets().len() {
+        let victim = NetId(number as u32);
+        push_edge(&mut entries, design, low, high, victim, Edge::Rise)?;
+        push_edge(&mut entries, design, low, high, victim, Edge::Fall)?;
     }
+    Ok(entries)
 }

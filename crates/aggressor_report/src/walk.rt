@@ -12,24 +12,29 @@ ghost use Rattle.aggressor_report.specs.Paths.{IsPath, total};
 use crate::path::Path;
 use crate::step::last_step;
 use crate::window::bound_at;
-use std::alloc::{AllocError, Global};
+use std::alloc::Global;
 use xt_model::{Design, Edge, NetId, NoMemory, Row, Windows};
 
-/// The path to an edge of a net, found from its end on: a net of level 1 is a source.
-fn path_to(
+/// The path by which an edge of a net comes to the latest time of its window, or to the earliest, in windows that the
+/// operator gives back. It starts at a source, and at each net it takes the first arc in the net's list whose sum is
+/// the bound of the window there; a net of level 1 is a source. Takes time in proportion to the arcs of the nets along
+/// the path, each with the couplings of the net that it comes from. Fails only for want of memory.
+pub fn worst_path(
     alloc: Global,
     design: &Design,
     windows: &Windows,
     net: NetId,
     edge: Edge,
     late: bool,
-) -> Result<Path, AllocError>
+) -> Result<Path, NoMemory>
     requires net { net.0 < length design.now.nets }
     requires count { length windows.now ≡ length design.now.nets }
     requires within { IsWithinEnvelope design.now windows.now }
     requires closed { (n : ℕ) (e : Edge) → step design.now windows.now n e ≡ assigned windows.now n e }
     requires live { IsLive (assigned windows.now net.0 edge) }
-    ensures { IfOk result (λ p. IsPath late design.now (assigned windows.now) net.0 edge p) }
+    ensures path { IfOk result (λ p. IsPath late design.now (assigned windows.now) net.0 edge p) }
+    ensures sum { IfOk result
+        (λ p. (p.time +ℤ total p.steps) ≡ bound_of late (assigned windows.now net.0 edge)) }
 {
     prove!((net.0 as usize) < design.nets().len());
     let mut steps = Vec::new(alloc);
@@ -50,31 +55,4 @@ fn path_to(
         time: bound_at(windows, at, at_edge, late),
         steps: Row::from_vec(steps),
     })
-}
-
-/// The path by which an edge of a net comes to the latest time of its window, or to the earliest, in windows that the
-/// operator gives back. It starts at a source, and at each net it takes the first arc in the net's list whose sum is
-/// the bound of the window there. Takes time in proportion to the arcs of the nets along the path, each with the
-/// couplings of the net that it comes from. Fails only for want of memory.
-pub fn worst_path(
-    alloc: Global,
-    design: &Design,
-    windows: &Windows,
-    net: NetId,
-    edge: Edge,
-    late: bool,
-) -> Result<Path, NoMemory>
-    requires net { net.0 < length design.now.nets }
-    requires count { length windows.now ≡ length design.now.nets }
-    requires within { IsWithinEnvelope design.now windows.now }
-    requires closed { (n : ℕ) (e : Edge) → step design.now windows.now n e ≡ assigned windows.now n e }
-    requires live { IsLive (assigned windows.now net.0 edge) }
-    ensures path { IfOk result (λ p. IsPath late design.now (assigned windows.now) net.0 edge p) }
-    ensures sum { IfOk result
-        (λ p. (p.time +ℤ total p.steps) ≡ bound_of late (assigned windows.now net.0 edge)) }
-{
-    match path_to(alloc, design, windows, net, edge, late) {
-        Ok(path) => Ok(path),
-        Err(_) => Err(NoMemory),
-    }
 }

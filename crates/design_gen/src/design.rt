@@ -54,9 +54,8 @@ pub fn generate(alloc: Global, number: u64, nets: u32) -> Result<Design, NoMemor
     ensures design { IfOk result (λ d. d ≡ generated number nets) }
     ensures sound { IfOk result IsSound }
 {
-    let (Ok(tables), Ok(nets)) = (tables(alloc), all_nets(alloc, number, nets)) else {
-        return Err(NoMemory);
-    };
+    let tables = tables(alloc)?;
+    let nets = all_nets(alloc, number, nets)?;
     match Design::new(alloc, None, tables, nets, Vec::new(alloc)) {
         Ok(design) => Ok(design),
         Err(BuildFault::NoMemory) => Err(NoMemory),

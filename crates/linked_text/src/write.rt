@@ -82,8 +82,6 @@ pub fn write_linked(alloc: Global, design: &Design) -> Result<Vec<u8>, NoMemory>
     ensures { IfOk result (λ text. text.items ≡ text_of (linked design.now)) }
 {
     let mut out = Vec::new(alloc);
-    match push_linked(&mut out, design) {
-        Ok(()) => Ok(out),
-        Err(_) => Err(NoMemory),
-    }
+    push_linked(&mut out, design)?;
+    Ok(out)
 }

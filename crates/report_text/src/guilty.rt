@@ -10,7 +10,7 @@ use crate::fields::{push_cap, push_word};
 use aggressor_report::{Guilt, Mark, guilty};
 use std::alloc::{AllocError, Global};
 use text_lines::edge_word;
-use xt_model::{Coupling, Design, Windows};
+use xt_model::{Coupling, Design, NoMemory, Windows};
 
 /// The word of a mark.
 fn mark_word(mark: Mark) -> &'static [u8]
@@ -71,14 +71,13 @@ pub fn push_guilty(
     design: &Design,
     low: &Windows,
     high: &Windows,
-) -> Result<(), AllocError>
+) -> Result<(), NoMemory>
     requires low { length low.now ≡ length design.now.nets }
     requires high { length high.now ≡ length design.now.nets }
     ensures { let entries = guilty design.now low.now high.now in
         OnOk result (out.new.items ≡ out.old.items ++ text_of (map (guilty_line design.now) entries)) }
 {
-    let Ok(entries) = guilty(alloc, design, low, high) else {
-        return Err(AllocError);
-    };
-    push_lines(out, design, &entries)
+    let entries = guilty(alloc, design, low, high)?;
+    push_lines(out, design, &entries)?;
+    Ok(())
 }

@@ -49,7 +49,7 @@ fn push_guilty_of(
     design: &Design,
     low: &Windows,
     high: &Windows,
-) -> Result<(), AllocError>
+) -> Result<(), NoMemory>
     requires low { length low.now ≡ length design.now.nets }
     requires high { length high.now ≡ length design.now.nets }
     ensures { let entries = guilty design.now low.now high.now in
@@ -73,7 +73,7 @@ fn push_report(
     high: &Windows,
     checked: &Checked,
     kind: ReportKind,
-) -> Result<(), AllocError>
+) -> Result<(), NoMemory>
     requires pairs { IsPairCount design.now.nets pairs }
     requires levels { IsDepth design.now.nets levels }
     requires low { length low.now ≡ length design.now.nets }
@@ -114,10 +114,8 @@ pub fn write_report(
     let checked = Checked::of(alloc, design, low, high)?;
     let mut out = Vec::new(alloc);
     let (pairs, levels) = (design.pairs(), design.levels());
-    match push_report(
+    push_report(
         &mut out, alloc, design, pairs, levels, low, high, &checked, kind,
-    ) {
-        Ok(()) => Ok(out),
-        Err(_) => Err(NoMemory),
-    }
+    )?;
+    Ok(out)
 }

@@ -74,29 +74,6 @@ fn push_summary(
     Ok(())
 }
 
-/// The text of the summary.
-fn summary_text(
-    alloc: Global,
-    design: &Design,
-    low: &Windows,
-    high: &Windows,
-) -> Result<Vec<u8>, AllocError>
-    requires low { length low.now ≡ length design.now.nets }
-    requires high { length high.now ≡ length design.now.nets }
-    ensures { IfOk result (λ text. (pairs : ℕ) × (depth : ℕ)
-        × IsPairCount design.now.nets pairs × IsDepth design.now.nets depth
-        × (text.items ≡ text_of (summary design.now pairs depth low.now high.now))) }
-{
-    let edges = live_windows(alloc, design, low, high)?;
-    let Ok(entries) = guilty(alloc, design, low, high) else {
-        return Err(AllocError);
-    };
-    let mut out = Vec::new(alloc);
-    let (pairs, levels) = (design.pairs(), design.levels());
-    push_summary(&mut out, design, pairs, levels, &edges, entries.len())?;
-    Ok(out)
-}
-
 /// The summary of a design and of its least and greatest windows, one pair a net, as text in lines. Takes time and
 /// memory in proportion to the nets and the couplings.
 pub fn write_summary(
@@ -111,8 +88,10 @@ pub fn write_summary(
         × IsPairCount design.now.nets pairs × IsDepth design.now.nets depth
         × (text.items ≡ text_of (summary design.now pairs depth low.now high.now))) }
 {
-    match summary_text(alloc, design, low, high) {
-        Ok(text) => Ok(text),
-        Err(_) => Err(NoMemory),
-    }
+    let edges = live_windows(alloc, design, low, high)?;
+    let entries = guilty(alloc, design, low, high)?;
+    let mut out = Vec::new(alloc);
+    let (pairs, levels) = (design.pairs(), design.levels());
+    push_summary(&mut out, design, pairs, levels, &edges, entries.len())?;
+    Ok(out)
 }

@@ -176,8 +176,6 @@ pub fn slacks(
     ensures value { IfOk result (λ all. all.items ≡ slacks design.now low.now high.now) }
     ensures points { IfOk result (λ all. All (IsAtPoint design.now (assigned high.now)) all.items) }
 {
-    match all_slacks(alloc, design, low, high) {
-        Ok(all) => Ok(all),
-        Err(_) => Err(NoMemory),
-    }
+    let all = all_slacks(alloc, design, low, high)?;
+    Ok(all)
 }

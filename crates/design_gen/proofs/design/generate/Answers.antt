@@ -10,12 +10,12 @@ use Rattle.design_gen.proofs.design.generate.Goals as goal
 pub new-requires-2 : goal.new-requires-2
 new-requires-2 c =
     let s = sound c.args.number c.args.nets c.requires in
-    record { sound = rw (c.in-Ok-Ok.ensures, c.in-Ok-Ok.ensures', c.new.ensures.items) s }
+    record { sound = rw (c.in_ok-tables.ensures, c.in_ok-nets.ensures, c.new.ensures.items) s }
 
 pub unreachable-requires : goal.unreachable-requires
 unreachable-requires c =
-    let P : BuildFault → Type 0 = λ f. IsFaultOf c.in-Ok-Ok.nets.items f in
+    let P : BuildFault → Type 0 = λ f. IsFaultOf c.in_ok-nets.nets.items f in
     let Q : List Net → Type 0 = λ ns. IsLoop ns (map (λ n. n.0) c.in-Err-Loop.field-0-0) in
     let told = subst P c.in-Err-Loop.field-0-is c.in-Err-Loop.ensures.loops in
-    let loop = told_is_loop c.in-Ok-Ok.nets.items (map (λ n. n.0) c.in-Err-Loop.field-0-0) told in
-    no_loop c.args.number c.args.nets c.requires (map (λ n. n.0) c.in-Err-Loop.field-0-0) (subst Q c.in-Ok-Ok.ensures' loop)
+    let loop = told_is_loop c.in_ok-nets.nets.items (map (λ n. n.0) c.in-Err-Loop.field-0-0) told in
+    no_loop c.args.number c.args.nets c.requires (map (λ n. n.0) c.in-Err-Loop.field-0-0) (subst Q c.in_ok-nets.ensures loop)

@@ -1,8 +1,8 @@
 use Rattle.std.proofs.Common.{rules}
 use Rattle.report_text.proofs.report.write_report.Goals as goal
 
-pub returns-in-Ok : goal.returns-in-Ok
-returns-in-Ok c = record {
+pub returns : goal.returns
+returns c = record {
   pairs = c.pairs-pairs.result;
   depth = c.levels-levels.result;
   checked = c.in_ok-checked.checked;

@@ -5,6 +5,6 @@ use Rattle.slack_report.specs.Points.{IsAtPoint}
 use Rattle.slack_report.proofs.Placed.{all_placed}
 use Rattle.slack_report.proofs.slack.slacks.Goals as goal
 
-pub returns-in-Ok-clause-points : goal.returns-in-Ok-clause-points
-returns-in-Ok-clause-points c =
-    subst (All (IsAtPoint c.args.design.now (assigned c.args.high.now))) (sym c.in-Ok.ensures) (all_placed c.args.design.now (assigned c.args.low.now) (assigned c.args.high.now))
+pub returns-clause-points : goal.returns-clause-points
+returns-clause-points c =
+    subst (All (IsAtPoint c.args.design.now (assigned c.args.high.now))) (sym c.in_ok-all.ensures) (all_placed c.args.design.now (assigned c.args.low.now) (assigned c.args.high.now))

@@ -1,7 +1,7 @@
 use Rattle.std.proofs.Common.{◌≡◌, ◌++◌, drop}
 use Rattle.std.specs.List.{filter}
 use Rattle.aggressor_report.specs.Guilt.{net_entries, is_guilty}
-use Rattle.aggressor_report.proofs.entries.guilty_entries.Given as goal
+use Rattle.aggressor_report.proofs.entries.guilty.Given as goal
 
 abbrev pub invariant-loop-number : goal.invariant-loop-number
 invariant-loop-number l =

@@ -3,7 +3,7 @@ use Rattle.xt_model.specs.Levels.{IsLevel}
 use Rattle.xt_model.specs.Quads.{IsLive}
 use Rattle.xt_model.specs.Assign.{assigned}
 use Rattle.aggressor_report.specs.Paths.{Lead}
-use Rattle.aggressor_report.proofs.walk.path_to.Given as goal
+use Rattle.aggressor_report.proofs.walk.worst_path.Given as goal
 
 abbrev pub invariant-back : goal.invariant-back
 invariant-back l = record {
