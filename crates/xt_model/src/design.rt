@@ -70,6 +70,7 @@ impl Design {
     pub fn from_parts(alloc: Global, parts: DesignParts) -> Result<Design, BuildFault>
         requires sound { IsSound parts }
         ensures ok { IfOk result (λ d. d ≡ parts) }
+        ensures levelled { OnOk result (AreLevelled parts.nets) }
         ensures acyclic { OnOk result ((path : List ℕ) → IsLoop parts.nets path → ⊥) }
         ensures loops { IfErr result (IsFaultOf parts.nets) }
     {

@@ -11,6 +11,18 @@ use thiserror::Error;
 #[error("out of memory")]
 pub struct NoMemory;
 
+impl From<AllocError> for NoMemory {
+    fn from(_e: AllocError) -> NoMemory {
+        NoMemory
+    }
+}
+
+impl<T: Drop> From<AllocFailed<T>> for NoMemory {
+    fn from(_e: AllocFailed<T>) -> NoMemory {
+        NoMemory
+    }
+}
+
 /// Why parts make no design: their arcs make a loop, or memory was wanted and there was none. Each net
 /// of a loop has an arc from the next, and the last one from the first. Of several loops one is told: begin
 /// at the net of the least number from which one can go back along arcs without end, go back from each net
