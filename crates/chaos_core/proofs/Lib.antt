@@ -1,22 +1,22 @@
-pub mod Places
+mod Places
 pub mod Sight
-pub mod Loads
-pub mod Moves
-pub mod Stages
-pub mod LoadStep
-pub mod DrawStep
-pub mod Running
-pub mod Ends
+mod Loads
+mod Moves
+mod Stages
+mod LoadStep
+mod DrawStep
+mod Running
+mod Ends
 pub mod Kept
-pub mod Numbered
-pub mod Actions
-pub mod Passing
-pub mod Carrying
-pub mod Picks
-pub mod Countdown
-pub mod Starting
-pub mod Turns
-pub mod Workers
-pub mod Chained
-pub mod Settling
-pub mod OnlyWorker
+mod Numbered
+mod Actions
+mod Passing
+mod Carrying
+mod Picks
+mod Countdown
+mod Starting
+mod Turns
+mod Workers
+mod Chained
+mod Settling
+mod OnlyWorker

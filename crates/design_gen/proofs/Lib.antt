@@ -1,7 +1,7 @@
-pub mod Sums
-pub mod PinLaws
-pub mod CoupleLaws
-pub mod NetLaws
+mod Sums
+mod PinLaws
+mod CoupleLaws
+mod NetLaws
 pub mod Soundness
-pub mod RowLaws
-pub mod DrawnLaws
+mod RowLaws
+mod DrawnLaws

@@ -1,12 +1,12 @@
-pub mod Bools
-pub mod OrderLaws
-pub mod MeetLaws
-pub mod LinkLaws
-pub mod Walking
-pub mod Rows
-pub mod PathLaws
-pub mod SumLaws
-pub mod GatherLaws
-pub mod QuarterLaws
-pub mod FormLaws
-pub mod UniqueLaws
+mod Bools
+mod OrderLaws
+mod MeetLaws
+mod LinkLaws
+mod Walking
+mod Rows
+mod PathLaws
+mod SumLaws
+mod GatherLaws
+mod QuarterLaws
+mod FormLaws
+mod UniqueLaws

@@ -1,3 +1,3 @@
-pub mod Blocks
-pub mod Counts
+mod Blocks
+mod Counts
 pub mod Short

@@ -1,1 +1,1 @@
-pub mod NamesLaws
+mod NamesLaws

@@ -1,3 +1,3 @@
-pub mod NameLaws
-pub mod NumberLaws
-pub mod TableLaws
+mod NameLaws
+mod NumberLaws
+mod TableLaws

@@ -1,1 +1,1 @@
-pub mod NumberForms
+mod NumberForms

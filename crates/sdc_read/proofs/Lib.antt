@@ -1,2 +1,2 @@
-pub mod Over
-pub mod PortLaws
+mod Over
+mod PortLaws

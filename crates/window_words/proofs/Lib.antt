@@ -1,9 +1,9 @@
-pub mod Totals
-pub mod Views
-pub mod Alone
-pub mod Moving
-pub mod Opening
-pub mod Drawing
-pub mod Parting
-pub mod Calls
-pub mod Holding
+mod Totals
+mod Views
+mod Alone
+mod Moving
+mod Opening
+mod Drawing
+mod Parting
+mod Calls
+mod Holding

@@ -1,6 +1,6 @@
-pub mod Skip
-pub mod Spans
-pub mod Plain
-pub mod Inline
-pub mod Open
-pub mod Quotes
+mod Skip
+mod Spans
+mod Plain
+mod Inline
+mod Open
+mod Quotes

@@ -1,16 +1,16 @@
 mod LinkedFaults
-pub mod Pieces
-pub mod Within
-pub mod Lifts
-pub mod Agreement
-pub mod Arguments
-pub mod Steps
-pub mod Once
-pub mod Matches
-pub mod Builds
-pub mod Cuts
-pub mod Digits
-pub mod Accepted
-pub mod Given
+mod Pieces
+mod Within
+mod Lifts
+mod Agreement
+mod Arguments
+mod Steps
+mod Once
+mod Matches
+mod Builds
+mod Cuts
+mod Digits
+mod Accepted
+mod Given
 mod Jobs
-pub mod Counts
+mod Counts
