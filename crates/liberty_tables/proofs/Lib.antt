@@ -1,3 +1,4 @@
 mod NameLaws
 mod NumberLaws
+mod PlainLaws
 mod TableLaws

@@ -1,5 +1,5 @@
 -- Tables: indexes that increase, values that are turned, and tables without a fault.
-use Rattle.std.proofs.Common.{◌≡◌, refl, ap, sym, ◌∙◌, ℕ, zero, suc, ◌+◌, ◌*◌, ◌<◌, ◌≤◌, List, [], ◌∷◌, ◌++◌, length, map, get_or, suc-mul, append_assoc, subst, arith}
+use Rattle.std.proofs.Common.{◌≡◌, refl, ap, ◌∙◌, ℕ, zero, suc, ◌+◌, ◌*◌, ◌<◌, List, [], ◌∷◌, ◌++◌, length, map, get_or, suc-mul, append_assoc, arith}
 use Rattle.std.proofs.lemmas.Bool.Decides.{nat_tests}
 use Rattle.std.proofs.lemmas.Float.{T_from_true}
 use Rattle.std.proofs.lemmas.Int.{ints}
@@ -7,8 +7,8 @@ use Rattle.std.proofs.lemmas.List.{append-nil, length-append}
 use Rattle.std.proofs.lemmas.List.Concat.{flat_map-append}
 use Rattle.std.proofs.lemmas.List.FromFn.{map-range_with_len_more, length-map-range_with_len}
 use Rattle.std.specs.Prelude.{Bool, true, false, not, ◌&&◌, nat_lt, ◌==◌, if◌then◌else◌, flat_map, ℤ, pos, int_lt, ◌<ℤ◌, Option, Some, None}
-use Rattle.std.specs.List.{All, slice_index_or, range_with_len}
-use Rattle.xt_model.specs.Tables.{TableParts, IsRising, IsIndex, IsTableNumber, IsTable}
+use Rattle.std.specs.List.{All, range_with_len}
+use Rattle.xt_model.specs.Tables.{IsIndex, IsTableNumber, IsTable}
 use Rattle.liberty_tables.specs.declared.axis.Index.{Index}
 use Rattle.liberty_tables.specs.declared.axis.Axis.{Axis}
 use Rattle.liberty_tables.specs.declared.axis.Axes.{Axes}

@@ -1,6 +1,6 @@
 -- The bytes of a Liberty text: words, strings, and what stands in them.
 use Rattle.std.specs.Prelude.{ℕ, Bool, true, false, not, ◌&&◌, ◌||◌, nat_le, List, [], ◌∷◌, ◌++◌, length, ◌==◌}
-use Rattle.std.specs.Prelude.{Option, Some, None, if◌then◌else◌}
+use Rattle.std.specs.Prelude.{if◌then◌else◌}
 use Rattle.std.specs.Char.{is_ascii_graphic}
 use Rattle.std.specs.List.{slice_range, list_all}
 use Rattle.xt_lex.specs.Bytes.{is_white}
@@ -18,6 +18,16 @@ unquoted kept [] = []
 unquoted true (b ∷ more) = (if b == 10 then 32 else b) ∷ unquoted false more
 unquoted false (b ∷ more) =
     if b == 34 then [] else if b == 92 then unquoted true more else b ∷ unquoted false more
+
+-- whether a backslash stands in a string, behind its opening quote and before the closing one
+abbrev pub has_escape : List ℕ → Bool
+has_escape [] = false
+has_escape (b ∷ more) = if b == 34 then false else if b == 92 then true else has_escape more
+
+-- whether a word or a string holds other bytes than those that stand there
+abbrev pub is_changed : List ℕ → Bool
+is_changed [] = false
+is_changed (b ∷ more) = if b == 34 then has_escape more else false
 
 -- what a word or a string holds
 unfoldable pub held_by : List ℕ → List ℕ

@@ -1,5 +1,5 @@
 -- Numbers in words and strings.
-use Rattle.std.specs.Prelude.{ℕ, List, [], ◌∷◌, ◌++◌, flat_map, ℤ, Option, Some, None, Result, Ok, Err}
+use Rattle.std.specs.Prelude.{ℕ, List, [], ◌∷◌, ◌++◌, flat_map, ℤ, Option, Some, None, Result, Ok}
 use Rattle.name_numbers.specs.Names.{Text}
 use Rattle.xt_number.specs.Value.{fixed}
 use Rattle.liberty_groups.specs.Trees.{Entry}

@@ -2,7 +2,6 @@
 use Rattle.std.specs.Prelude.{ℕ, Bool, true, false, List, [], ◌∷◌, map, filter, Option, Some, None, if◌then◌else◌}
 use Rattle.std.specs.Str.{bytes_eq}
 use Rattle.name_numbers.specs.Names.{Text}
-use Rattle.liberty_groups.specs.declared.span.Span.{Span}
 use Rattle.liberty_groups.specs.declared.group.Group.{Group}
 use Rattle.liberty_groups.specs.Trees.{Entry, Tree, tree_of, head_of, attributes_of, groups_of}
 use Rattle.liberty_tables.specs.Contents.{text_in, content}

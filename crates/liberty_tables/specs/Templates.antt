@@ -1,10 +1,10 @@
 -- The templates of tables that a library declares.
-use Rattle.std.specs.Prelude.{ℕ, Bool, true, false, List, [], ◌∷◌, codes, Option, Some, None, Ok, Err}
+use Rattle.std.specs.Prelude.{ℕ, Bool, true, false, List, [], codes, Option, Some, None, Ok, Err}
 use Rattle.std.specs.Prelude.{if◌then◌else◌}
 use Rattle.std.specs.Str.{bytes_eq}
 use Rattle.name_numbers.specs.Names.{Text, found, with_value}
 use Rattle.xt_model.specs.declared.code.Code.TheVariants.{L1}
-use Rattle.liberty_groups.specs.Trees.{Entry, Tree, head_of}
+use Rattle.liberty_groups.specs.Trees.{Tree, head_of}
 use Rattle.liberty_tables.specs.declared.units.Scales.{Scales}
 use Rattle.liberty_tables.specs.declared.axis.Axis.{Axis}
 use Rattle.liberty_tables.specs.declared.axis.Axes.{Axes}

@@ -1,10 +1,11 @@
 //! The bytes of a Liberty text: words, strings, and what they hold.
 
-ghost use Rattle.std.specs.Prelude.{◌≡◌, IfOk, map, option_map, false};
-ghost use Rattle.liberty_tables.specs.Contents.{text_in, unquoted, held_by, content};
+ghost use Rattle.std.specs.Prelude.{◌≡◌, IfOk, MatchOption, map, option_map, true, false};
+ghost use Rattle.liberty_tables.specs.Contents.{text_in, unquoted, has_escape, is_changed, held_by, content};
 ghost use Rattle.liberty_tables.specs.Search.{only};
 
 use liberty_groups::Span;
+use memchr::memchr2;
 use std::alloc::{AllocError, Global};
 
 /// The bytes at a place of a text.
@@ -39,6 +40,34 @@ fn unquoted(alloc: Global, string: &[u8]) -> Result<Vec<u8>, AllocError>
         rest = more;
     }
     Ok(held)
+}
+
+/// What a string without a backslash holds, by the bytes behind its opening quote: those before the closing one.
+fn plain_string(string: &[u8]) -> Option<&[u8]>
+    ensures { MatchOption result (has_escape string.now ≡ true) (λ held. held.now ≡ unquoted false string.now) }
+{
+    match memchr2(b'"', b'\\', string) {
+        None => Some(string),
+        Some(place) => {
+            if string[place] == b'"' {
+                let (held, _) = string.split_at(place);
+                Some(held)
+            } else {
+                None
+            }
+        }
+    }
+}
+
+/// What a word or a string holds, where it is a part of the text as it stands.
+#[tactic(auto, unfolding(crate::specs::Contents::held_by))]
+pub fn plain(bytes: &[u8]) -> Option<&[u8]>
+    ensures { MatchOption result (is_changed bytes.now ≡ true) (λ held. held.now ≡ held_by bytes.now) }
+{
+    match bytes {
+        [b'"', more @ ..] => plain_string(more),
+        _ => Some(bytes),
+    }
 }
 
 /// What a word or a string holds.

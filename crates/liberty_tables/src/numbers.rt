@@ -8,7 +8,7 @@ ghost use Rattle.liberty_groups.specs.Trees.{entry_of};
 ghost use Rattle.liberty_tables.specs.Contents.{content, numbers_in};
 ghost use Rattle.liberty_tables.specs.Numbers.{all_fixed, behind, numbers_of};
 
-use crate::contents::content;
+use crate::contents::{content, plain, text_in};
 use crate::items::first_item;
 use liberty_groups::{Attribute, Span};
 use std::alloc::{AllocError, Global};
@@ -120,6 +120,9 @@ fn add_value(
     ensures { IfOk result (λ all. behind numbers.old (all_fixed scale (numbers_in (content bytes.now value)))
         ≡ (if all then Some numbers.new else None)) }
 {
+    if let Some(text) = plain(text_in(bytes, value)) {
+        return add_numbers(scale, text, numbers);
+    }
     let text = content(alloc, bytes, value)?;
     add_numbers(scale, text.as_slice(), numbers)
 }

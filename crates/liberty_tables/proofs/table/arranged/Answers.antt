@@ -1,6 +1,4 @@
-use Rattle.std.proofs.Common.{◌≡◌, sym, rules, ap, ◌∙◌, length, ◌*◌, List}
-use Rattle.std.specs.Prelude.{ℤ}
-use Rattle.liberty_tables.specs.Tables.{by_columns}
+use Rattle.std.proofs.Common.{◌≡◌, ap, ◌∙◌, length, ◌*◌}
 use Rattle.liberty_tables.proofs.TableLaws.{made, turned_length}
 use Rattle.liberty_tables.proofs.table.arranged.Goals as goal
 
