@@ -371,8 +371,9 @@ impl<'a> Progress<'a> {
     {
         let cell = Name::copied(alloc, self.cell)?;
         let name = Name::copied(alloc, self.instance)?;
-        let mut pins = mem::replace(&mut self.pins, Vec::new(alloc));
-        pins.shrink_to(0);
+        // A list of just their number: to shrink the other one would leave a hole behind each instance.
+        let mut pins = Vec::with_capacity(alloc, self.pins.len())?;
+        pins.append(&mut self.pins)?;
         self.instances.push(Instance {
             cell,
             name,
