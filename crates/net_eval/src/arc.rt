@@ -7,9 +7,9 @@ ghost use Rattle.xt_meaning.specs.Operator.{Range, contribution_by};
 ghost use Rattle.net_eval.specs.Arcs.{joined, wire_of};
 ghost use Rattle.net_eval.specs.Room.{FitsWire};
 
-use crate::ranges::{arrival, slew_behind, slew_range};
+use crate::ranges::{arrival, as_slew, slew_behind};
 use miller_bits::Victim;
-use table_box::range;
+use table_box::both_ranges;
 use xt_model::{Bounds, Design, Edge, Quad, TimingArc};
 
 /// Whether two edges are the same.
@@ -52,14 +52,8 @@ fn contribution(
     let least_slew = slew_behind(input.slo, wire.0);
     let most_slew = slew_behind(input.shi, wire.1);
     let tables = design.tables();
-    let delays = range(
+    let (delays, slews) = both_ranges(
         &tables[arc.delay as usize],
-        least_slew,
-        most_slew,
-        load.0,
-        load.1,
-    );
-    let slews = slew_range(
         &tables[arc.slew as usize],
         least_slew,
         most_slew,
@@ -69,8 +63,8 @@ fn contribution(
     Quad {
         tlo: arrival(input.tlo, wire.0, delays.0),
         thi: arrival(input.thi, wire.1, delays.1),
-        slo: slews.0,
-        shi: slews.1,
+        slo: as_slew(slews.0),
+        shi: as_slew(slews.1),
     }
 }
 

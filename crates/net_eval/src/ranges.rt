@@ -4,32 +4,15 @@ ghost use Rattle.std.specs.Prelude.{◌≡◌, ◌^◌, pos, neg_ℤ, ◌+ℤ◌
 ghost use Rattle.std.specs.Int.{int_max};
 ghost use Rattle.xt_model.specs.Sound.{IsSlew, IsTime};
 ghost use Rattle.xt_model.specs.Tables.{IsTableNumber};
-ghost use Rattle.xt_meaning.specs.Lookup.{greatest_over, least_over, slew_value};
 ghost use Rattle.xt_meaning.specs.Wires.{slew_growth};
 
-use table_box::range;
-use xt_model::Table;
-
 /// A value of a slew table as a slew: one below 0 counts as 0.
-fn as_slew(value: i64) -> i64
+pub(crate) fn as_slew(value: i64) -> i64
     requires { IsTableNumber value }
     ensures value { result ≡ int_max (pos 0) value }
     ensures slew { IsSlew result }
 {
     value.max(0)
-}
-
-/// The least and the greatest slew that a slew table gives over a box.
-pub(crate) fn slew_range(table: &Table, s0: i64, s1: i64, c0: i64, c1: i64) -> (i64, i64)
-    requires slews { s0 ≤ℤ s1 }
-    requires loads { c0 ≤ℤ c1 }
-    ensures least { result.0 ≡ least_over (slew_value table.now) (record { s0 = s0; s1 = s1; c0 = c0; c1 = c1 }) }
-    ensures greatest { result.1 ≡ greatest_over (slew_value table.now) (record { s0 = s0; s1 = s1; c0 = c0; c1 = c1 }) }
-    ensures least_slew { IsSlew result.0 }
-    ensures greatest_slew { IsSlew result.1 }
-{
-    let (least, greatest) = range(table, s0, s1, c0, c1);
-    (as_slew(least), as_slew(greatest))
 }
 
 /// A slew behind a wire of this delay: it grows by 11/5 of the delay.

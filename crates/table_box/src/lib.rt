@@ -9,5 +9,5 @@ mod stretch;
 mod tests;
 mod values;
 
-pub use ranges::range;
+pub use ranges::{both_ranges, range};
 pub use values::at;

@@ -1,4 +1,4 @@
-ghost use Rattle.std.specs.Prelude.{◌≡◌, ◌≤ℤ◌, length};
+ghost use Rattle.std.specs.Prelude.{◌≡◌, ◌≤ℤ◌, length, IsTrue};
 ghost use Rattle.std.specs.Int.{int_min, int_max};
 ghost use Rattle.xt_model.specs.Tables.{IsTable, IsTableNumber};
 ghost use Rattle.xt_meaning.specs.Lookup.{greatest_over, least_over, span_of, table_value, value_in};
@@ -6,6 +6,7 @@ ghost use Rattle.table_box.specs.Spans.{IsSpan, span_in};
 ghost use Rattle.table_box.specs.Stretches.{IsStretch, box_of};
 ghost use Rattle.table_box.specs.Rows.{row_least, row_greatest};
 ghost use Rattle.table_box.specs.Mixes.{AreBeside};
+ghost use Rattle.table_box.specs.Ranges.{IsRange};
 
 use crate::place::Place;
 use crate::stretch::Stretch;
@@ -101,6 +102,21 @@ fn box_range(table: &Table, slews: &Stretch, loads: &Stretch) -> (i64, i64)
     range
 }
 
+/// Whether two axes have the same grid lines.
+fn are_same_lines(a: &[i64], b: &[i64]) -> bool
+    ensures { IsTrue result → a.now ≡ b.now }
+{
+    a == b
+}
+
+/// Whether two tables have the same axes.
+fn have_same_axes(a: &Table, b: &Table) -> bool
+    ensures axes { IsTrue result → (a.now.slews ≡ b.now.slews) × (a.now.loads ≡ b.now.loads) }
+    ensures table { IsTable b.now }
+{
+    are_same_lines(a.slews(), b.slews()) && are_same_lines(a.loads(), b.loads())
+}
+
 /// The least and the greatest value of a table over every whole slew from `s0` to `s1` fs and every whole load
 /// from `c0` to `c1` aF. It looks at the ends of the box and the grid lines within: at four values for a box
 /// in one cell, and at (k + 2)·(l + 2) where k slews and l loads of the index lie within.
@@ -116,4 +132,28 @@ pub fn range(table: &Table, s0: i64, s1: i64, c0: i64, c1: i64) -> (i64, i64)
     let slews = Stretch::of(table.slews(), s0, s1);
     let loads = Stretch::of(table.loads(), c0, c1);
     box_range(table, &slews, &loads)
+}
+
+/// The ranges of two tables over one box, as `range` gives them. Where both have the same axes, the box is looked up
+/// once.
+pub fn both_ranges(
+    a: &Table,
+    b: &Table,
+    s0: i64,
+    s1: i64,
+    c0: i64,
+    c1: i64,
+) -> ((i64, i64), (i64, i64))
+    requires slews { s0 ≤ℤ s1 }
+    requires loads { c0 ≤ℤ c1 }
+    ensures first { IsRange a.now (record { s0 = s0; s1 = s1; c0 = c0; c1 = c1 }) result.0 }
+    ensures second { IsRange b.now (record { s0 = s0; s1 = s1; c0 = c0; c1 = c1 }) result.1 }
+{
+    let slews = Stretch::of(a.slews(), s0, s1);
+    let loads = Stretch::of(a.loads(), c0, c1);
+    let first = box_range(a, &slews, &loads);
+    if have_same_axes(a, b) {
+        return (first, box_range(b, &slews, &loads));
+    }
+    (first, range(b, s0, s1, c0, c1))
 }

@@ -3,22 +3,11 @@ use Rattle.std.specs.Prelude.{Some}
 use Rattle.std.specs.List.{slice_get}
 use Rattle.std.proofs.lemmas.Int.{ints}
 use Rattle.xt_meaning.proofs.Order.{ordered_from_live}
-use Rattle.net_eval.proofs.Contributions.{slews_ordered, contribution_is, kept_mag, kept_time, kept_slew, kept_number, kept_wire, table_at}
+use Rattle.net_eval.proofs.Contributions.{slews_ordered, slew_least, slew_greatest, contribution_is, kept_mag, kept_time, kept_slew, kept_number, kept_wire, table_at}
 use Rattle.net_eval.proofs.arc.contribution.Goals as goal
 
-pub range-delays-requires-clause-slews : goal.range-delays-requires-clause-slews
-range-delays-requires-clause-slews c =
-    let f = c.requires.fits in
-    let q = c.args.input.now in
-    let w0 = kept_wire c.args.wire.0 f.low (omega (arith, ints, f.ordered, f.high)) in
-    let w1 = kept_wire c.args.wire.1 (omega (arith, ints, f.ordered, f.low)) f.high in
-    slews_ordered q.slo q.shi c.args.wire.0 c.args.wire.1 _ _
-    (kept_mag _ c.slew_behind-least_slew.type_inv ∙ (rw (kept_slew q.slo f.driver.slo, w0) at c.slew_behind-least_slew.ensures))
-    (kept_mag _ c.slew_behind-most_slew.type_inv ∙ (rw (kept_slew q.shi f.driver.shi, w1) at c.slew_behind-most_slew.ensures))
-    (ordered_from_live q f.driver.live).slews f.ordered
-
-pub slew_range-slews-requires-clause-slews : goal.slew_range-slews-requires-clause-slews
-slew_range-slews-requires-clause-slews c =
+pub both_ranges-requires-clause-slews : goal.both_ranges-requires-clause-slews
+both_ranges-requires-clause-slews c =
     let f = c.requires.fits in
     let q = c.args.input.now in
     let w0 = kept_wire c.args.wire.0 f.low (omega (arith, ints, f.ordered, f.high)) in
@@ -38,13 +27,14 @@ returns-clause-value c =
     let w1 = kept_wire c.args.wire.1 (omega (arith, ints, f.ordered, f.low)) f.high in
     let t : slice_get c.args.design.now.tables c.args.arc.now.delay ≡ Some c.index-tables-arc.result = table_at _ _ _ _ c.tables-tables.ensures.value c.requires.sound.delay c.index-tables-arc.is in
     let u : slice_get c.args.design.now.tables c.args.arc.now.slew ≡ Some c.index-tables-arc-2.result = table_at _ _ _ _ c.tables-tables.ensures.value c.requires.sound.slew c.index-tables-arc-2.is in
+    let e = c.both_ranges.ensures in
     contribution_is c.args.design.now c.args.arc.now q _ _ c.index-tables-arc.result c.index-tables-arc-2.result _ _ _ _ _ _ _ _ t u
     (kept_mag _ c.slew_behind-least_slew.type_inv ∙ (rw (kept_slew q.slo f.driver.slo, w0) at c.slew_behind-least_slew.ensures))
     (kept_mag _ c.slew_behind-most_slew.type_inv ∙ (rw (kept_slew q.shi f.driver.shi, w1) at c.slew_behind-most_slew.ensures))
-    (kept_number _ c.range-delays.ensures.least_number ∙ (rw (l0, l1) at c.range-delays.ensures.least))
-    (kept_number _ c.range-delays.ensures.greatest_number ∙ (rw (l0, l1) at c.range-delays.ensures.greatest))
-    (kept_slew _ c.slew_range-slews.ensures.least_slew ∙ (rw (l0, l1) at c.slew_range-slews.ensures.least))
-    (kept_slew _ c.slew_range-slews.ensures.greatest_slew ∙ (rw (l0, l1) at c.slew_range-slews.ensures.greatest))
+    (kept_number _ e.first.least_number ∙ (rw (l0, l1) at e.first.least))
+    (kept_number _ e.first.greatest_number ∙ (rw (l0, l1) at e.first.greatest))
+    (slew_least c.index-tables-arc-2.result _ _ c.as_slew.result _ c.both_ranges.result.1.0 (kept_mag _ c.as_slew.type_inv) c.as_slew.ensures.value (kept_number _ e.second.least_number) (rw (l0, l1) at e.second.least))
+    (slew_greatest c.index-tables-arc-2.result _ _ c.as_slew-2.result _ c.both_ranges.result.1.1 (kept_mag _ c.as_slew-2.type_inv) c.as_slew-2.ensures.value (kept_number _ e.second.greatest_number) (rw (l0, l1) at e.second.greatest))
     (kept_mag _ c.arrival.type_inv ∙ (rw (kept_time q.tlo f.driver.tlo, w0) at c.arrival.ensures.value))
     (kept_mag _ c.arrival-2.type_inv ∙ (rw (kept_time q.thi f.driver.thi, w1) at c.arrival-2.ensures.value))
 
@@ -52,10 +42,11 @@ pub returns-clause-range : goal.returns-clause-range
 returns-clause-range c =
     let lo = c.arrival.ensures in
     let hi = c.arrival-2.ensures in
-    let s = c.slew_range-slews.ensures in
+    let s0 = c.as_slew.ensures.slew in
+    let s1 = c.as_slew-2.ensures.slew in
     record {
       tlo = record { low = omega (arith, ints, lo.low, lo.high); high = omega (arith, ints, lo.low, lo.high) };
       thi = record { low = omega (arith, ints, hi.low, hi.high); high = omega (arith, ints, hi.low, hi.high) };
-      slo = record { low = omega (arith, ints, s.least_slew.least, s.least_slew.most); high = omega (arith, ints, s.least_slew.least, s.least_slew.most) };
-      shi = record { low = omega (arith, ints, s.greatest_slew.least, s.greatest_slew.most); high = omega (arith, ints, s.greatest_slew.least, s.greatest_slew.most) };
+      slo = record { low = omega (arith, ints, s0.least, s0.most); high = omega (arith, ints, s0.least, s0.most) };
+      shi = record { low = omega (arith, ints, s1.least, s1.most); high = omega (arith, ints, s1.least, s1.most) };
     }
