@@ -20,3 +20,4 @@ mod Workers
 mod Chained
 mod Settling
 mod OnlyWorker
+mod LookLaws

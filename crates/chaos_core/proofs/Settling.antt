@@ -49,18 +49,35 @@ carried a d lists order workers p q own some are o kept round =
     let P : Parts → Type 0 = λ x. AreReadLists x lists → IsOrder x.nets order → HasCarried a p.words q.words in
     subst P own (λ x y. round_carries a lists order workers p q some x y kept round) are o
 
+past_own : (a : Setting) (v w : List Pair) (words later : List ℕ) → IsFittingStart a.way a.design v → IsFittingStart a.way a.design w → numbers_of v ≡ words → numbers_of w ≡ later → HasCarried a words later
+    → NoFurther a.way (step a.design v) (assigned w)
+past_own a v w words later before after is was carry =
+    let d = a.design in
+    let there = words_here later w after.windows.in_range was in
+    let far = onward_here d words v before.windows.in_range is in
+    let Q : (ℕ → ℤ) → Type 0 = λ f. AreNoFurther a.way f (words_of (assigned w)) in
+    let R : (ℕ → ℤ) → Type 0 = λ f. AreNoFurther a.way (onward d (bounds_in words)) f in
+    windows_by_words a.way (step d v) (assigned w) (subst Q far (subst R there carry.past))
+
+-- the windows after a round are at or past what the operator makes of those before
+pub past_windows : (a : Setting) (d : Parts) (way : Direction) (v w : List Pair) (words later : List ℕ) → a.design ≡ d → a.way ≡ way → IsFittingStart way d v → IsFittingStart way d w → numbers_of v ≡ words
+    → numbers_of w ≡ later → HasCarried a words later → NoFurther way (step d v) (assigned w)
+past_windows a d way v w words later own same before after is was carry =
+    let F : Parts → Direction → Type 0 = λ x y. IsFittingStart y x v → IsFittingStart y x w → NoFurther y (step x v) (assigned w) in
+    let base : F a.design a.way = λ b c. past_own a v w words later b c is was carry in
+    let there : F d way = subst (λ x. F x way) own (subst (λ y. F a.design y) same base) in
+    there before after
+
 less_room : (a : Setting) (v w : List Pair) (words later : List ℕ) → IsFittingStart a.way a.design v → IsFittingStart a.way a.design w → numbers_of v ≡ words → numbers_of w ≡ later → HasCarried a words later
     → IsFixpoint a.design v ⊎ (room a.way w < room a.way v)
 less_room a v w words later before after is was carry =
     let d = a.design in
     let here = words_here words v before.windows.in_range is in
     let there = words_here later w after.windows.in_range was in
-    let far = onward_here d words v before.windows.in_range is in
     let P : (ℕ → ℤ) → Type 0 = λ f. AreNoFurther a.way (bounds_in words) f in
     let Q : (ℕ → ℤ) → Type 0 = λ f. AreNoFurther a.way f (words_of (assigned w)) in
-    let R : (ℕ → ℤ) → Type 0 = λ f. AreNoFurther a.way (onward d (bounds_in words)) f in
     let on : NoFurther a.way (assigned v) (assigned w) = windows_by_words a.way (assigned v) (assigned w) (subst Q here (subst P there carry.onward)) in
-    let past : NoFurther a.way (step d v) (assigned w) = windows_by_words a.way (step d v) (assigned w) (subst Q far (subst R there carry.past)) in
+    let past = past_own a v w words later before after is was carry in
     round_less a.way d v w before after.windows on past
 
 pub run_nearer : (a : Setting) (d : Parts) (way : Direction) (v w : List Pair) (words later : List ℕ) → a.design ≡ d → a.way ≡ way → IsFittingStart way d v → IsFittingStart way d w → numbers_of v ≡ words

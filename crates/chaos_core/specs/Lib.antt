@@ -7,3 +7,4 @@ pub mod Memories
 pub mod Machine
 pub mod Rounds
 pub mod OnlyWorker
+pub mod Looks

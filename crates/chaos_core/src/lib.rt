@@ -6,6 +6,7 @@ mod alone;
 mod board;
 mod laws;
 mod loaded;
+mod look;
 mod memory;
 mod round;
 mod run;

@@ -14,6 +14,7 @@ ghost use Rattle.transitions.specs.Laws.{LieWithin};
 ghost use Rattle.net_eval.specs.ReadLists.{AreReadLists};
 ghost use Rattle.chaos_core.specs.Rounds.{HasRoom, Settles};
 
+use crate::look::closed_after;
 use crate::memory::MemoryBoard;
 use crate::round::{new_workers, round};
 use crate::worker::Worker;
@@ -53,10 +54,13 @@ fn settle_on(
 {
     let mut source = Source::new(number);
     let mut windows = board.windows(alloc)?;
+    let mut done = closed(design, &windows);
     let mut rounds: u64 = 0;
-    'rounds: while !closed(design, &windows) {
+    'rounds: while !done {
         round(board, workers, design, lists, direction, &mut source);
-        windows = board.windows(alloc)?;
+        let later = board.windows(alloc)?;
+        done = closed_after(alloc, design, lists, &windows, &later)?;
+        windows = later;
         prove!(rounds < design.bound());
         rounds += 1;
     }

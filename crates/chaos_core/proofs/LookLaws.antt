@@ -1,0 +1,76 @@
+-- Marks of nets whose windows a round did not move.
+use Rattle.std.proofs.Common.{◌≡◌, ℕ, zero, suc, ◌<◌, ◌≤◌, sym, ap, subst, ◌∙◌, List, [], ◌∷◌, ◌++◌, length, get_or, Bool, false, arith}
+use Rattle.std.specs.Prelude.{IsTrue, Some, Option, slice_index}
+use Rattle.std.specs.List.{All, Contains, slice_get}
+use Rattle.std.proofs.lemmas.List.{get_or_default}
+use Rattle.std.proofs.lemmas.List.Elements.{Contains-get_or}
+use Rattle.xt_model.specs.declared.direction.Direction.{Direction}
+use Rattle.xt_model.specs.declared.direction.Direction.TheVariants.{Widen, Narrow}
+use Rattle.xt_model.specs.declared.edge.Edge.{Edge}
+use Rattle.xt_model.specs.declared.net.NetId.{NetId}
+use Rattle.xt_model.specs.declared.quad.Quad.{Quad}
+use Rattle.xt_model.specs.declared.quad.Pair.{Pair}
+use Rattle.xt_model.specs.Parts.{Parts}
+use Rattle.xt_model.specs.Sound.{IsSound}
+use Rattle.xt_model.specs.Assign.{assigned, quad_of_pair}
+use Rattle.xt_meaning.specs.Operator.{step}
+use Rattle.xt_meaning.specs.Barrier.{IsNoFurther, IsFittingStart}
+use Rattle.xt_meaning.specs.Words.{numbers_of}
+use Rattle.xt_meaning.proofs.Growth.{wired}
+use Rattle.xt_meaning.proofs.Order.{within_antisym}
+use Rattle.xt_meaning.proofs.Monotone.{operator_same_at, contained_from_same}
+use Rattle.net_eval.specs.Closing.{IsSteadyAt}
+use Rattle.net_eval.specs.ReadLists.{AreReadLists, ids, reads_of}
+use Rattle.chaos_core.specs.declared.setting.Setting.{Setting}
+use Rattle.chaos_core.specs.Tasks.{list_of}
+use Rattle.chaos_core.specs.Rounds.{HasCarried}
+use Rattle.chaos_core.specs.Looks.{AreSameAt, AreMarked}
+use Rattle.chaos_core.proofs.Places.{no_lie, id_at, ids_count, nets_read, read_there}
+use Rattle.chaos_core.proofs.Settling.{past_windows}
+
+-- ---- marks
+pub marks_more : (P : ℕ → Type 0) (marks : List Bool) (b : Bool) → ((n : ℕ) → IsTrue (get_or marks n false) → P n) → (IsTrue b → P (length marks)) → (n : ℕ) → IsTrue (get_or (marks ++ b ∷ []) n false) → P n
+marks_more P [] b h k zero t = k t
+marks_more P [] b h k (suc n) t = absurd (no_lie t)
+marks_more P (x ∷ marks) b h k zero t = h 0 t
+marks_more P (x ∷ marks) b h k (suc n) t = marks_more (λ i. P (suc i)) marks b (λ i u. h (suc i) u) k n t
+
+pub same_pairs : (v w : List Pair) (n : ℕ) (p q : Pair) → slice_get v n ≡ Some p → slice_get w n ≡ Some q → p ≡ q → (e : Edge) → assigned v n e ≡ assigned w n e
+same_pairs v w n p q h k r e = ap (λ (o : Option Pair). quad_of_pair o e) (h ∙ (ap Some r ∙ sym k))
+
+pub marked_all : (marks : List Bool) (reads : List NetId) (most : ℕ) → length reads ≤ most → ((i : ℕ) → i < most → IsTrue (get_or marks (slice_index (ids reads) i) false)) → AreMarked marks (ids reads)
+marked_all marks reads most far h net there =
+    let c = ids_count reads in
+    let inside = there.1 in
+    subst (λ m. IsTrue (get_or marks m false)) (same_at (ids reads) net there.0 there.1 there.2) (h there.0 (omega (arith, c, inside, far))) where
+      same_at : (xs : List ℕ) (m i : ℕ) → i < length xs → get_or xs i m ≡ m → slice_index xs i ≡ m
+      same_at xs m i k e = get_or_default xs i 0 m k ∙ e
+
+pub reads_inside : (d : Parts) (lists : List (List NetId)) (net count : ℕ) (reads : List NetId) → IsSound d → AreReadLists d lists → net < length d.nets → count ≡ length d.nets → reads ≡ reads_of lists net
+    → All (λ (m : NetId). m.0 < count) reads
+reads_inside d lists net count reads sound are there many same i x h =
+    let c = ids_count reads in
+    let e : ids reads ≡ list_of lists net = ap ids same in
+    let at = id_at reads i x h in
+    let has : Contains (list_of lists net) (get_or reads i x).0 = subst (λ xs. Contains xs (get_or reads i x).0) e (subst (Contains (ids reads)) at (Contains-get_or (ids reads) i 0 (omega (arith, c, h)))) in
+    let lt = read_there d net (get_or reads i x).0 (list_of lists net) sound (are.each net there) has in
+    omega (arith, lt, many)
+
+-- ---- a net whose reads a round did not move is steady after it
+antisym : (way : Direction) (q r : Quad) → IsNoFurther way q r → IsNoFurther way r q → q ≡ r
+antisym Widen q r h k = within_antisym q r h k
+antisym Narrow q r h k = within_antisym q r k h
+
+pub steady_kept : (a : Setting) (d : Parts) (way : Direction) (lists : List (List NetId)) (v w : List Pair) (words later : List ℕ) → a.design ≡ d → a.way ≡ way → AreReadLists d lists → IsFittingStart way d v
+    → IsFittingStart way d w → numbers_of v ≡ words → numbers_of w ≡ later → HasCarried a words later → (n : ℕ) → n < length d.nets → AreSameAt v w (list_of lists n) → IsSteadyAt d w n
+steady_kept a d way lists v w words later own same are before after is was carry n there alike = record {
+  fixed = λ e.
+      let sound : IsSound d = subst IsSound own carry.kept.seen.sound in
+      let reads = list_of lists n in
+      let past = past_windows a d way v w words later own same before after is was carry in
+      let R = Contains reads in
+      let moved : step d v n e ≡ step d w n e = operator_same_at R d (assigned v) (assigned w) n e (wired d sound) (nets_read d n reads (are.each n there))
+      (contained_from_same R (assigned v) (assigned w) (λ m f h. alike m h f)) (contained_from_same R (assigned w) (assigned v) (λ m f h. sym (alike m h f))) in
+      let P : Quad → Type 0 = λ q. IsNoFurther way q (assigned w n e) in
+      antisym way (step d w n e) (assigned w n e) (subst P moved (past.each n e)) (after.fits.each n e);
+}

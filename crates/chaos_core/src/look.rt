@@ -1,0 +1,108 @@
+//! Whether words are closed after a round: only at nets that read a net whose windows the round moved.
+
+ghost use Rattle.std.specs.Prelude.{◌≡◌, ◌↔◌, ℕ, ◌+◌, ◌<◌, false, length, slice_index, IsTrue, IfOk};
+ghost use Rattle.std.specs.List.{All, slice_index_or};
+ghost use Rattle.xt_model.specs.declared.edge.Edge.{Edge};
+ghost use Rattle.xt_model.specs.Assign.{assigned};
+ghost use Rattle.xt_meaning.specs.Operator.{step};
+ghost use Rattle.xt_meaning.specs.Barrier.{IsWithinEnvelope};
+ghost use Rattle.net_eval.specs.Closing.{IsSteadyAt};
+ghost use Rattle.net_eval.specs.ReadLists.{AreReadLists, ids};
+ghost use Rattle.chaos_core.specs.Tasks.{list_of};
+ghost use Rattle.chaos_core.specs.Looks.{AreUnmoved, AreMarked, AreSameAt};
+
+use net_eval::{ReadLists, closed_part};
+use std::alloc::Global;
+use xt_model::{Design, NetId, NoMemory, Pair, Windows};
+
+/// Whether the two windows of two pairs are the same.
+fn are_same(a: &Pair, b: &Pair) -> bool
+    ensures { IsTrue result ↔ (a.now ≡ b.now) }
+{
+    a.rise.same(&b.rise) && a.fall.same(&b.fall)
+}
+
+/// Of each net whether its windows are the same before and after a round.
+fn unmoved_nets(alloc: Global, before: &Windows, after: &Windows) -> Result<Vec<bool>, NoMemory>
+    requires { length after.now ≡ length before.now }
+    ensures { IfOk result (λ marks. AreUnmoved before.now after.now marks.items) }
+{
+    let mut marks = Vec::new(alloc);
+    for net in 0..before.pairs().len() {
+        marks.push(are_same(&before.pair(net), &after.pair(net)))?;
+    }
+    Ok(marks)
+}
+
+/// Whether the net at a place of a read list is marked.
+fn is_marked(marks: &[bool], reads: &[NetId], place: usize) -> bool
+    requires place { place < length reads.now }
+    requires inside { All (λ net. net.0 < length marks.now) reads.now }
+    ensures { IsTrue result → IsTrue (slice_index_or marks.now (slice_index (ids reads.now) place) false) }
+{
+    marks[reads[place].0 as usize]
+}
+
+/// Whether all nets of a read list are marked.
+fn are_marked(marks: &[bool], reads: &[NetId]) -> bool
+    requires { All (λ net. net.0 < length marks.now) reads.now }
+    ensures { IsTrue result → AreMarked marks.now (ids reads.now) }
+{
+    for place in 0..reads.len() {
+        if !is_marked(marks, reads, place) {
+            return false;
+        }
+    }
+    true
+}
+
+/// Whether the operator gives the windows of a net back, where it does so if all nets of the read list are marked.
+fn is_steady(
+    design: &Design,
+    lists: &ReadLists,
+    marks: &[bool],
+    after: &Windows,
+    net: u32,
+    next: u32,
+) -> bool
+    requires lists { AreReadLists design.now lists.now }
+    requires count { length after.now ≡ length design.now.nets }
+    requires marks { length marks.now ≡ length design.now.nets }
+    requires within { IsWithinEnvelope design.now after.now }
+    requires net { net < length design.now.nets }
+    requires next { next ≡ net + 1 }
+    requires marked { AreMarked marks.now (list_of lists.now net) → IsSteadyAt design.now after.now net }
+    ensures { IsTrue result ↔ IsSteadyAt design.now after.now net }
+{
+    if are_marked(marks, lists.of(NetId(net))) {
+        return true;
+    }
+    closed_part(design, after, net, next)
+}
+
+/// Whether the operator gives the windows after a round back at every net, where it does so at each net whose reads
+/// have the same windows before and after.
+pub(crate) fn closed_after(
+    alloc: Global,
+    design: &Design,
+    lists: &ReadLists,
+    before: &Windows,
+    after: &Windows,
+) -> Result<bool, NoMemory>
+    requires lists { AreReadLists design.now lists.now }
+    requires before { length before.now ≡ length design.now.nets }
+    requires after { length after.now ≡ length design.now.nets }
+    requires within { IsWithinEnvelope design.now after.now }
+    requires kept { (net : ℕ) → net < length design.now.nets
+        → AreSameAt before.now after.now (list_of lists.now net) → IsSteadyAt design.now after.now net }
+    ensures { IfOk result (λ closed. IsTrue closed
+        ↔ ((net : ℕ) (e : Edge) → step design.now after.now net e ≡ assigned after.now net e)) }
+{
+    let marks = unmoved_nets(alloc, before, after)?;
+    for net in 0..design.nets().len() as u32 {
+        if !is_steady(design, lists, marks.as_slice(), after, net, net + 1) {
+            return Ok(false);
+        }
+    }
+    Ok(true)
+}
