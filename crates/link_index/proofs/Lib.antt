@@ -1,0 +1,6 @@
+mod BitLaws
+mod FirstLaws
+mod PlaceLaws
+mod SplitLaws
+mod NameLaws
+mod IndexLaws

@@ -1,0 +1,19 @@
+use Rattle.std.proofs.Common.{[], map, ap, sym, ◌∙◌, arith}
+use Rattle.link_rules.specs.Bits.{bits}
+use Rattle.link_index.specs.Names.{with_names}
+use Rattle.link_index.proofs.NameLaws.{no_nets, all_nets, names_all, names_apart, entered_more}
+use Rattle.link_index.proofs.names.names_of.Goals as goal
+
+pub loop-number-init : goal.loop-number-init
+loop-number-init c = c.new-names.ensures ∙ ap (λ l. with_names [] (map (λ b. b.name) l)) (sym (no_nets c.args.netlist.now.nets))
+
+pub loop-number-preserved : goal.loop-number-preserved
+loop-number-preserved c =
+    entered_more c.args.netlist.now.nets c.loop-number.number c.loop-number.names c.add_net.new.names c.loop-number.invariant c.in_ok-add_net.ensures
+
+pub returns : goal.returns
+returns c =
+    let nets = c.args.netlist.now.nets in
+    let whole = all_nets nets c.loop-number.number (omega (arith, c.len-number-end.ensures, c.loop-number-test.false)) in
+    ap (map (λ e. e.0)) (c.loop-number.invariant ∙ ap (λ l. with_names [] (map (λ b. b.name) l)) whole)
+    ∙ names_all (map (λ b. b.name) (bits nets)) (names_apart (bits nets) c.requires.own.differ)

@@ -1,0 +1,6 @@
+pub mod First
+pub mod Bits
+pub mod Names
+pub mod Nets
+pub mod Cells
+pub mod Kept

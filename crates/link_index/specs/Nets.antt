@@ -1,0 +1,35 @@
+-- What an index of a netlist keeps.
+use Rattle.std.specs.Prelude.{◌≡◌, ℕ, ◌≤◌, List, length, map, position, bytes_eq}
+use Rattle.std.specs.List.{AllZip}
+use Rattle.name_numbers.specs.Names.{Text, value_of}
+use Rattle.verilog_net.specs.declared.netlist.Instance.{Instance}
+use Rattle.verilog_net.specs.declared.netlist.Netlist.{Netlist}
+use Rattle.verilog_net.specs.declared.netlist.Wire.{Wire}
+use Rattle.verilog_net.specs.Nets.{Nets}
+use Rattle.xt_model.specs.Limits.{most_nets}
+use Rattle.link_rules.specs.Bits.{bits}
+use Rattle.link_rules.specs.Sound.{IsSoundNetlist}
+use Rattle.link_index.specs.Bits.{AreStarts}
+
+-- a table has the names of the bits in order
+abbrev pub HasNames : Nets → List (Text × Unit {0}) → Type 0
+HasNames nets table = map (λ e. e.0) table ≡ map (λ b. b.name) (bits nets)
+
+-- each name has the number of the first instance of this name
+pub record HaveNumbers (instances : List Instance) (numbers : List (Text × ℕ)) : Type 0 where
+  pub each : (name : Text) → value_of name numbers ≡ position (λ i. bytes_eq name i.name) instances
+
+-- each name has what the first pin of this name is connected to
+pub record HaveWires (pins wires : List (Text × Wire)) : Type 0 where
+  pub each : (name : Text) → value_of name wires ≡ value_of name pins
+
+-- what is kept beside a netlist: the first bit of each net, the names of the bits, the numbers of the instances and
+-- the wires of each
+pub record IsIndex (n : Netlist) (firsts : List ℕ) (table : List (Text × Unit {0})) (numbers : List (Text × ℕ))
+    (pins : List (List (Text × Wire))) : Type 0 where
+  pub sound : IsSoundNetlist n
+  pub most : length (bits n.nets) ≤ most_nets
+  pub starts : AreStarts n.nets firsts
+  pub names : HasNames n.nets table
+  pub instances : HaveNumbers n.instances numbers
+  pub wires : AllZip (λ i. HaveWires i.pins) n.instances pins

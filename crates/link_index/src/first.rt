@@ -1,0 +1,24 @@
+//! Tables in which the first value of a name counts.
+
+ghost use Rattle.std.specs.Prelude.{◌≡◌, ℕ, List, Some, None, OnOk, bytes_eq, if◌then◌else◌};
+ghost use Rattle.name_numbers.specs.Names.{value_of};
+ghost use Rattle.link_index.specs.First.{or_first};
+
+use name_numbers::Named;
+use std::alloc::AllocError;
+
+/// Gives a name its value, unless it has one.
+pub fn set_first<'a, V: Drop>(
+    table: &mut Named<'a, V>,
+    name: &'a [u8],
+    value: V,
+) -> Result<(), AllocError>
+    ensures { OnOk result
+        ((other : List ℕ) → value_of other table.new
+        ≡ or_first (value_of other table.old) (if bytes_eq other name.entry.now then Some value else None)) }
+{
+    if table.get(name).is_none() {
+        table.set(name, value)?;
+    }
+    Ok(())
+}

@@ -1,0 +1,17 @@
+//! Look-ups by hash: the nets of a netlist by bits, by names and by the nodes of parasitics; the cells of a library and
+//! their pins by names.
+#![tactic(auto)]
+
+mod bits;
+mod cells;
+mod first;
+mod index;
+mod names;
+mod odd;
+mod places;
+mod split;
+mod wires;
+
+pub use bits::count_bits;
+pub use cells::CellIndex;
+pub use index::NetIndex;
