@@ -1,12 +1,14 @@
 -- Values by name of which the first counts.
 use Rattle.std.specs.Prelude.{◌≡◌, refl, ℕ, Bool, true, false, cond, List, [], ◌∷◌, length, Option, Some, None, option_map, is_some, not, position, find, drop, IfSome}
-use Rattle.std.specs.List.{position_from, position_or_len, slice_get}
+use Rattle.std.specs.Prelude.{unwrap_or, ◌++◌, ◌||◌, suc}
+use Rattle.std.specs.List.{list_any, position_from, position_or_len, slice_get}
 use Rattle.std.proofs.Common.{sym, ap, ◌∙◌, arith, get_or, take, ◌+◌, ◌-◌, ◌<◌, ◌≤◌, ltb, subst, ◌⊎◌, inl, inr}
 use Rattle.std.proofs.lemmas.Slice.Eq.{bytes_eq-Decides}
-use Rattle.std.proofs.lemmas.Bool.{false≢true, lt-ltb, cases_lt, ltb-true}
+use Rattle.std.proofs.lemmas.Bool.{false≢true, lt-ltb, cases_lt, ltb-true, ltb-false}
 use Rattle.std.proofs.lemmas.Option.{slice_get_past}
 use Rattle.std.proofs.lemmas.Iterator.Adapters.{position_from-zero}
 use Rattle.std.proofs.lemmas.List.{take_all}
+use Rattle.std.proofs.lemmas.List.Sums.{prefix_len-le-length}
 use Rattle.std.proofs.lemmas.List.Folds.{find_at}
 use Rattle.std.specs.Str.{bytes_eq}
 use Rattle.name_numbers.specs.Names.{Text, value_of, with_value}
@@ -188,3 +190,44 @@ module _ {X : Type 0} (key : X → Text) where
       sym (or_none (value_of name t))
       ∙ ap (λ l. or_first (value_of name t) (position_from (λ y. bytes_eq name (key y)) place l)) (sym (no_items rest e))
       ∙ each name ∙ sym (position_from-zero (λ y. bytes_eq name (key y)) xs)
+
+-- ---- places of items, and one item more
+
+module _ {X : Type 0} (p : X → Bool) where
+  from_push : (i : ℕ) (xs : List X) (y : X) → position_from p i (xs ++ y ∷ []) ≡ or_first (position_from p i xs) (cond (p y) (Some (i + length xs)) None)
+  from_push i [] y = ap (λ k. cond (p y) (Some k) None) (omega arith)
+  from_push i (x ∷ xs) y = by (p x) (from_push (i + 1) xs y ∙ ap (λ k. or_first (position_from p (i + 1) xs) (cond (p y) (Some k) None)) (omega arith))
+    where
+      by : (b : Bool) → position_from p (i + 1) (xs ++ y ∷ []) ≡ or_first (position_from p (i + 1) xs) (cond (p y) (Some (i + suc (length xs))) None)
+          → cond b (Some i) (position_from p (i + 1) (xs ++ y ∷ []))
+          ≡ or_first (cond b (Some i) (position_from p (i + 1) xs)) (cond (p y) (Some (i + suc (length xs))) None)
+      by true h = refl
+      by false h = h
+
+  -- the first place of one item more
+  pub position_push : (xs : List X) (y : X) → position p (xs ++ y ∷ []) ≡ or_first (position p xs) (cond (p y) (Some (length xs)) None)
+  position_push xs y =
+      position_from-zero p (xs ++ y ∷ []) ∙ from_push 0 xs y
+      ∙ ap (λ o. or_first o (cond (p y) (Some (0 + length xs)) None)) (sym (position_from-zero p xs))
+      ∙ ap (λ k. or_first (position p xs) (cond (p y) (Some k) None)) (omega arith)
+
+  -- where an item stands, or how many there are
+  pub number_is : (xs : List X) → unwrap_or (position p xs) (length xs) ≡ position_or_len p xs
+  number_is xs = by (ltb (position_or_len p xs) (length xs)) refl
+    where
+      by : (b : Bool) → ltb (position_or_len p xs) (length xs) ≡ b
+          → unwrap_or (cond b (Some (position_or_len p xs)) None) (length xs) ≡ position_or_len p xs
+      by true e = refl
+      by false e = omega (arith, ltb-false (position_or_len p xs) (length xs) e, prefix_len-le-length (λ x. not (p x)) xs)
+
+  from_any : (i : ℕ) (xs : List X) → list_any p xs ≡ is_some (position_from p i xs)
+  from_any i [] = refl
+  from_any i (x ∷ xs) = by (p x) (from_any (i + 1) xs)
+    where
+      by : (b : Bool) → list_any p xs ≡ is_some (position_from p (i + 1) xs) → (b || list_any p xs) ≡ is_some (cond b (Some i) (position_from p (i + 1) xs))
+      by true h = refl
+      by false h = h
+
+  -- some item passes where one has a place
+  pub any_is : (xs : List X) → list_any p xs ≡ is_some (position p xs)
+  any_is xs = from_any 0 xs ∙ ap is_some (sym (position_from-zero p xs))

@@ -1,5 +1,5 @@
 mod BitLaws
-mod FirstLaws
+pub mod FirstLaws
 mod PlaceLaws
 mod SplitLaws
 mod NameLaws

@@ -1,6 +1,6 @@
 //! Tables in which the first value of a name counts.
 
-ghost use Rattle.std.specs.Prelude.{◌≡◌, ℕ, List, Some, None, OnOk, bytes_eq, if◌then◌else◌};
+ghost use Rattle.std.specs.Prelude.{◌≡◌, ℕ, List, Some, None, OnOk, OnErr, bytes_eq, if◌then◌else◌};
 ghost use Rattle.name_numbers.specs.Names.{value_of};
 ghost use Rattle.link_index.specs.First.{or_first};
 
@@ -13,9 +13,10 @@ pub fn set_first<'a, V: Drop>(
     name: &'a [u8],
     value: V,
 ) -> Result<(), AllocError>
-    ensures { OnOk result
+    ensures given { OnOk result
         ((other : List ℕ) → value_of other table.new
         ≡ or_first (value_of other table.old) (if bytes_eq other name.entry.now then Some value else None)) }
+    ensures unchanged { OnErr result (table.new ≡ table.old) }
 {
     if table.get(name).is_none() {
         table.set(name, value)?;

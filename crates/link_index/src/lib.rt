@@ -14,4 +14,5 @@ mod wires;
 
 pub use bits::count_bits;
 pub use cells::CellIndex;
+pub use first::set_first;
 pub use index::NetIndex;
