@@ -18,6 +18,7 @@ use Rattle.spef_read.specs.declared.parasitics.WireText.{WireText}
 use Rattle.spef_read.specs.declared.parasitics.Parasitics.{Parasitics}
 use Rattle.sdc_read.specs.declared.constraints.Clock.{Clock}
 use Rattle.sdc_read.specs.declared.constraints.Constraints.{Constraints}
+use Rattle.sdc_read.specs.Ports.{IsInRange}
 use Rattle.link_rules.specs.Bits.{Bit, bits}
 
 -- a name of a netlist: of 1 to 1,024 bytes, so that those of an instance and a pin make a name together
@@ -94,10 +95,12 @@ pub record AreSoundParasitics (p : Parasitics) : Type 0 where
 
 -- ---- the constraints
 
--- the clock falls from 0 to 2^40 fs behind its rise; what is set for ports keeps its range by its type
+-- the clock falls from 0 to 2^40 fs behind its rise
 pub record IsSoundClock (c : Clock) : Type 0 where
   pub period : IsBetween (pos 1) most_period c.period
   pub fall : IsQuantity c.fall
 
+-- the clock is sound, and what is set for ports keeps its range
 pub record AreSoundConstraints (c : Constraints) : Type 0 where
   pub clock : IfSome c.clock IsSoundClock
+  pub ports : All IsInRange c.ports

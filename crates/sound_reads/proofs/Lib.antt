@@ -15,3 +15,4 @@ pub mod LibraryUnits
 pub mod LibraryCells
 pub mod SoundNetlists
 pub mod Sounds
+pub mod SdcPorts

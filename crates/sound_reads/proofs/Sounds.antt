@@ -1,6 +1,6 @@
 -- What each text means is sound to be linked.
-use Rattle.std.specs.Prelude.{◌≡◌, refl, ℕ, List, [], ◌∷◌, length, Option, Some, None, IfSome, Result, Ok, Err, IfOk}
-use Rattle.std.specs.List.{All}
+use Rattle.std.specs.Prelude.{◌≡◌, refl, ℕ, List, [], ◌∷◌, length, Option, Some, None, IfSome, Result, Ok, Err, IfOk, ℤ}
+use Rattle.std.specs.List.{All, AllByRecursion}
 use Rattle.std.proofs.Common.{arith}
 use Rattle.std.proofs.lemmas.Int.{ints}
 use Rattle.std.proofs.lemmas.List.Elements.{All-from_recursion}
@@ -27,6 +27,11 @@ use Rattle.spef_read.specs.Reading as texts
 use Rattle.sdc_read.specs.declared.constraints.Clock.{Clock}
 use Rattle.sdc_read.specs.declared.constraints.Constraints.{Constraints}
 use Rattle.sdc_read.specs.Meaning.{IsScale, IsClock}
+use Rattle.sdc_read.specs.Ports.{IsInRange}
+use Rattle.sdc_read.specs.Reading.{constraints_of}
+use Rattle.sdc_read.specs.Reading as constraints
+use Rattle.verilog_net.specs.Nets.{Nets}
+use Rattle.sound_reads.proofs.SdcPorts.{ports_in_range}
 use Rattle.link_rules.specs.Sound.{IsSoundTiming, IsSoundPin, IsSoundLibrary, IsSoundNetlist, IsSoundCap, IsSoundRes, IsSoundWire, AreSoundParasitics, IsSoundClock, AreSoundConstraints}
 use Rattle.sound_reads.proofs.Bytes.{each-weaker, name_is}
 use Rattle.sound_reads.proofs.LibraryCells as cells
@@ -113,8 +118,8 @@ clock_by (Some c) h =
       fall = record { least = h.fall_low; most = omega (arith, ints, b, e) };
     }
 
-constraints_sound : (c : Constraints) → IfSome c.clock IsClock → AreSoundConstraints c
-constraints_sound c h = record { clock = clock_by c.clock h }
+constraints_sound : (c : Constraints) → IfSome c.clock IsClock → AllByRecursion IsInRange c.ports → AreSoundConstraints c
+constraints_sound c h k = record { clock = clock_by c.clock h; ports = All-from_recursion IsInRange c.ports k }
 
 -- ---- what the readers answer
 pub library_answer : (r : Result Library TextFault) (bytes : List ℕ) → Gives (λ library. library) r (library_meant bytes) → IfOk r IsSoundLibrary
@@ -134,6 +139,7 @@ pub spef_answer : (r : Result Parasitics TextFault) (bytes : List ℕ) → texts
 spef_answer (Ok p) bytes h = parasitics_sound bytes p h
 spef_answer (Err fault) bytes h = tt
 
-pub sdc_answer : (r : Result Constraints TextFault) → IfOk r (λ c. IfSome c.clock IsClock) → IfOk r AreSoundConstraints
-sdc_answer (Ok c) h = constraints_sound c h
-sdc_answer (Err fault) h = tt
+pub sdc_answer : (r : Result Constraints TextFault) (bytes : List ℕ) (nets : Nets) (time cap : ℤ)
+    → constraints.Gives (λ c. c) r (constraints_of bytes nets time cap) → IfOk r (λ c. IfSome c.clock IsClock) → IfOk r AreSoundConstraints
+sdc_answer (Ok c) bytes nets time cap g h = constraints_sound c h (ports_in_range bytes nets time cap c g)
+sdc_answer (Err fault) bytes nets time cap g h = tt
