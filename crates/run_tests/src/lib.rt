@@ -1,7 +1,10 @@
-//! Tests of runs, and of words that threads share: over designs that linked texts give, and over generated ones.
+//! Tests of runs, of words that threads share, and of what is found in the windows of a design: over designs that
+//! linked texts give, and over generated ones.
 //! Nothing stands on this crate.
 #![tactic(auto)]
 
+#[cfg(test)]
+mod findings;
 #[cfg(test)]
 mod orders;
 #[cfg(test)]

@@ -95,3 +95,82 @@ pub const CROSS: &[u8] = b"\
     arc 0 0 rise rise 0 1\n\
     arc 1 0 rise rise 0 1\n\
     end\n";
+
+/// One net that rises and never falls, with 2 fs of wire to a port that is checked.
+pub const PORTS: &[u8] = b"\
+    xtalk-design 1\n\
+    counts 0 1 2\n\
+    period 10000\n\
+    net a i 0 0 1 0\n\
+    rise 1000 1200 0 0\n\
+    fall quiet\n\
+    sink y 2000000\n\
+    port setup y 0 0 500 -\n\
+    port hold y 0 0 100 100\n\
+    end\n";
+
+/// Ten gates in a row from source s to net h. Net m falls with each edge of s; net z rises by an arc from an edge that
+/// never switches, by one from m, and by one from s itself.
+pub const TEN_GATES: &[u8] = b"\
+    xtalk-design 1\n\
+    counts 5 11 0\n\
+    period none\n\
+    table 1 1\n\
+    slews 0\n\
+    loads 0\n\
+    row 0\n\
+    table 2 1\n\
+    slews 0 100\n\
+    loads 0\n\
+    row 7\n\
+    row 11\n\
+    table 1 1\n\
+    slews 0\n\
+    loads 0\n\
+    row 3\n\
+    table 1 1\n\
+    slews 0\n\
+    loads 0\n\
+    row 14\n\
+    table 1 1\n\
+    slews 0\n\
+    loads 0\n\
+    row 5\n\
+    net s i 0 0 2 0\n\
+    net m w 0 0 1 2\n\
+    net z w 0 0 1 3\n\
+    net a w 0 0 1 1\n\
+    net b w 0 0 1 1\n\
+    net c w 0 0 1 1\n\
+    net d w 0 0 1 1\n\
+    net e w 0 0 1 1\n\
+    net f w 0 0 1 1\n\
+    net g w 0 0 1 1\n\
+    net h w 0 0 0 1\n\
+    rise 0 10 0 100\n\
+    fall 100 130 0 100\n\
+    sink m/A 2000000\n\
+    sink z/C 2000000\n\
+    sink z/B 0\n\
+    arc 0 0 rise fall 1 0\n\
+    arc 0 0 fall fall 1 0\n\
+    sink a/A 1000000\n\
+    arc 1 0 rise rise 2 0\n\
+    arc 1 0 fall rise 2 0\n\
+    arc 0 1 fall rise 3 0\n\
+    sink b/A 1000000\n\
+    arc 2 0 rise fall 4 0\n\
+    sink c/A 1000000\n\
+    arc 3 0 fall rise 4 0\n\
+    sink d/A 1000000\n\
+    arc 4 0 rise fall 4 0\n\
+    sink e/A 1000000\n\
+    arc 5 0 fall rise 4 0\n\
+    sink f/A 1000000\n\
+    arc 6 0 rise fall 4 0\n\
+    sink g/A 1000000\n\
+    arc 7 0 fall rise 4 0\n\
+    sink h/A 1000000\n\
+    arc 8 0 rise fall 4 0\n\
+    arc 9 0 fall rise 4 0\n\
+    end\n";
