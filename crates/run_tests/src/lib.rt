@@ -14,4 +14,6 @@ mod starts;
 #[cfg(test)]
 mod texts;
 #[cfg(test)]
+mod threads;
+#[cfg(test)]
 mod torn;
