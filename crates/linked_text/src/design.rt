@@ -51,7 +51,6 @@ fn read(alloc: Global, bytes: &[u8]) -> Result<Design, Stop>
     let (_, rest) = end(alloc, &parts, last)?;
     match Design::from_parts(alloc, parts) {
         Ok(design) => {
-            let _ = design.levels();
             if rest.is_empty() {
                 return Ok(design);
             }

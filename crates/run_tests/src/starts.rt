@@ -10,7 +10,7 @@ use envelope::{EnvelopeFault, envelope, quiet};
 use linked_text::{LinkedFault, has_numbered_lines, read_linked};
 use net_eval::read_lists;
 use std::alloc::{AllocError, Global};
-use xt_model::{Design, Direction, Windows};
+use xt_model::{Design, Direction, NoMemory, Windows};
 
 /// The design of a text, whose lines have numbers.
 pub fn read(alloc: Global, text: &[u8]) -> Result<Design, LinkedFault> {
@@ -41,12 +41,11 @@ pub fn settled(
     design: &Design,
     way: Direction,
     start: &Windows,
-) -> Result<Windows, AllocError>
+) -> Result<Windows, NoMemory>
     requires { IsFittingStart way design.now start.now }
     ensures fixpoint { IfOk result (IsFixpoint design.now) }
     ensures within { IfOk result (IsWithinEnvelope design.now) }
 {
-    let _nets = design.nets();
     let lists = read_lists(alloc, design)?;
     let settled = settle_picked(alloc, design, &lists, way, start, 1, 0)?;
     Ok(settled.windows)

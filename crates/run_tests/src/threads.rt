@@ -12,11 +12,11 @@ use crate::texts::{CROSS, LOAD_PAIR};
 use chaos_core::{Worker, run_worker};
 use design_gen::generate;
 use net_eval::{ReadLists, read_lists};
-use std::alloc::{AllocError, Global};
+use std::alloc::Global;
 use std::test::Fail;
 use std::thread::{Threads, join};
 use window_words::{Pass, Seated, SharedBoard};
-use xt_model::{Design, Direction, Windows};
+use xt_model::{Design, Direction, NoMemory, Windows};
 
 /// A design and its read lists.
 #[derive(Drop)]
@@ -32,19 +32,18 @@ fn run_by(
     listed: &Listed,
     way: Direction,
     pass: Pass,
-) -> Result<Pass, AllocError>
+) -> Result<Pass, NoMemory>
     requires run { IsRun board.now listed.now.design listed.now.lists way }
     requires ready { IsReady board.now pass }
     ensures { IfOk result (IsBack board.now) }
 {
-    let _order = listed.design.order();
     let mut worker = Worker::new(listed.alloc, &listed.lists)?;
     let mut seated = Seated { board, pass };
     run_worker(&mut seated, &mut worker, &listed.design, &listed.lists, way);
     Ok(seated.pass)
 }
 
-type Back = Result<Pass, AllocError>;
+type Back = Result<Pass, NoMemory>;
 
 /// Two parts of a round, each in a thread of its own.
 fn run_two<R: Threads + Sync>(
@@ -63,11 +62,11 @@ fn run_two<R: Threads + Sync>(
     let (one, two) = passes;
     join(
         rt,
-        move || -> Result<Pass, AllocError>
+        move || -> Result<Pass, NoMemory>
             requires { IsRun board.now listed.now.design listed.now.lists way × IsReady board.now one }
             ensures { IfOk result (IsBack board.entry.now) }
         { run_by(board, listed, way, one) },
-        move || -> Result<Pass, AllocError>
+        move || -> Result<Pass, NoMemory>
             requires { IsRun board.now listed.now.design listed.now.lists way × IsReady board.now two }
             ensures { IfOk result (IsBack board.entry.now) }
         { run_by(board, listed, way, two) },
@@ -115,7 +114,7 @@ fn round_of_four<R: Threads + Sync>(
     listed: &Listed,
     way: Direction,
     first: &mut Pass,
-) -> Result<(), AllocError>
+) -> Result<(), NoMemory>
     requires run { IsRun board.now listed.now.design listed.now.lists way }
     requires own { IsOf board.now first.old }
     requires alone { IsAlone first.old.view }
@@ -141,7 +140,7 @@ fn round_of_one(
     listed: &Listed,
     way: Direction,
     first: &mut Pass,
-) -> Result<(), AllocError>
+) -> Result<(), NoMemory>
     requires run { IsRun board.now listed.now.design listed.now.lists way }
     requires own { IsOf board.now first.old }
     requires alone { IsAlone first.old.view }
@@ -163,7 +162,7 @@ fn all_rounds<R: Threads + Sync>(
     way: Direction,
     first: &mut Pass,
     four: bool,
-) -> Result<(), AllocError>
+) -> Result<(), NoMemory>
     requires run { IsRun board.now listed.now.design listed.now.lists way }
     requires own { IsOf board.now first.old }
     requires alone { IsAlone first.old.view }
@@ -187,7 +186,7 @@ fn words_after<R: Threads + Sync>(
     way: Direction,
     start: &Windows,
     four: bool,
-) -> Result<Vec<u64>, AllocError>
+) -> Result<Vec<u64>, NoMemory>
     requires start { IsFittingStart way listed.now.design start.now }
     requires lists { AreReadLists listed.now.design listed.now.lists }
 {
@@ -202,7 +201,7 @@ fn four_find_the_same<R: Threads + Sync>(
     listed: &Listed,
     way: Direction,
     start: &Windows,
-) -> Result<bool, AllocError>
+) -> Result<bool, NoMemory>
     requires start { IsFittingStart way listed.now.design start.now }
     requires lists { AreReadLists listed.now.design listed.now.lists }
 {

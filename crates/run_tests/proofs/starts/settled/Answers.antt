@@ -8,5 +8,5 @@ returns-clause-fixpoint c =
 
 pub returns-clause-within : goal.returns-clause-within
 returns-clause-within c =
-    fixpoint_within c.args.design.now c.args.start.now c.in_ok-settled.settled.windows c.nets-nets.ensures.sound c.nets-nets.ensures.levelled c.requires.within
+    fixpoint_within c.args.design.now c.args.start.now c.in_ok-settled.settled.windows c.in_ok-lists.ensures.sound (c.in_ok-lists.ensures.ordered.1.0, c.in_ok-lists.ensures.ordered.1.1) c.requires.within
     (extreme_is_fixpoint c.args.way c.args.design.now c.in_ok-settled.settled.windows c.in_ok-settled.ensures.extreme)

@@ -11,8 +11,8 @@ run_worker-requires-clause-late c = may_draw c.args.pass.view c.requires.ready.f
 pub returns : goal.returns
 returns c =
     let later = c.run_worker.new.board.pass in
-    let order = c.order-order.result.now in
+    let ordered = c.requires.run.whole.ordered in
     record {
-      own = comes_back c.args.board.now c.args.pass later order c.requires.ready.own (c.run_worker.ensures.ran order c.order-order.ensures.value);
+      own = comes_back c.args.board.now c.args.pass later ordered.0 c.requires.ready.own (c.run_worker.ensures.ran ordered.0 ordered.1);
       other = c.run_worker.new.board.other;
     }
