@@ -1,2 +1,2 @@
 mod Over
-mod PortLaws
+pub mod PortLaws

@@ -6,4 +6,4 @@ mod Opening
 mod Drawing
 mod Parting
 mod Calls
-mod Holding
+pub mod Holding
