@@ -1,12 +1,11 @@
 -- The laws of heads and bodies: what the lines of the nets were read as is written so, and what is written so is read.
-use Rattle.std.proofs.Common.{◌≡◌, ℕ, zero, suc, ◌+◌, ◌*◌, ◌^◌, ◌<◌, ◌≤◌, List, [], ◌∷◌, ◌++◌, length, map, inl, ℤ, pos, Bool, true, false, Option, Some, None, Result, Ok, Err, refl, sym, ap, subst, ◌∙◌, append_assoc, arith}
-use Rattle.std.specs.Prelude.{codes, unsigned_abs}
+use Rattle.std.proofs.Common.{◌≡◌, ℕ, zero, suc, ◌+◌, ◌≤◌, List, [], ◌∷◌, ◌++◌, length, map, inl, Some, None, Ok, refl, sym, ap, subst, ◌∙◌, append_assoc}
+use Rattle.std.specs.Prelude.{unsigned_abs}
 use Rattle.std.specs.List.{AllByRecursion, flat_map}
 use Rattle.std.proofs.lemmas.List.{append-nil}
-use Rattle.std.proofs.lemmas.List.Concat.{flat_map-append, flat_map-cons}
+use Rattle.std.proofs.lemmas.List.Concat.{flat_map-append}
 use Rattle.xt_model.specs.declared.edge.Edge.TheVariants.{Rise, Fall}
 use Rattle.xt_model.specs.declared.fault.LimitKind.TheVariants as kinds
-use Rattle.xt_model.specs.declared.quad.Quad.{Quad}
 use Rattle.xt_model.specs.declared.quad.Pair.{Pair}
 use Rattle.xt_model.specs.declared.net.Coupling.{Coupling}
 use Rattle.xt_model.specs.declared.net.SinkPin.{SinkPin}
@@ -18,13 +17,12 @@ use Rattle.xt_model.specs.Sound.{IsGiven, greatest_load}
 use Rattle.text_lines.specs.Lines.{Line, line_text, text_of}
 use Rattle.linked_text.specs.declared.head.NetHead.{NetHead}
 use Rattle.linked_text.specs.declared.head.Sums.{Sums}
-use Rattle.linked_text.specs.Linked.{net_line, given_line, given_lines, coupling_line, sink_line, arc_line, net_lines}
+use Rattle.linked_text.specs.Linked.{given_line, given_lines, coupling_line, sink_line, arc_line, net_lines}
 use Rattle.linked_text.specs.Fits.{AreFew}
 use Rattle.linked_text.specs.EachLine.{head_in, given_in, coupling_in, sink_in, arc_in}
-use Rattle.linked_text.specs.Meaning.{line_at, many_at, keeps, sums_with, sums_kept, head_at, heads_at, pair_at, coupled_net, couplings_at, net_at, nets_at}
-use Rattle.linked_text.specs.Steps.{◌>>=◌}
+use Rattle.linked_text.specs.Meaning.{line_at, many_at, sums_with, sums_kept, head_at, heads_at, pair_at, coupled_net, couplings_at, net_at, nets_at}
 use Rattle.linked_text.proofs.Inversions.{ok_step, ok_is, keeps_ok, keeps_again}
-use Rattle.linked_text.proofs.LineLaws.{IsLine, IsRead, line_read, many_takes, many_again}
+use Rattle.linked_text.proofs.LineLaws.{IsRead, line_read, many_takes, many_again}
 use Rattle.linked_text.proofs.NetLaws.{head_words, FitsHead, heads, givens, FitsCoupling, couplings, FitsSink, sinks, FitsArc, arcs}
 
 -- ---- the heads

@@ -1,8 +1,7 @@
 -- The laws of the lines at the front of a text, and of the last line.
-use Rattle.std.proofs.Common.{◌≡◌, ℕ, zero, suc, ◌<◌, ◌≤◌, ◌^◌, Bool, true, false, not, cond, eqb, leb, ◌&&◌, List, [], ◌∷◌, ◌++◌, length, ℤ, pos, Option, Some, None, Result, Ok, Err, refl, sym, ap, subst, ◌∙◌, arith}
+use Rattle.std.proofs.Common.{◌≡◌, ℕ, zero, suc, ◌<◌, ◌≤◌, ◌^◌, Bool, true, false, not, cond, eqb, leb, ◌&&◌, List, [], ◌∷◌, ℤ, pos, Option, Some, None, Result, Ok, Err, refl, ap, subst, ◌∙◌, arith}
 use Rattle.std.specs.Prelude.{codes, IfSome}
 use Rattle.std.specs.Fmt.{decimal, signed_decimal, digits}
-use Rattle.std.specs.List.{AllByRecursion}
 use Rattle.std.specs.Option.{option_map_or}
 use Rattle.std.specs.Str.{bytes_eq}
 use Rattle.std.proofs.lemmas.Bool.{eqb-true, ne_eqb, leb-true, le-leb}
@@ -16,14 +15,14 @@ use Rattle.text_lines.specs.Lines.{Line}
 use Rattle.linked_text.specs.declared.head.Counts.{Counts}
 use Rattle.linked_text.specs.Linked.{is_classical, version_word, period_field}
 use Rattle.linked_text.specs.Fields.{number_of, is_canonical, period}
-use Rattle.linked_text.specs.EachLine.{version_in, counts_in, period_in, factor, is_other_miller, miller_of, miller_in, end_in, numbered, well_written, holds}
+use Rattle.linked_text.specs.EachLine.{version_in, counts_in, period_in, factor, is_other_miller, miller_of, miller_in, end_in, numbered, well_written}
 use Rattle.linked_text.specs.Steps.{◌>>=◌}
 use Rattle.linked_text.specs.Fits.{IsSmaller}
 use Rattle.linked_text.proofs.Options.{both_true}
-use Rattle.linked_text.proofs.Cuts.{StartsLow, starts_low}
+use Rattle.linked_text.proofs.Cuts.{starts_low}
 use Rattle.linked_text.proofs.Decimals.{number_takes, number_again}
-use Rattle.linked_text.proofs.Inversions.{ok_step, ok_is, worded_ok, numbered_ok, word_ok, written_ok, holds_ok, is_word, one_is, two_is, four_is}
-use Rattle.linked_text.proofs.NumberLaws.{Clear, clear_count, clear_signed, count_takes, count_again, between_takes, between_again}
+use Rattle.linked_text.proofs.Inversions.{ok_step, ok_is, worded_ok, numbered_ok, word_ok, holds_ok, is_word, one_is, two_is, four_is}
+use Rattle.linked_text.proofs.NumberLaws.{clear_count, clear_signed, count_takes, count_again, between_takes, between_again}
 use Rattle.linked_text.proofs.LineLaws.{IsPlain, IsLine}
 
 -- ---- the version

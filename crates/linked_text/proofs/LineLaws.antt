@@ -1,18 +1,15 @@
 -- The laws of lines: what a line was read as is written so, and what is written so is read; and of lines one after
 -- another.
-use Rattle.std.proofs.Common.{◌≡◌, ℕ, zero, suc, ◌+◌, ◌<◌, ◌≤◌, Bool, true, false, eqb, leb, List, [], ◌∷◌, ◌++◌, length, get_or, All, Option, Some, None, Result, Ok, Err, refl, sym, ap, subst, ◌∙◌, append_assoc, arith}
-use Rattle.std.specs.List.{AllByRecursion, flat_map, join_with_byte, slice_split}
-use Rattle.std.proofs.lemmas.Bool.{leb-true, ne_eqb, eq-eqb}
-use Rattle.std.proofs.lemmas.List.Concat.{flat_map-append, flat_map-cons}
+use Rattle.std.proofs.Common.{◌≡◌, ℕ, zero, suc, ◌≤◌, false, eqb, List, [], ◌∷◌, ◌++◌, length, Option, Some, None, Result, Ok, Err, refl, sym, ap, subst, ◌∙◌, append_assoc, arith}
+use Rattle.std.specs.List.{AllByRecursion, flat_map, join_with_byte}
+use Rattle.std.proofs.lemmas.Bool.{leb-true, ne_eqb}
+use Rattle.std.proofs.lemmas.List.Concat.{flat_map-append}
 use Rattle.std.proofs.lemmas.List.Elements.{All-from_recursion}
 use Rattle.std.proofs.lemmas.List.Splits.{slice_split_none, slice_split_at, join_with_byte-slice_split}
 use Rattle.xt_model.specs.declared.code.Code.{Code}
-use Rattle.xt_model.specs.declared.code.Code.TheVariants.{X1}
 use Rattle.text_lines.specs.Lines.{Line, line_text, text_of}
-use Rattle.linked_text.specs.declared.fault.Fault.{Fault}
 use Rattle.linked_text.specs.Fields.{cut_at, fields_of}
 use Rattle.linked_text.specs.Meaning.{Read, line_at, first_line, with_rest, many_at}
-use Rattle.linked_text.specs.Steps.{◌>>=◌}
 use Rattle.linked_text.proofs.Cuts.{Lacks, cut_takes, cut_again}
 use Rattle.linked_text.proofs.Inversions.{ok_step, ok_is}
 use Rattle.linked_text.proofs.NumberLaws.{Clear}

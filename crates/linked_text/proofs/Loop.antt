@@ -1,10 +1,9 @@
 -- Reading values one after the other, as a loop does.
-use Rattle.std.proofs.Common.{◌≡◌, ℕ, suc, List, [], ◌∷◌, ◌++◌, Option, Some, None, Result, Ok, Err, refl, sym, ap, ◌∙◌, append_assoc}
+use Rattle.std.proofs.Common.{◌≡◌, ℕ, suc, List, [], ◌∷◌, ◌++◌, Option, Some, Result, Ok, Err, refl, sym, ap, ◌∙◌, append_assoc}
 use Rattle.std.proofs.lemmas.List.{append-nil}
 use Rattle.linked_text.specs.declared.fault.Fault.{Fault}
 use Rattle.linked_text.specs.declared.fault.Stop.{Stop}
 use Rattle.linked_text.specs.declared.fault.Stop.TheVariants as stops
-use Rattle.linked_text.specs.Fields.{each}
 use Rattle.linked_text.specs.Gives.{Fails}
 use Rattle.linked_text.specs.declared.head.NetHead.{NetHead}
 use Rattle.linked_text.specs.declared.head.Sums.{Sums}

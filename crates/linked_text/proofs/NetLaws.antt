@@ -1,37 +1,34 @@
 -- The laws of the lines of nets.
-use Rattle.std.proofs.Common.{◌≡◌, ◌≢◌, ℕ, zero, suc, ◌+◌, ◌*◌, ◌^◌, ◌<◌, ◌≤◌, List, [], ◌∷◌, ◌++◌, length, map, eqb, ltb, leb, ℤ, pos, ◌≤ℤ◌, Bool, true, false, not, cond, ◌&&◌, ◌⊎◌, inl, inr, Option, Some, None, Result, Ok, Err, refl, sym, ap, subst, ◌∙◌, append_assoc, arith}
-use Rattle.std.specs.Prelude.{codes, unsigned_abs, slice_get, neg_ℤ}
+use Rattle.std.proofs.Common.{◌≡◌, ◌≢◌, ℕ, ◌^◌, ◌<◌, List, [], ◌∷◌, length, map, eqb, ltb, ℤ, pos, Bool, true, false, not, ◌&&◌, ◌⊎◌, inl, inr, Option, Some, None, Result, Ok, refl, sym, ap, subst, ◌∙◌, arith}
+use Rattle.std.specs.Prelude.{codes, neg_ℤ}
 use Rattle.std.specs.Fmt.{decimal, signed_decimal}
-use Rattle.std.specs.List.{AllByRecursion, flat_map}
+use Rattle.std.specs.List.{AllByRecursion}
 use Rattle.std.specs.Option.{option_map_or}
 use Rattle.std.specs.Str.{bytes_eq}
 use Rattle.std.proofs.lemmas.Bool.{eqb-true, eq-eqb, ne_eqb, ltb-true, lt-ltb}
 use Rattle.std.proofs.lemmas.Int.{ints}
 use Rattle.std.proofs.lemmas.List.{length-map}
 use Rattle.xt_model.specs.declared.code.Code.{Code}
-use Rattle.xt_model.specs.declared.code.Code.TheVariants.{X1}
 use Rattle.xt_model.specs.declared.edge.Edge.{Edge}
-use Rattle.xt_model.specs.declared.edge.Edge.TheVariants.{Rise, Fall}
 use Rattle.xt_model.specs.declared.quad.Quad.{Quad}
 use Rattle.xt_model.specs.declared.net.Coupling.{Coupling}
 use Rattle.xt_model.specs.declared.net.SinkPin.{SinkPin}
 use Rattle.xt_model.specs.declared.net.TimingArc.{TimingArc}
 use Rattle.xt_model.specs.Names.{IsName}
-use Rattle.xt_model.specs.Quads.{bottom, is_live, IsLive}
+use Rattle.xt_model.specs.Quads.{bottom, is_live}
 use Rattle.xt_model.specs.Limits.{most_cap, most_product, most_slew, most_time}
-use Rattle.xt_model.specs.Sound.{IsBetween, IsTime, IsSlew, IsCap, IsProduct, IsConstraint, IsGiven}
+use Rattle.xt_model.specs.Sound.{IsTime, IsSlew, IsCap, IsProduct, IsConstraint, IsGiven}
 use Rattle.name_numbers.specs.Names.{has_name}
 use Rattle.text_lines.specs.Lines.{Line, edge_word}
 use Rattle.linked_text.specs.declared.head.NetHead.{NetHead}
 use Rattle.linked_text.specs.Linked.{kind_field, given_line, coupling_line, sink_line, arc_line}
-use Rattle.linked_text.specs.Fields.{two, each, cap, product, time, slew, is_name}
+use Rattle.linked_text.specs.Fields.{two, cap, product, time, slew, is_name}
 use Rattle.linked_text.specs.Fits.{IsSmaller}
 use Rattle.linked_text.specs.EachLine.{head_in, quiet_in, bounds_in, given_in, coupling_in, sink_fields, sink_in, has_sink, arc_in}
-use Rattle.linked_text.specs.Steps.{◌>>=◌}
 use Rattle.linked_text.proofs.Options.{both_true, passed}
 use Rattle.linked_text.proofs.Cuts.{name_sound, name_tested}
 use Rattle.linked_text.proofs.Inversions.{ok_step, ok_is, worded_ok, numbered_ok, word_ok, holds_ok, is_word, same_word, two_is, three_is, five_is, seven_is}
-use Rattle.linked_text.proofs.NumberLaws.{Clear, clear_count, clear_signed, clear_name, clear_each, clear_edge, clear_kind, count_takes, count_again, between_takes, between_again, each_takes, each_again, edge_takes, edge_again, kind_takes, kind_again, le_int_le}
+use Rattle.linked_text.proofs.NumberLaws.{clear_count, clear_signed, clear_name, clear_each, clear_edge, clear_kind, count_takes, count_again, between_takes, between_again, each_takes, each_again, edge_takes, edge_again, kind_takes, kind_again}
 use Rattle.linked_text.proofs.LineLaws.{IsPlain, IsLine}
 
 -- ---- quantities

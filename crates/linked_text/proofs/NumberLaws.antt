@@ -1,8 +1,8 @@
 -- The laws of fields: what was read is written so, and what is written so is read.
-use Rattle.std.proofs.Common.{◌≡◌, ℕ, zero, suc, ◌+◌, ◌<◌, ◌≤◌, ◌^◌, Bool, true, false, leb, ◌&&◌, List, [], ◌∷◌, length, map, ℤ, pos, negsuc, ◌≤ℤ◌, int_le, Option, Some, None, refl, sym, ap, subst, ◌∙◌, arith, cond}
-use Rattle.std.specs.Prelude.{codes, if◌then◌else◌, neg_ℤ, IfSome}
+use Rattle.std.proofs.Common.{◌≡◌, ℕ, suc, ◌<◌, ◌≤◌, ◌^◌, Bool, true, false, leb, ◌&&◌, List, [], ◌∷◌, length, map, ℤ, ◌≤ℤ◌, int_le, Option, Some, None, refl, ap, subst, ◌∙◌, arith, cond}
+use Rattle.std.specs.Prelude.{codes}
 use Rattle.std.specs.Fmt.{decimal, signed_decimal}
-use Rattle.std.specs.List.{AllByRecursion, list_all}
+use Rattle.std.specs.List.{AllByRecursion}
 use Rattle.std.specs.Str.{bytes_eq}
 use Rattle.std.proofs.lemmas.Bool.{leb-true, le-leb}
 use Rattle.std.proofs.lemmas.Int.{ints}
@@ -10,14 +10,13 @@ use Rattle.xt_model.specs.declared.edge.Edge.{Edge}
 use Rattle.xt_model.specs.declared.edge.Edge.TheVariants.{Rise, Fall}
 use Rattle.xt_model.specs.Names.{IsName}
 use Rattle.text_lines.specs.Lines.{Line, edge_word}
-use Rattle.text_lines.specs.Steps.{◌>>=◌}
 use Rattle.linked_text.specs.Fits.{IsSmaller}
-use Rattle.linked_text.specs.Fields.{signed_of, between, count, size, each, edge_of, kind_of, hold_of, or_dash, is_name}
-use Rattle.linked_text.specs.Linked.{kind_field, check_kind, table_field, delay_field}
+use Rattle.linked_text.specs.Fields.{between, count, size, each, edge_of, kind_of}
+use Rattle.linked_text.specs.Linked.{kind_field}
 use Rattle.linked_text.proofs.Options.{first_step, passed, both_true, some_is}
 use Rattle.linked_text.proofs.Decimals.{number_takes, number_again}
-use Rattle.linked_text.proofs.Cuts.{Visible, visible_decimal, visible_signed, visible_name, signed_takes, signed_again, StartsLow, starts_low}
-use Rattle.linked_text.proofs.Inversions.{is_word, same_word}
+use Rattle.linked_text.proofs.Cuts.{Visible, visible_decimal, visible_signed, visible_name, signed_takes, signed_again}
+use Rattle.linked_text.proofs.Inversions.{is_word}
 
 -- ---- fields without spaces and newlines
 

@@ -1,5 +1,5 @@
 -- What a refused text is not, and that different designs have different texts.
-use Rattle.std.proofs.Common.{◌≡◌, ℕ, List, Bool, Option, Result, Ok, Err, IfOk, sym, subst, ◌∙◌}
+use Rattle.std.proofs.Common.{◌≡◌, ℕ, List, Option, Result, Ok, Err, IfOk, sym, subst, ◌∙◌}
 use Rattle.xt_model.specs.declared.fault.LimitKind.{LimitKind}
 use Rattle.xt_model.specs.declared.code.Code.{Code}
 use Rattle.xt_model.specs.Parts.{Parts}
@@ -8,7 +8,7 @@ use Rattle.text_lines.specs.Lines.{text_of}
 use Rattle.linked_text.specs.declared.fault.Fault.{Fault}
 use Rattle.linked_text.specs.declared.fault.LinkedFault.{LinkedFault}
 use Rattle.linked_text.specs.declared.fault.LinkedFault.TheVariants as faults
-use Rattle.linked_text.specs.Linked.{IsLinkable, linked}
+use Rattle.linked_text.specs.Linked.{linked}
 use Rattle.linked_text.specs.Answers.{IsTextOf, IsToldOf, Tells}
 use Rattle.linked_text.specs.Meaning.{Means}
 use Rattle.linked_text.proofs.WholeLaws.{accepted, means_design, means_one, same_texts}
@@ -40,7 +40,3 @@ tells_refused bytes r t line code e = not_accepted bytes (faults.Refused line co
 
 pub tells_limited : (bytes : List ℕ) (r : Result Parts LinkedFault) → Tells bytes r → (what : LimitKind) (name : Option (List ℕ)) (value : ℕ) → r ≡ Err (faults.Limit what name value) → (d : Parts) → IsTextOf bytes d → ⊥
 tells_limited bytes r t what name value e = not_accepted bytes (faults.Limit what name value) (subst (Tells bytes) e t)
-
--- no two sound designs that can be linked have the same text
-pub texts_differ : (d e : Parts) → IsSound d → IsLinkable d → IsSound e → IsLinkable e → text_of (linked d) ≡ text_of (linked e) → d ≡ e
-texts_differ d e sound_d plain_d sound_e plain_e same = same_texts d e sound_d sound_e same

@@ -1,8 +1,8 @@
 -- What was read line by line is sound, and what is sound can be read line by line.
-use Rattle.std.proofs.Common.{◌≡◌, ◌≢◌, ℕ, zero, suc, ◌+◌, ◌*◌, ◌^◌, ◌<◌, ◌≤◌, List, [], ◌∷◌, ◌++◌, length, map, get_or, All, ltb, ℤ, pos, negsuc, ◌≤ℤ◌, ◌+ℤ◌, ◌*ℤ◌, Bool, true, false, ◌||◌, inl, inr, Option, Some, None, refl, sym, ap, subst, ◌∙◌, arith}
+use Rattle.std.proofs.Common.{◌≡◌, ◌≢◌, ℕ, zero, suc, ◌+◌, ◌*◌, ◌^◌, ◌<◌, ◌≤◌, List, [], ◌∷◌, ◌++◌, length, map, ℤ, pos, negsuc, ◌≤ℤ◌, Bool, true, false, ◌||◌, Option, Some, None, refl, sym, subst, ◌∙◌, arith}
 use Rattle.std.specs.Prelude.{unsigned_abs, IfSome, IsSome, is_some, slice_get}
-use Rattle.std.specs.List.{AllByRecursion, list_any, sum_by}
-use Rattle.std.specs.Option.{IsSomeAnd, option_map_or, unwrap_or, option_map}
+use Rattle.std.specs.List.{AllByRecursion, sum_by}
+use Rattle.std.specs.Option.{IsSomeAnd, unwrap_or, option_map}
 use Rattle.std.specs.Str.{bytes_eq}
 use Rattle.std.proofs.lemmas.Bool.{ltb-true, lt-ltb}
 use Rattle.std.proofs.lemmas.Int.{ints}
@@ -19,14 +19,12 @@ use Rattle.xt_model.specs.declared.net.TimingArc.{TimingArc}
 use Rattle.xt_model.specs.declared.net.Net.{Net}
 use Rattle.xt_model.specs.declared.check.CheckPoint.{CheckPoint}
 use Rattle.xt_model.specs.declared.check.CheckPoint.TheVariants.{Flop, Port}
-use Rattle.xt_model.specs.Limits.{most_nets, most_tables, most_checks, most_couplings, most_coefficients, most_arcs, most_reads, most_cap, most_period}
+use Rattle.xt_model.specs.Limits.{most_nets, most_tables, most_checks, most_couplings, most_coefficients, most_arcs, most_reads, most_cap}
 use Rattle.xt_model.specs.Miller.{IsMiller}
-use Rattle.xt_model.specs.Names.{IsName}
 use Rattle.xt_model.specs.Parts.{Parts}
-use Rattle.xt_model.specs.Sound.{IsBetween, IsCap, IsProduct, IsGiven, LeavesGiven, IsSoundCoupling, IsSoundSink, HasSink, IsSoundArc, coupling_sum, greatest_load, IsSoundNet, IsTableOption, IsSoundCheck, coefficients_of, couplings_at, reads_by, reads_of, HasOwnNames, IsWithinLimits, IsPeriod, IsSound}
+use Rattle.xt_model.specs.Sound.{IsProduct, IsGiven, LeavesGiven, IsSoundCoupling, IsSoundSink, HasSink, IsSoundArc, coupling_sum, greatest_load, IsSoundNet, IsSoundCheck, coefficients_of, couplings_at, reads_by, reads_of, HasOwnNames, IsWithinLimits, IsPeriod, IsSound}
 use Rattle.xt_model.specs.Tables.{IsTable}
 use Rattle.name_numbers.specs.Names.{has_name}
-use Rattle.linked_text.specs.declared.head.NetHead.{NetHead}
 use Rattle.linked_text.specs.declared.head.Sums.{Sums}
 use Rattle.linked_text.specs.EachLine.{Around, has_sink, has_table}
 use Rattle.linked_text.specs.Fits.{AreFew}

@@ -1,5 +1,5 @@
 -- The laws of the lines of tables.
-use Rattle.std.proofs.Common.{◌≡◌, ℕ, zero, suc, ◌+◌, ◌*◌, ◌^◌, ◌<◌, ◌≤◌, List, [], ◌∷◌, ◌++◌, length, map, take, drop, get_or, All, leb, eqb, ℤ, pos, ◌<ℤ◌, Bool, true, false, ◌&&◌, Option, Some, None, Result, Ok, Err, refl, sym, ap, subst, ◌∙◌, append_assoc, suc-mul, arith}
+use Rattle.std.proofs.Common.{◌≡◌, ℕ, zero, suc, ◌*◌, ◌^◌, ◌<◌, ◌≤◌, List, [], ◌∷◌, ◌++◌, length, map, take, drop, get_or, eqb, ℤ, pos, ◌<ℤ◌, Bool, true, false, ◌&&◌, Some, Ok, refl, sym, ap, subst, ◌∙◌, append_assoc, suc-mul, arith}
 use Rattle.std.specs.Prelude.{codes, int_lt, T, neg_ℤ}
 use Rattle.std.specs.Fmt.{decimal, signed_decimal}
 use Rattle.std.specs.List.{AllByRecursion}
@@ -14,11 +14,10 @@ use Rattle.xt_model.specs.Limits.{most_in_table}
 use Rattle.xt_model.specs.Tables.{IsTableNumber, IsRising, IsIndex, IsTable}
 use Rattle.text_lines.specs.Lines.{Line, line_text, text_of}
 use Rattle.linked_text.specs.Linked.{numbers_line, row_lines, table_lines}
-use Rattle.linked_text.specs.Fields.{each, in_table, rises_from, is_rising}
+use Rattle.linked_text.specs.Fields.{in_table, rises_from, is_rising}
 use Rattle.linked_text.specs.Fits.{IsSmaller}
 use Rattle.linked_text.specs.EachLine.{sizes_in, fields_after, row_in, index_in}
 use Rattle.linked_text.specs.Meaning.{line_at, rows_at, table_at}
-use Rattle.linked_text.specs.Steps.{◌>>=◌}
 use Rattle.linked_text.proofs.Options.{both_true, passed}
 use Rattle.linked_text.proofs.Inversions.{ok_step, ok_is, worded_ok, numbered_ok, word_ok, holds_ok, is_word, same_word, three_is}
 use Rattle.linked_text.proofs.NumberLaws.{Clear, clear_count, clear_signed, clear_each, each_takes, each_again, size_takes, size_again, between_takes, between_again}

@@ -1,8 +1,7 @@
 -- The laws of a whole text: what it is accepted as is sound and written so, and what is sound is accepted as written.
-use Rattle.std.proofs.Common.{◌≡◌, ℕ, zero, suc, ◌+◌, ◌^◌, ◌<◌, ◌≤◌, List, [], ◌∷◌, ◌++◌, length, map, eqb, ℤ, pos, Bool, true, false, ◌||◌, cond, inl, inr, Option, Some, None, Result, Ok, Err, refl, sym, ap, subst, ◌∙◌, append_assoc, arith}
-use Rattle.std.specs.Prelude.{codes, IfSome, is_some, if◌then◌else◌}
-use Rattle.std.specs.Fmt.{decimal}
-use Rattle.std.specs.List.{AllByRecursion, flat_map, sum_by}
+use Rattle.std.proofs.Common.{◌≡◌, ℕ, ◌^◌, ◌<◌, ◌≤◌, List, [], ◌∷◌, ◌++◌, length, map, eqb, ℤ, Bool, true, false, inl, inr, Option, None, Result, Ok, Err, refl, sym, ap, subst, ◌∙◌, arith}
+use Rattle.std.specs.Prelude.{codes, is_some, if◌then◌else◌}
+use Rattle.std.specs.List.{flat_map, sum_by}
 use Rattle.std.proofs.lemmas.Bool.{eqb-true}
 use Rattle.std.proofs.lemmas.List.{length-map, nil_from_length, append-nil}
 use Rattle.std.proofs.lemmas.List.Concat.{flat_map-append}
@@ -24,7 +23,7 @@ use Rattle.linked_text.specs.declared.fault.Fault.{Fault}
 use Rattle.linked_text.specs.declared.fault.Fault.TheVariants as faults
 use Rattle.linked_text.specs.Linked.{is_classical, miller_lines, table_lines, net_line, net_lines, check_line, linked}
 use Rattle.linked_text.specs.EachLine.{version_in, counts_in, period_in, miller_in, check_in, end_in}
-use Rattle.linked_text.specs.Meaning.{Read, line_at, many_at, keeps, refuse, counts_at, miller_at, table_at, heads_at, nets_at, checks_at, no_sums, parts_at, end_at, closed_by, Ends, Comes, Means}
+use Rattle.linked_text.specs.Meaning.{Read, line_at, many_at, refuse, counts_at, miller_at, table_at, heads_at, nets_at, checks_at, no_sums, parts_at, end_at, closed_by, Ends, Comes, Means}
 use Rattle.linked_text.specs.Answers.{IsTextOf}
 use Rattle.linked_text.specs.Steps.{◌>>=◌}
 use Rattle.linked_text.proofs.Inversions.{ok_step, ok_is, keeps_ok, keeps_again}

@@ -1,13 +1,13 @@
 -- What some lines and small texts mean, worked out by hand.
-use Rattle.std.specs.Prelude.{◌≡◌, refl, ℕ, List, [], ◌∷◌, ◌++◌, codes, None, Err, true, false}
+use Rattle.std.specs.Prelude.{◌≡◌, refl, [], ◌∷◌, ◌++◌, codes, None, Err, false}
 use Rattle.std.specs.Fmt.{digits}
 use Rattle.xt_model.specs.declared.code.Code.TheVariants.{X1, X2, X3}
 use Rattle.xt_model.specs.declared.edge.Edge.TheVariants.{Rise}
 use Rattle.xt_model.specs.declared.fault.LimitKind.TheVariants as kinds
 use Rattle.linked_text.specs.declared.fault.Fault.TheVariants.{Refused, Limit}
 use Rattle.linked_text.specs.Fields.{fields_of, cut_at, between, size}
-use Rattle.linked_text.specs.EachLine.{version_in, counts_in, period_in, miller_of, miller_in, sizes_in, row_in, index_in, head_in, quiet_in, bounds_in, given_in, coupling_in, sink_in, arc_in, Around, flop_in, port_in, check_in, end_in}
-use Rattle.linked_text.specs.Meaning.{line_at, counts_at, miller_at, parts_at, line_number}
+use Rattle.linked_text.specs.EachLine.{version_in, counts_in, period_in, miller_of, miller_in, sizes_in, row_in, index_in, head_in, quiet_in, bounds_in, given_in, coupling_in, arc_in, port_in, check_in}
+use Rattle.linked_text.specs.Meaning.{line_at, counts_at, parts_at, line_number}
 
 -- ---- lines
 

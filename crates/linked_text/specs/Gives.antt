@@ -1,7 +1,6 @@
 -- What a function returned against what the definition gives; want of memory says nothing.
-use Rattle.std.specs.Prelude.{◌≡◌, ℕ, Bool, List, Result, Ok, Err}
+use Rattle.std.specs.Prelude.{◌≡◌, Result, Ok, Err}
 use Rattle.xt_model.specs.declared.code.Code.{Code}
-use Rattle.xt_model.specs.Parts.{Parts}
 use Rattle.linked_text.specs.declared.fault.Fault.{Fault}
 use Rattle.linked_text.specs.declared.fault.LineStop.{LineStop}
 use Rattle.linked_text.specs.declared.fault.LineStop.TheVariants as lines

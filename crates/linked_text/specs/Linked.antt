@@ -1,5 +1,5 @@
 -- The linked text of a design: every number of it in base units, one fact a line.
-use Rattle.std.specs.Prelude.{◌≡◌, ℕ, zero, suc, ℤ, Bool, true, false, if◌then◌else◌, Option, Some, None}
+use Rattle.std.specs.Prelude.{ℕ, zero, suc, ℤ, Bool, true, false, if◌then◌else◌, Option, Some, None}
 use Rattle.std.specs.Prelude.{List, [], ◌∷◌, ◌++◌, length, map, take, drop, codes}
 use Rattle.std.specs.Fmt.{decimal, signed_decimal}
 use Rattle.std.specs.List.{flat_map}
@@ -17,9 +17,7 @@ use Rattle.xt_model.specs.Quads.{is_live}
 use Rattle.xt_model.specs.Miller.{MillerNumbers}
 pub use Rattle.xt_model.specs.Miller.{is_classical}
 use Rattle.xt_model.specs.Parts.{Parts}
-use Rattle.xt_model.specs.Sound.{IsSound}
-use Rattle.xt_model.specs.Levels.{AreLevels}
-use Rattle.text_lines.specs.Lines.{Line, text_of, edge_word}
+use Rattle.text_lines.specs.Lines.{Line, edge_word}
 
 -- version 1 has the classical Miller numbers, version 2 all others
 abbrev pub version_word : Bool → List ℕ
@@ -123,12 +121,3 @@ linked d =
     head_line d.miller ∷ counts_line d ∷ period_line d
     ∷ (miller_lines d.miller ++ (flat_map table_lines d.tables ++ (map net_line d.nets
     ++ (flat_map net_lines d.nets ++ (map check_line d.checks ++ ((codes "end" ∷ []) ∷ []))))))
-
--- what is read as yet: a design without checks
-pub record IsLinkable (d : Parts) : Type 0 where
-  pub no_checks : d.checks ≡ []
-
--- no design whose arcs make no loop is spelled so
-abbrev pub IsOfNoDesign : List ℕ → Type 0
-IsOfNoDesign bytes = (d : Parts) (levels : List ℕ)
-    → IsSound d → AreLevels d.nets levels → IsLinkable d → bytes ≡ text_of (linked d) → ⊥

@@ -1,6 +1,6 @@
 -- What a linked text means: its lines one after another, each at its place, up to the first refusal.
-use Rattle.std.specs.Prelude.{◌≡◌, ℕ, zero, suc, ◌+◌, ◌-◌, ◌*◌, ◌==◌, nat_le, pos, unsigned_abs, ℤ, Bool, true, false}
-use Rattle.std.specs.Prelude.{◌||◌, if◌then◌else◌, ◌⊎◌, Option, Some, None, is_some, Result, Ok, Err}
+use Rattle.std.specs.Prelude.{◌≡◌, ℕ, zero, suc, ◌+◌, ◌-◌, ◌*◌, ◌==◌, nat_le, unsigned_abs, ℤ, Bool, true, false}
+use Rattle.std.specs.Prelude.{if◌then◌else◌, ◌⊎◌, Option, Some, None, is_some, Result, Ok, Err}
 use Rattle.std.specs.Prelude.{List, [], ◌∷◌, ◌++◌, length, map, take, codes}
 use Rattle.std.specs.List.{count_by, sum_by}
 use Rattle.xt_model.specs.declared.code.Code.{Code}

@@ -1,4 +1,4 @@
-use Rattle.std.proofs.Common.{◌≡◌, ◌-◌, [], ◌∷◌, suc, refl, arith}
+use Rattle.std.proofs.Common.{◌≡◌, ◌-◌, [], ◌∷◌, suc, arith}
 use Rattle.linked_text.specs.Meaning.{heads_at}
 use Rattle.linked_text.proofs.Loop.{goes_on, heads_next}
 use Rattle.linked_text.proofs.heads.heads.Goals as goal
