@@ -4,7 +4,7 @@ ghost use Rattle.xt_meaning.specs.Barrier.{IsWithinEnvelope};
 ghost use Rattle.xt_meaning.specs.Fixpoint.{IsFixpoint};
 
 use crate::starts::{low, read, settled, top};
-use crate::texts::{CROSS, LOAD_PAIR, ONE, PORTS, TEN_GATES};
+use crate::texts::{CROSS, INSIDE, LOAD_PAIR, ONE, PORTS, TEN_GATES};
 use aggressor_report::{Path, guilty, worst_path};
 use slack_report::slacks;
 use std::alloc::{AllocError, Global};
@@ -148,7 +148,7 @@ fn found_in(alloc: Global, text: &[u8]) -> Result<(String, String), Fail> {
     Ok((guilty, slacks))
 }
 
-const FOUND: [(&[u8], &str, &str); 4] = [
+const FOUND: [(&[u8], &str, &str); 5] = [
     (ONE, "", ""),
     // a rises at 1000 and b falls at 1100 where neither slows the other down, which is when they do not meet; else at
     // up to 1200 and 1300.
@@ -161,6 +161,9 @@ const FOUND: [(&[u8], &str, &str); 4] = [
         "",
         "0 Rise false 8298 8298;1 Rise false 1102 1102;1 Fall true 0 0;",
     ),
+    // 100 + 3 - 90 - 20, where slews of 10 and 10 lie inside. Data that falls has slews from 12 on: 90 - 85 * 2 / 10 is
+    // 73, and 100 + 3 - 73 - 20 is 10.
+    (INSIDE, "", "0 Rise false -7 -7;0 Fall false 10 10;"),
 ];
 
 #[test]

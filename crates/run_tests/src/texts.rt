@@ -109,6 +109,28 @@ pub const PORTS: &[u8] = b"\
     port hold y 0 0 100 100\n\
     end\n";
 
+/// A flip-flop whose table has its greatest value inside the slews of its clock and of its rising data.
+pub const INSIDE: &[u8] = b"\
+    xtalk-design 1\n\
+    counts 1 2 1\n\
+    period 100\n\
+    table 3 3\n\
+    slews 0 10 20\n\
+    loads 0 10 20\n\
+    row 1 2 3\n\
+    row 4 90 5\n\
+    row 6 7 8\n\
+    net c i 0 0 1 0\n\
+    net d i 0 0 1 0\n\
+    rise 3 7 5 15\n\
+    fall quiet\n\
+    sink f/CK 0\n\
+    rise 10 20 5 15\n\
+    fall 10 20 12 13\n\
+    sink f/D 0\n\
+    flop setup f/D 1 0 0 0 0 0\n\
+    end\n";
+
 /// Ten gates in a row from source s to net h. Net m falls with each edge of s; net z rises by an arc from an edge that
 /// never switches, by one from m, and by one from s itself.
 pub const TEN_GATES: &[u8] = b"\
