@@ -288,8 +288,8 @@ fn a_tap_counts_by_its_factor_in_quarters(rt: HostRuntime) -> Result<(), Fail> {
     Ok(())
 }
 
-/// The sums of a chain of 65,536 nodes from the root, a milliohm apart and each of 1 aF, with a tap of 3 aF in the middle
-/// and sinks there and at the end.
+/// The sums of a chain of 65,536 nodes from the root, a milliohm apart and each of 1 aF, with a tap of 3 aF in the
+/// middle and sinks there and at the end.
 fn long_chain(alloc: Global) -> Result<WireForm, TreeFault> {
     let mut resistors = Vec::new(alloc);
     for node in 0..65_535 {
@@ -314,7 +314,8 @@ fn long_chain(alloc: Global) -> Result<WireForm, TreeFault> {
     }
 }
 
-/// In the middle 1 + 2 + .. + 32,768, and 32,768 for each of the 32,767 nodes behind it; at the end 1 + 2 + .. + 65,535.
+/// In the middle 1 + 2 + .. + 32,768, and 32,768 for each of the 32,767 nodes behind it; at the end 1 + 2 + ..
+/// + 65,535.
 const LONG_CHAIN: Sums = (
     65_536,
     &[(1_610_596_352, &[98_304]), (2_147_450_880, &[98_304])],
