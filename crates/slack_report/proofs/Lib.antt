@@ -1,4 +1,5 @@
 mod Against
+mod Kept
 mod Placed
 mod Points
 mod Turns

@@ -1,4 +1,5 @@
 pub mod Points
 pub mod Checks
 pub mod Slacks
+pub mod Kept
 pub mod Kinds

@@ -26,7 +26,7 @@ pub(crate) struct Check {
 }
 
 /// Of two things the one for an edge.
-fn at_edge<T: Copy>(edge: Edge, rise: T, fall: T) -> T
+pub(crate) fn at_edge<T: Copy>(edge: Edge, rise: T, fall: T) -> T
     ensures { result ≡ at_edge edge rise fall }
 {
     match edge {

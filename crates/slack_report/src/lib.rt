@@ -5,6 +5,7 @@ mod check;
 mod kinds;
 mod margin;
 mod point;
+mod sinks;
 mod slack;
 
 pub use kinds::worst;

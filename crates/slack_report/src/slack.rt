@@ -7,12 +7,13 @@ ghost use Rattle.xt_model.specs.Limits.{most_period};
 ghost use Rattle.xt_model.specs.Sound.{IsBetween, IsConstraint, IsSoundCheck};
 ghost use Rattle.xt_meaning.specs.Barrier.{IsWithinEnvelope};
 ghost use Rattle.slack_report.specs.Checks.{IsSoundReference, IsSoundTest, check_at, listed};
+ghost use Rattle.slack_report.specs.Kept.{KeepsOnly};
 ghost use Rattle.slack_report.specs.Points.{IsAtPoint};
 ghost use Rattle.slack_report.specs.Slacks.{period_of, slack_against, slack_by, slack_in, slack_of, slacks};
 
 use crate::check::{Check, Reference};
 use crate::margin::{flop_slack, needed, port_slack};
-use sink_windows::at_sink;
+use crate::sinks::SinkTable;
 use std::alloc::{AllocError, Global};
 use xt_model::{CheckPoint, Design, Edge, NoMemory, Quad, Windows};
 
@@ -40,35 +41,57 @@ fn period(design: &Design) -> i64
 fn slack_against(
     design: &Design,
     windows: &Windows,
+    sinks: &mut SinkTable,
     hold: bool,
     datum: &Quad,
     reference: &Reference,
-) -> Option<i64>
+) -> Result<Option<i64>, AllocError>
     requires count { length windows.now ≡ length design.now.nets }
     requires within { IsWithinEnvelope design.now windows.now }
     requires datum { IsConstraint datum.now }
     requires reference { IsSoundReference design.now reference.now }
-    ensures { result ≡ slack_against design.now (assigned windows.now) hold datum.now reference.now }
+    requires only { KeepsOnly design.now (assigned windows.now) sinks.old }
+    ensures value { IfOk result
+        (λ s. s ≡ slack_against design.now (assigned windows.now) hold datum.now reference.now) }
+    ensures only { OnOk result (KeepsOnly design.now (assigned windows.now) sinks.new) }
 {
     match reference {
         Reference::Clock { net, sink, table } => {
-            let clock = at_sink(design, windows, *net, Edge::Rise, *sink)?;
+            let Some(clock) = sinks.at(design, windows, *net, Edge::Rise, *sink)? else {
+                return Ok(None);
+            };
             let need = needed(&design.tables()[*table as usize], &clock.window, datum);
-            Some(flop_slack(hold, period(design), need, &clock.window, datum))
+            Ok(Some(flop_slack(hold, period(design), need, &clock.window, datum)))
         }
-        Reference::Outside { delay } => Some(port_slack(hold, period(design), *delay, datum)),
+        Reference::Outside { delay } => Ok(Some(port_slack(hold, period(design), *delay, datum))),
     }
 }
 
 /// The slack of a check in these windows; none where its data or its clock never switches.
-fn slack_in(design: &Design, windows: &Windows, check: &Check) -> Option<i64>
+fn slack_in(
+    design: &Design,
+    windows: &Windows,
+    sinks: &mut SinkTable,
+    check: &Check,
+) -> Result<Option<i64>, AllocError>
     requires count { length windows.now ≡ length design.now.nets }
     requires within { IsWithinEnvelope design.now windows.now }
     requires sound { IsSoundTest design.now check.now }
-    ensures { result ≡ slack_in design.now (assigned windows.now) check.now }
+    requires only { KeepsOnly design.now (assigned windows.now) sinks.old }
+    ensures value { IfOk result (λ s. s ≡ slack_in design.now (assigned windows.now) check.now) }
+    ensures only { OnOk result (KeepsOnly design.now (assigned windows.now) sinks.new) }
 {
-    let datum = at_sink(design, windows, check.net, check.edge, check.sink)?;
-    slack_against(design, windows, check.hold, &datum.window, &check.reference)
+    let Some(datum) = sinks.at(design, windows, check.net, check.edge, check.sink)? else {
+        return Ok(None);
+    };
+    slack_against(
+        design,
+        windows,
+        sinks,
+        check.hold,
+        &datum.window,
+        &check.reference,
+    )
 }
 
 impl Slack {
@@ -100,7 +123,9 @@ fn push_edge(
     out: &mut Vec<Slack>,
     design: &Design,
     low: &Windows,
+    low_sinks: &mut SinkTable,
     high: &Windows,
+    high_sinks: &mut SinkTable,
     number: u32,
     point: &CheckPoint,
     edge: Edge,
@@ -109,15 +134,19 @@ fn push_edge(
     requires low_within { IsWithinEnvelope design.now low.now }
     requires high_count { length high.now ≡ length design.now.nets }
     requires high_within { IsWithinEnvelope design.now high.now }
+    requires low_only { KeepsOnly design.now (assigned low.now) low_sinks.old }
+    requires high_only { KeepsOnly design.now (assigned high.now) high_sinks.old }
     requires sound { IsSoundCheck design.now point.now }
-    ensures { OnOk result (out.new.items ≡ out.old.items
+    ensures slack { OnOk result (out.new.items ≡ out.old.items
         ++ map (slack_of design.now (assigned low.now) (assigned high.now)) (listed (check_at number point.now edge))) }
+    ensures low_only { OnOk result (KeepsOnly design.now (assigned low.now) low_sinks.new) }
+    ensures high_only { OnOk result (KeepsOnly design.now (assigned high.now) high_sinks.new) }
 {
     let Some(check) = Check::of(number, point, edge) else {
         return Ok(());
     };
-    let greatest = slack_in(design, high, &check);
-    let least = slack_in(design, low, &check);
+    let greatest = slack_in(design, high, high_sinks, &check)?;
+    let least = slack_in(design, low, low_sinks, &check)?;
     out.push(Slack::by(&check, greatest, least))?;
     Ok(())
 }
@@ -136,13 +165,17 @@ fn all_slacks(
     ensures { IfOk result (λ all. all.items ≡ slacks design.now low.now high.now) }
 {
     let points = design.checks();
+    let mut low_sinks = SinkTable::new(alloc);
+    let mut high_sinks = SinkTable::new(alloc);
     let mut all = Vec::new(alloc);
     for (number, point) in points.iter().enumerate() {
         push_edge(
             &mut all,
             design,
             low,
+            &mut low_sinks,
             high,
+            &mut high_sinks,
             number as u32,
             point,
             Edge::Rise,
@@ -151,7 +184,9 @@ fn all_slacks(
             &mut all,
             design,
             low,
+            &mut low_sinks,
             high,
+            &mut high_sinks,
             number as u32,
             point,
             Edge::Fall,
@@ -162,7 +197,8 @@ fn all_slacks(
 
 /// The slacks of the checks of a design in its least and its greatest windows: for each check point in order, of the
 /// rise and then of the fall, where the point has a table or a time for that edge. Linear in the checks, and in the
-/// couplings of the nets that they look at. Fails only for want of memory.
+/// wire coefficients of the sinks that they look at, however many look at one sink; takes memory for the windows at
+/// these sinks beside the slacks. Fails only for want of memory.
 pub fn slacks(
     alloc: Global,
     design: &Design,
