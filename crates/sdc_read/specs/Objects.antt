@@ -82,6 +82,24 @@ bits_in wanted i None = None
 unfoldable pub net_bits : PortRole → Nets → ℕ → Option Bits
 net_bits wanted nets i = bits_in wanted i (slice_get nets i)
 
+-- bits, if there are some, behind others
+abbrev pub behind : Option Bits → List Bits → List Bits
+behind (Some b) bs = bs ++ b ∷ []
+behind None bs = bs
+
+-- the ports of this direction, in order of their nets
+unfoldable pub ports_of : PortRole → Nets → List Bits
+ports_of wanted nets = over_first (λ i. behind (net_bits wanted nets i)) (length nets) []
+
+-- each of a list in turn
+abbrev pub over_all : {A B : Type 0} → (B → A → A) → List B → A → A
+over_all f [] s = s
+over_all f (x ∷ xs) s = over_all f xs (f x s)
+
+abbrev pub is_some_listed : List Bits → Bool
+is_some_listed [] = false
+is_some_listed (b ∷ bs) = true
+
 -- some number below one passes a test
 abbrev pub any_below : (ℕ → Bool) → ℕ → Bool
 any_below p zero = false

@@ -4,6 +4,7 @@
 mod change;
 mod clocks;
 mod constraints;
+mod listed;
 mod numbers;
 mod objects;
 mod port_table;

@@ -1,22 +1,22 @@
 //! The ports that lists stand for.
 
-ghost use Rattle.std.specs.Prelude.{◌≡◌, option_map, is_some, OnOk};
-ghost use Rattle.verilog_net.specs.Ports.{bits_of};
+ghost use Rattle.std.specs.Prelude.{◌≡◌, option_map, map, OnOk};
 ghost use Rattle.sdc_words.specs.Items.{items_of};
 ghost use Rattle.sdc_words.specs.View.{word_text, names_text};
-ghost use Rattle.sdc_read.specs.Changes.{role_for, IsChange};
-ghost use Rattle.sdc_read.specs.Objects.{names_in, port_names, clock_names, all_of, same_role, bits_if, named_bits};
-ghost use Rattle.sdc_read.specs.Objects.{net_bits, has_role, change_found, change_names, change_if, change_all};
+ghost use Rattle.sdc_read.specs.Changes.{role_for, change_bits, IsChange};
+ghost use Rattle.sdc_read.specs.Objects.{names_in, port_names, clock_names, all_of, named_bits, is_some_listed};
+ghost use Rattle.sdc_read.specs.Objects.{has_role, over_all, change_found, change_names, change_all};
 ghost use Rattle.sdc_read.specs.Objects.{change_role, change_objects};
 ghost use Rattle.sdc_read.specs.View.{Changes, bits_text};
 
 use crate::change::{Bits, Change, change_bits};
+use crate::listed::{ListedNetlist, named_bits, same_role};
 use crate::port_table::SetPorts;
 use crate::ports::PortBit;
 use sdc_forms::Stop;
 use sdc_words::{NameList, Word, first_item};
 use std::alloc::AllocError;
-use verilog_net::{Net, Netlist, PortFound, PortRole};
+use verilog_net::PortRole;
 use xt_model::Code;
 
 /// The names in a list of ports.
@@ -54,103 +54,27 @@ pub fn all_of(word: Word<'_>) -> Option<PortRole>
     }
 }
 
-/// Whether both are one direction.
-fn same_role(role: PortRole, other: PortRole) -> bool
-    ensures { result ≡ same_role role other }
+/// Whether there are some bits.
+fn is_some_listed(list: &[Bits]) -> bool
+    ensures { result ≡ is_some_listed (map bits_text list.now) }
 {
-    match (role, other) {
-        (PortRole::Input, PortRole::Input) => true,
-        (PortRole::Output, PortRole::Output) => true,
-        _ => false,
-    }
-}
-
-/// The bits that stand for a name, if they are of ports of this direction.
-fn bits_if(wanted: PortRole, found: PortFound) -> Option<Bits>
-    ensures { option_map bits_text result ≡ bits_if wanted found }
-{
-    match found {
-        PortFound::Absent => None,
-        PortFound::Bits {
-            decl,
-            first,
-            last,
-            role,
-        } => {
-            if same_role(wanted, role) {
-                Some(Bits { decl, first, last })
-            } else {
-                None
-            }
-        }
-    }
-}
-
-/// The bits of the port of this direction with this name.
-#[tactic(auto, unfolding(crate::specs::Objects::named_bits))]
-pub fn named_bits(wanted: PortRole, netlist: &Netlist, name: &[u8]) -> Option<Bits>
-    ensures { option_map bits_text result ≡ named_bits wanted netlist.now.nets name.now }
-{
-    bits_if(wanted, netlist.port(name))
-}
-
-/// The bits of a net: those of a bus, or the one of a port.
-fn bits_of(decl: u32, net: Net) -> PortFound
-    ensures { result ≡ bits_of decl net }
-{
-    match (net.range, net.role) {
-        (Some((first, last)), role) => PortFound::Bits {
-            decl,
-            first,
-            last,
-            role,
-        },
-        (None, PortRole::Inner) => PortFound::Absent,
-        (None, role) => PortFound::Bits {
-            decl,
-            first: 0,
-            last: 0,
-            role,
-        },
-    }
-}
-
-/// The bits of a net, if it is a port of this direction.
-#[tactic(auto, unfolding(crate::specs::Objects::net_bits))]
-pub fn net_bits(wanted: PortRole, netlist: &Netlist, decl: u32) -> Option<Bits>
-    ensures { option_map bits_text result ≡ net_bits wanted netlist.now.nets decl }
-{
-    match netlist.nets.get(decl) {
-        Some((_, net)) => bits_if(wanted, bits_of(decl, *net)),
-        None => None,
-    }
-}
-
-/// Whether a net is a port of this direction.
-fn is_port_of(wanted: PortRole, netlist: &Netlist, decl: u32) -> bool
-    ensures { result ≡ is_some (net_bits wanted netlist.now.nets decl) }
-{
-    match net_bits(wanted, netlist, decl) {
-        Some(_) => true,
-        None => false,
+    match list {
+        [] => false,
+        _ => true,
     }
 }
 
 /// Whether some net is a port of this direction.
-#[tactic(auto, using(crate::proofs::Over::any_next), unfolding(crate::specs::Objects::has_role))]
-fn has_role(wanted: PortRole, netlist: &Netlist) -> bool
-    ensures { result ≡ has_role wanted netlist.now.nets }
+#[tactic(auto, using(crate::proofs::Over::role_listed))]
+fn has_role(wanted: PortRole, netlist: &ListedNetlist<'_>) -> bool
+    ensures { result ≡ has_role wanted netlist.now }
 {
-    let mut found = false;
-    for decl in 0..netlist.nets.len() {
-        found = found || is_port_of(wanted, netlist, decl);
-    }
-    found
+    is_some_listed(netlist.ports(wanted))
 }
 
 /// Changes the ports with a name.
 fn change_named(
-    netlist: &Netlist,
+    netlist: &ListedNetlist<'_>,
     clock: Option<PortBit>,
     change: Change,
     name: &[u8],
@@ -158,9 +82,9 @@ fn change_named(
 ) -> Result<(), Stop>
     requires { IsChange change }
     ensures { Changes result ports.new
-        (change_found clock change (named_bits (role_for change) netlist.now.nets name.now) ports.old) }
+        (change_found clock change (named_bits (role_for change) netlist.now name.now) ports.old) }
 {
-    let Some(bits) = named_bits(change.role(), netlist, name) else {
+    let Some(bits) = named_bits(change.role(), netlist.whole(), name) else {
         return Err(Stop::Refused(Code::C6));
     };
     change_bits(clock, change, bits, ports)?;
@@ -169,14 +93,14 @@ fn change_named(
 
 /// Changes the ports with the names between braces.
 fn change_many(
-    netlist: &Netlist,
+    netlist: &ListedNetlist<'_>,
     clock: Option<PortBit>,
     change: Change,
     names: &[u8],
     ports: &mut SetPorts,
 ) -> Result<(), Stop>
     requires { IsChange change }
-    ensures { Changes result ports.new (change_names netlist.now.nets clock change (items_of names.now) ports.old) }
+    ensures { Changes result ports.new (change_names netlist.now clock change (items_of names.now) ports.old) }
 {
     let mut rest = names;
     'names: while let Some((name, more)) = first_item(rest) {
@@ -188,7 +112,7 @@ fn change_many(
 
 /// Changes the ports with the names of a list.
 fn change_names(
-    netlist: &Netlist,
+    netlist: &ListedNetlist<'_>,
     clock: Option<PortBit>,
     change: Change,
     names: NameList<'_>,
@@ -196,7 +120,7 @@ fn change_names(
 ) -> Result<(), Stop>
     requires { IsChange change }
     ensures { Changes result ports.new
-        (change_names netlist.now.nets clock change (names_in (names_text names.entry)) ports.old) }
+        (change_names netlist.now clock change (names_in (names_text names.entry)) ports.old) }
 {
     match names {
         NameList::One(name) => change_named(netlist, clock, change, name, ports),
@@ -204,49 +128,48 @@ fn change_names(
     }
 }
 
-/// Changes the bits, if there are some.
-fn change_if(
+/// Changes the bits of a list of ports.
+fn change_each(
     clock: Option<PortBit>,
     change: Change,
-    bits: Option<Bits>,
+    list: &[Bits],
     ports: &mut SetPorts,
 ) -> Result<(), AllocError>
     requires { IsChange change }
-    ensures { OnOk result (ports.new ≡ change_if clock change (option_map bits_text bits) ports.old) }
+    ensures { OnOk result (ports.new ≡ over_all (change_bits clock change) (map bits_text list.now) ports.old) }
 {
-    match bits {
-        Some(bits) => change_bits(clock, change, bits, ports),
-        None => Ok(()),
-    }
-}
-
-/// Changes all ports of the direction.
-#[tactic(auto, using(crate::proofs::Over::over_next), unfolding(crate::specs::Objects::change_all))]
-fn change_all(
-    netlist: &Netlist,
-    clock: Option<PortBit>,
-    change: Change,
-    ports: &mut SetPorts,
-) -> Result<(), AllocError>
-    requires { IsChange change }
-    ensures { OnOk result (ports.new ≡ change_all netlist.now.nets clock change ports.old) }
-{
-    for decl in 0..netlist.nets.len() {
-        change_if(clock, change, net_bits(change.role(), netlist, decl), ports)?;
+    let mut rest = list;
+    'list: while let [bits, more @ ..] = rest {
+        change_bits(clock, change, *bits, ports)?;
+        rest = more;
     }
     Ok(())
 }
 
+/// Changes all ports of the direction.
+#[tactic(auto, using(crate::proofs::Over::change_listed))]
+fn change_all(
+    netlist: &ListedNetlist<'_>,
+    clock: Option<PortBit>,
+    change: Change,
+    ports: &mut SetPorts,
+) -> Result<(), AllocError>
+    requires { IsChange change }
+    ensures { OnOk result (ports.new ≡ change_all netlist.now clock change ports.old) }
+{
+    change_each(clock, change, netlist.ports(change.role()), ports)
+}
+
 /// Changes all ports of a direction, which is the one that is wanted unless there are none.
 fn change_role(
-    netlist: &Netlist,
+    netlist: &ListedNetlist<'_>,
     clock: Option<PortBit>,
     change: Change,
     role: PortRole,
     ports: &mut SetPorts,
 ) -> Result<(), Stop>
     requires { IsChange change }
-    ensures { Changes result ports.new (change_role netlist.now.nets clock change role ports.old) }
+    ensures { Changes result ports.new (change_role netlist.now clock change role ports.old) }
 {
     if same_role(change.role(), role) {
         change_all(netlist, clock, change, ports)?;
@@ -262,7 +185,7 @@ fn change_role(
 /// Changes the ports of a list.
 #[tactic(auto, unfolding(crate::specs::Objects::change_objects))]
 pub fn change_objects(
-    netlist: &Netlist,
+    netlist: &ListedNetlist<'_>,
     clock: Option<PortBit>,
     change: Change,
     list: Word<'_>,
@@ -270,7 +193,7 @@ pub fn change_objects(
 ) -> Result<(), Stop>
     requires { IsChange change }
     ensures { Changes result ports.new
-        (change_objects netlist.now.nets clock change (word_text list.entry) ports.old) }
+        (change_objects netlist.now clock change (word_text list.entry) ports.old) }
 {
     if let Some(names) = port_names(list) {
         return change_names(netlist, clock, change, names, ports);

@@ -13,6 +13,7 @@ ghost use Rattle.sdc_read.specs.View.{Changes};
 use crate::change::Change;
 use crate::clocks::knows_clock;
 use crate::constraints::{Clock, Constraints};
+use crate::listed::ListedNetlist;
 use crate::numbers::{fall_in, number_from, number_in};
 use crate::objects::change_objects;
 use crate::port_table::{PortTable, SetPorts};
@@ -22,7 +23,7 @@ use sdc_forms::{Said, Stop};
 use sdc_words::Word;
 use std::alloc::{AllocError, Global};
 use std::marker::Model;
-use verilog_net::{Name, Netlist};
+use verilog_net::Name;
 use xt_model::Code;
 
 /// What the commands of a text said so far.
@@ -74,15 +75,15 @@ fn bit_of(clock: &Option<Clock>) -> Option<PortBit>
 /// The name of a clock, which is that of its port's bit where no other is given.
 fn clock_name(
     alloc: Global,
-    netlist: &Netlist,
+    netlist: &ListedNetlist<'_>,
     name: Option<&[u8]>,
     at: PortBit,
 ) -> Result<Name, AllocError>
-    ensures { IfOk result (λ n. n ≡ or_name (option_map (λ t. t.now) name.entry) (bit_name netlist.now.nets at)) }
+    ensures { IfOk result (λ n. n ≡ or_name (option_map (λ t. t.now) name.entry) (bit_name netlist.now at)) }
 {
     match name {
         Some(name) => Name::copied(alloc, name),
-        None => bit_name(alloc, netlist, at),
+        None => bit_name(alloc, netlist.whole(), at),
     }
 }
 
@@ -116,13 +117,13 @@ impl Progress {
     fn create_clock(
         &mut self,
         alloc: Global,
-        netlist: &Netlist,
+        netlist: &ListedNetlist<'_>,
         name: Option<&[u8]>,
         period: &[u8],
         waveform: Option<&[u8]>,
         source: Word<'_>,
     ) -> Result<(), Stop>
-        ensures { Changes result self.new (create_clock netlist.now.nets (option_map (λ t. t.now) name.entry)
+        ensures { Changes result self.new (create_clock netlist.now (option_map (λ t. t.now) name.entry)
             period.now (option_map (λ t. t.now) waveform.entry) (word_text source.entry) self.old) }
     {
         let period = number_from(1, period, self.time)?;
@@ -146,12 +147,12 @@ impl Progress {
     #[tactic(auto, unfolding(crate::specs::Meaning::change_ports))]
     fn change_ports(
         &mut self,
-        netlist: &Netlist,
+        netlist: &ListedNetlist<'_>,
         change: Change,
         list: Word<'_>,
     ) -> Result<(), Stop>
         requires { IsChange change }
-        ensures { Changes result self.new (change_ports netlist.now.nets change (word_text list.entry) self.old) }
+        ensures { Changes result self.new (change_ports netlist.now change (word_text list.entry) self.old) }
     {
         let clock = bit_of(&self.clock);
         change_objects(netlist, clock, change, list, &mut self.ports)
@@ -160,14 +161,14 @@ impl Progress {
     /// Changes the ports of a list, if the clock of another one is known.
     fn change_known(
         &mut self,
-        netlist: &Netlist,
+        netlist: &ListedNetlist<'_>,
         clock: Word<'_>,
         change: Change,
         list: Word<'_>,
     ) -> Result<(), Stop>
         requires { IsChange change }
         ensures { Changes result self.new (if_known (knows_clock self.old.clock (word_text clock.entry))
-            (change_ports netlist.now.nets change (word_text list.entry) self.old)) }
+            (change_ports netlist.now change (word_text list.entry) self.old)) }
     {
         if !knows_clock(&self.clock, clock) {
             return Err(Stop::Refused(Code::C6));
@@ -177,9 +178,14 @@ impl Progress {
 
     /// Does what a command says.
     #[tactic(auto, unfolding(crate::specs::Meaning::means))]
-    pub fn act(&mut self, alloc: Global, netlist: &Netlist, said: Said<'_>) -> Result<(), Stop>
+    pub fn act(
+        &mut self,
+        alloc: Global,
+        netlist: &ListedNetlist<'_>,
+        said: Said<'_>,
+    ) -> Result<(), Stop>
         requires { HasPowers said }
-        ensures { Changes result self.new (means netlist.now.nets (said_text said.entry) self.old) }
+        ensures { Changes result self.new (means netlist.now (said_text said.entry) self.old) }
     {
         match said {
             Said::Nothing => Ok(()),

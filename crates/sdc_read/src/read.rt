@@ -7,6 +7,7 @@ ghost use Rattle.sdc_read.specs.Reading.{command_means, commands_mean, constrain
 ghost use Rattle.sdc_read.specs.View.{Changes};
 
 use crate::constraints::Constraints;
+use crate::listed::ListedNetlist;
 use crate::progress::Progress;
 use sdc_forms::{Stop, said_by_words};
 use sdc_words::{Command, Commands};
@@ -18,11 +19,11 @@ use xt_model::Code;
 /// Does what a command means.
 fn act_on(
     alloc: Global,
-    netlist: &Netlist,
+    netlist: &ListedNetlist<'_>,
     command: &Command<'_>,
     state: &mut Progress,
 ) -> Result<(), Stop>
-    ensures { Changes result state.new (command_means netlist.now.nets (command_text command.now) state.old) }
+    ensures { Changes result state.new (command_means netlist.now (command_text command.now) state.old) }
 {
     let said = said_by_words(alloc, command.words.as_ref())?;
     state.act(alloc, netlist, said)
@@ -31,11 +32,11 @@ fn act_on(
 /// Does what the commands of a text mean.
 fn read_all(
     alloc: Global,
-    netlist: &Netlist,
+    netlist: &ListedNetlist<'_>,
     commands: &mut Commands<'_>,
     state: &mut Progress,
 ) -> Result<(), TextFault>
-    ensures { ChangesText result state.new (commands_mean netlist.now.nets commands.old state.old) }
+    ensures { ChangesText result state.new (commands_mean netlist.now commands.old state.old) }
 {
     'commands: while let Some(command) = commands.next_command(alloc)? {
         match act_on(alloc, netlist, &command, state) {
@@ -67,8 +68,8 @@ fn read_all(
 /// clock that is not there, a port of the other direction, or a source of a clock that is not exactly one bit; `C5` a
 /// second clock. Of one command the first of these, in this order, counts, and of the text the first command.
 ///
-/// Takes time linear in the bytes and, for each command, in the bits of the ports that it names, and memory linear in
-/// the bytes and in the bits that are named.
+/// Takes time linear in the bytes, in the nets of the netlist and, for each command, in the bits of the ports that it
+/// names, and memory linear in the bytes, in the ports of the netlist and in the bits that are named.
 #[tactic(auto, unfolding(crate::specs::Reading::constraints_of))]
 pub fn read_sdc(
     alloc: Global,
@@ -99,7 +100,8 @@ pub fn read_sdc(
         Some(LexFault::NoMemory) => return Err(TextFault::NoMemory),
         None => {}
     }
+    let netlist = ListedNetlist::new(alloc, netlist)?;
     let mut state = Progress::new(alloc, time_scale, cap_scale);
-    read_all(alloc, netlist, &mut Commands::new(bytes), &mut state)?;
+    read_all(alloc, &netlist, &mut Commands::new(bytes), &mut state)?;
     Ok(state.into_constraints())
 }

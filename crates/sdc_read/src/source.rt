@@ -1,15 +1,16 @@
 //! The source of a clock.
 
-ghost use Rattle.std.specs.Prelude.{◌≡◌, ◌++◌, option_map, IfOk, OnOk};
+ghost use Rattle.std.specs.Prelude.{◌≡◌, ◌++◌, map, IfOk, OnOk};
 ghost use Rattle.sdc_words.specs.Items.{items_of};
 ghost use Rattle.sdc_words.specs.View.{word_text, names_text};
-ghost use Rattle.sdc_read.specs.Objects.{names_in, with_bits, source_found, source_names, source_if, source_all};
+ghost use Rattle.sdc_read.specs.Objects.{names_in, with_bits, over_all, source_found, source_names, source_all};
 ghost use Rattle.sdc_read.specs.Objects.{one_bit, source_of, bit_name, named_bits};
 ghost use Rattle.verilog_net.specs.declared.netlist.PortRole.TheVariants as roles;
 ghost use Rattle.sdc_read.specs.View.{Computes, bits_text};
 
 use crate::change::Bits;
-use crate::objects::{all_of, named_bits, net_bits, port_names};
+use crate::listed::{ListedNetlist, named_bits};
+use crate::objects::{all_of, port_names};
 use crate::ports::PortBit;
 use itoa::Buffer;
 use sdc_forms::Stop;
@@ -46,16 +47,6 @@ impl SourceBits {
         }
     }
 
-    /// With these bits behind, if there are some.
-    fn with_some(self, bits: Option<Bits>) -> SourceBits
-        ensures { result ≡ source_if (option_map bits_text bits) self }
-    {
-        match bits {
-            Some(bits) => self.with_bits(bits),
-            None => self,
-        }
-    }
-
     /// The bit, if there is exactly one.
     fn one_bit(self) -> Result<PortBit, Stop>
         ensures { Computes (λ at. at) result (one_bit self) }
@@ -68,18 +59,22 @@ impl SourceBits {
 }
 
 /// With the bits of the input of a name behind.
-fn source_named(netlist: &Netlist, name: &[u8], bits: SourceBits) -> Result<SourceBits, Stop>
-    ensures { Computes (λ s. s) result (source_found (named_bits roles.Input netlist.now.nets name.now) bits) }
+fn source_named(
+    netlist: &ListedNetlist<'_>,
+    name: &[u8],
+    bits: SourceBits,
+) -> Result<SourceBits, Stop>
+    ensures { Computes (λ s. s) result (source_found (named_bits roles.Input netlist.now name.now) bits) }
 {
-    match named_bits(PortRole::Input, netlist, name) {
+    match named_bits(PortRole::Input, netlist.whole(), name) {
         Some(found) => Ok(bits.with_bits(found)),
         None => Err(Stop::Refused(Code::C6)),
     }
 }
 
 /// The bits of the inputs with the names between braces.
-fn source_many(netlist: &Netlist, names: &[u8]) -> Result<SourceBits, Stop>
-    ensures { Computes (λ s. s) result (source_names netlist.now.nets (items_of names.now) SourceBits.Nothing) }
+fn source_many(netlist: &ListedNetlist<'_>, names: &[u8]) -> Result<SourceBits, Stop>
+    ensures { Computes (λ s. s) result (source_names netlist.now (items_of names.now) SourceBits.Nothing) }
 {
     let mut bits = SourceBits::Nothing;
     let mut rest = names;
@@ -91,9 +86,9 @@ fn source_many(netlist: &Netlist, names: &[u8]) -> Result<SourceBits, Stop>
 }
 
 /// The bits of the inputs with the names of a list.
-fn source_names(netlist: &Netlist, names: NameList<'_>) -> Result<SourceBits, Stop>
+fn source_names(netlist: &ListedNetlist<'_>, names: NameList<'_>) -> Result<SourceBits, Stop>
     ensures { Computes (λ s. s) result
-        (source_names netlist.now.nets (names_in (names_text names.entry)) SourceBits.Nothing) }
+        (source_names netlist.now (names_in (names_text names.entry)) SourceBits.Nothing) }
 {
     match names {
         NameList::One(name) => source_named(netlist, name, SourceBits::Nothing),
@@ -101,22 +96,31 @@ fn source_names(netlist: &Netlist, names: NameList<'_>) -> Result<SourceBits, St
     }
 }
 
-/// The bits of all inputs.
-#[tactic(auto, using(crate::proofs::Over::over_next), unfolding(crate::specs::Objects::source_all))]
-fn source_all(netlist: &Netlist) -> SourceBits
-    ensures { result ≡ source_all netlist.now.nets }
+/// The bits of a list of ports.
+fn source_each(list: &[Bits]) -> SourceBits
+    ensures { result ≡ over_all with_bits (map bits_text list.now) SourceBits.Nothing }
 {
     let mut bits = SourceBits::Nothing;
-    for decl in 0..netlist.nets.len() {
-        bits = bits.with_some(net_bits(PortRole::Input, netlist, decl));
+    let mut rest = list;
+    'list: while let [first, more @ ..] = rest {
+        bits = bits.with_bits(*first);
+        rest = more;
     }
     bits
 }
 
+/// The bits of all inputs.
+#[tactic(auto, using(crate::proofs::Over::source_listed))]
+fn source_all(netlist: &ListedNetlist<'_>) -> SourceBits
+    ensures { result ≡ source_all netlist.now }
+{
+    source_each(netlist.ports(PortRole::Input))
+}
+
 /// The one bit of an input that a list stands for.
 #[tactic(auto, unfolding(crate::specs::Objects::source_of))]
-pub fn source_of(netlist: &Netlist, list: Word<'_>) -> Result<PortBit, Stop>
-    ensures { Computes (λ at. at) result (source_of netlist.now.nets (word_text list.entry)) }
+pub fn source_of(netlist: &ListedNetlist<'_>, list: Word<'_>) -> Result<PortBit, Stop>
+    ensures { Computes (λ at. at) result (source_of netlist.now (word_text list.entry)) }
 {
     if let Some(names) = port_names(list) {
         let bits = source_names(netlist, names)?;

@@ -5,8 +5,8 @@ use Rattle.sdc_read.proofs.objects.change_many.Given as goal
 
 abbrev pub invariant-names : goal.invariant-names
 invariant-names l =
-    change_names l.netlist.nets l.clock l.change (items_from [] l.rest) l.ports
-    ≡ change_names l.netlist.nets l.clock l.change (items_from [] l.names) l.fn.ports
+    change_names l.netlist l.clock l.change (items_from [] l.rest) l.ports
+    ≡ change_names l.netlist l.clock l.change (items_from [] l.names) l.fn.ports
 
 abbrev pub decreases-names : goal.decreases-names
 decreases-names l = length (items_from [] l.rest)

@@ -4,7 +4,7 @@ use Rattle.sdc_read.proofs.read.read_all.Given as goal
 
 abbrev pub invariant-commands : goal.invariant-commands
 invariant-commands l =
-    commands_mean l.netlist.nets l.commands l.state ≡ commands_mean l.netlist.nets l.fn.commands l.fn.state
+    commands_mean l.netlist l.commands l.state ≡ commands_mean l.netlist l.fn.commands l.fn.state
 
 abbrev pub decreases-commands : goal.decreases-commands
 decreases-commands l = length l.commands
