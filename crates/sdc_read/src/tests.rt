@@ -57,8 +57,16 @@ fn push_sides(
     out.push_str(text.as_str())
 }
 
+/// Whether some number is there, which may be 0.
+fn has_delays(sides: &Sides) -> bool {
+    sides.rise_min.is_some()
+        || sides.rise_max.is_some()
+        || sides.fall_min.is_some()
+        || sides.fall_max.is_some()
+}
+
 /// Whether some number is there and not 0.
-fn has_numbers(sides: &Sides) -> bool {
+fn has_slews(sides: &Sides) -> bool {
     sides.rise_min.unwrap_or(0) != 0
         || sides.rise_max.unwrap_or(0) != 0
         || sides.fall_min.unwrap_or(0) != 0
@@ -67,13 +75,13 @@ fn has_numbers(sides: &Sides) -> bool {
 
 /// Appends what is set for a port.
 fn push_port(alloc: Global, out: &mut String, port: &PortSet) -> Result<(), AllocError> {
-    if has_numbers(&port.input) {
+    if has_delays(&port.input) {
         push_sides(alloc, out, "input", port, &port.input)?;
     }
-    if has_numbers(&port.output) {
+    if has_delays(&port.output) {
         push_sides(alloc, out, "output", port, &port.output)?;
     }
-    if has_numbers(&port.slew) {
+    if has_slews(&port.slew) {
         push_sides(alloc, out, "slew", port, &port.slew)?;
     }
     if port.load != 0 {
@@ -311,6 +319,7 @@ fn units_hold_for_what_follows(rt: HostRuntime) {
         ("set sdc_version 1 2", 6, "C3 1"),
         ("set", 6, "C3 1"),
         ("set x 1", 6, "C2 1"),
+        ("set [x] 1", 6, "C1 1"),
         (
             "set_units -time ps; create_clock -period 7 ck",
             6,
@@ -536,9 +545,25 @@ fn delays_are_set_by_edge_and_side(rt: HostRuntime) {
             "clock ck 0 0 1000000 500000; 3.0 output - 1000000 - 1000000",
         ),
         (
+            "create_clock -period 1 ck\nset_output_delay 1 -clock ck -fall -min y; \
+                set_output_delay -2 -clock ck y -rise",
+            6,
+            "clock ck 0 0 1000000 500000; 3.0 output -2000000 -2000000 1000000 -",
+        ),
+        (
             "create_clock -period 1 ck\nset_output_delay 1 -clock ck a",
             6,
             "C6 2",
+        ),
+        (
+            "create_clock -period 1 ck\nset_input_delay 2 -clock ck {ck a}",
+            6,
+            "clock ck 0 0 1000000 500000; 1.0 input 2000000 2000000 2000000 2000000",
+        ),
+        (
+            "create_clock -period 1 ck\nset_input_delay 0 -clock ck -rise -max a",
+            6,
+            "clock ck 0 0 1000000 500000; 1.0 input 0 0 - -",
         ),
     ];
     for (text, scale, want) in rows {
@@ -563,6 +588,11 @@ fn slews_and_loads_are_from_0_on(rt: HostRuntime) {
             "set_input_transition 1 -min -rise b",
             6,
             "2.0 slew 1000000 1000000 0 0; 2.1 slew 1000000 1000000 0 0",
+        ),
+        (
+            "set_input_transition 1 -max -fall a",
+            6,
+            "1.0 slew 0 0 1000000 1000000",
         ),
         ("set_input_transition -0.0000001 a", 6, ""),
         ("set_input_transition -0.000001 a", 6, "C4 1"),
@@ -616,10 +646,45 @@ fn of_several_refusals_the_first_counts(rt: HostRuntime) {
             "C1 2",
         ),
         ("set_false_path", 6, "C2 1"),
+        (
+            "current_design [x {y}] -q\nset_driving_cell [x {y}] -q\nset_propagated_clock [x {y}] -q\n\
+                set_operating_conditions [x {y}] -q\nset_max_fanout [x {y}] -q\nset_max_transition [x {y}] -q\n\
+                set_max_capacitance [x {y}] -q\nset_min_capacitance [x {y}] -q\nset_max_area [x {y}] -q\n\
+                set_wire_load_mode [x {y}] -q\nset_wire_load_model [x {y}] -q\n\
+                set_wire_load_selection_group [x {y}] -q\nfoo",
+            6,
+            "C2 13",
+        ),
         ("set_driving_cell -lib_cell [x", 6, "C1 1"),
         ("set_input_delay x -clock no no", 6, "C4 1"),
     ];
     for (text, scale, want) in rows {
         compare(&rt, rt.alloc(), text, scale, 6, want);
+    }
+}
+
+/// A command with a name of so many bytes, and an option that it does not have.
+fn with_long_name(alloc: Global, size: usize) -> Result<String, AllocError> {
+    let mut text = String::new(alloc);
+    text.push_str("set_load 1 ")?;
+    for _ in 0..size {
+        text.push('x')?;
+    }
+    text.push_str(" -zz")?;
+    Ok(text)
+}
+
+#[test]
+fn a_name_has_at_most_1024_bytes(rt: HostRuntime) {
+    let alloc = rt.alloc();
+    let netlist = netlist(&rt, alloc, NETLIST);
+    for (size, want) in [(1024, "; C3 1"), (1025, "; C1 1")] {
+        match with_long_name(alloc, size) {
+            Ok(text) => match meaning(alloc, &netlist, text.as_str(), 6, 6) {
+                Ok(words) => assert_eq!(rt; words.as_str(), want),
+                Err(_) => panic!(rt; "out of memory"),
+            },
+            Err(_) => panic!(rt; "out of memory"),
+        }
     }
 }
