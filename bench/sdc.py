@@ -230,7 +230,9 @@ class Constraints:
         if name in IGNORED:
             return
         if name == b"set":
-            if rest and (rest[0].kind == "bracketed" or rest[0].text != b"sdc_version"):
+            if rest and rest[0].kind == "bracketed":
+                raise Refusal("C1", line)
+            if rest and rest[0].text != b"sdc_version":
                 raise Refusal("C2", line)
             if len(rest) != 2:
                 raise Refusal("C3", line)
