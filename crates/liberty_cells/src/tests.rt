@@ -160,6 +160,66 @@ fn pins_are_refused(rt: HostRuntime) {
     compare_refusals(&rt, rt.alloc(), &rows);
 }
 
+#[test]
+fn pins_have_their_directions(rt: HostRuntime) {
+    let text = "library (x) { time_unit : 10ps; capacitive_load_unit (1, ff); cell (A) {\
+        pin (B) { direction : inout; capacitance : 2; } pin (C) { direction : internal; } pin (D) { } } }";
+    let Ok(library) = read(&rt, rt.alloc(), text.as_bytes()) else {
+        panic!(rt; "refused");
+    };
+    let [cell] = library.cells.as_slice() else {
+        panic!(rt; "not one cell");
+    };
+    let [b, c, d] = cell.pins.as_slice() else {
+        panic!(rt; "not three pins");
+    };
+    compare_pin(&rt, b, "B", Role::Inout, 2_000, 0);
+    compare_pin(&rt, c, "C", Role::Other, 0, 0);
+    compare_pin(&rt, d, "D", Role::Other, 0, 0);
+}
+
+/// Compares the refusals of libraries with a name as that of a template, a cell, a pin and a related pin, on line 2.
+fn compare_named(rt: &impl Abort, alloc: Global, name: &[u8], want: Option<Refusal>) {
+    let places = [
+        ("\nlu_table_template (", ") { } }"),
+        ("\ncell (", ") { } }"),
+        ("cell (A) {\npin (", ") { } } }"),
+        (
+            "cell (A) { pin (Z) { timing () {\nrelated_pin : ",
+            "; } } } }",
+        ),
+    ];
+    for (before, after) in places {
+        let mut text = joined(rt, alloc, &["library (x) {", before]);
+        if text.extend_from_slice(name).is_err()
+            || text.extend_from_slice(after.as_bytes()).is_err()
+        {
+            panic!(rt; "out of memory");
+        }
+        let fault = read(rt, alloc, text.as_slice()).err();
+        assert_eq!(rt; fault, want, "at {before}");
+    }
+}
+
+#[test]
+fn a_name_is_printable_and_has_at_most_1024_bytes(rt: HostRuntime) {
+    let mut name = Vec::new(rt.alloc());
+    for length in 1..1026 {
+        if name.push(b'x').is_err() {
+            panic!(rt; "out of memory");
+        }
+        if length == 1024 {
+            compare_named(&rt, rt.alloc(), name.as_slice(), None);
+        }
+    }
+    let refused = Some((2, Code::L1));
+    compare_named(&rt, rt.alloc(), name.as_slice(), refused);
+    compare_named(&rt, rt.alloc(), b"\"!~\"", None);
+    compare_named(&rt, rt.alloc(), b"\"a\x7f\"", refused);
+    compare_named(&rt, rt.alloc(), b"\"\xff\"", refused);
+    compare_named(&rt, rt.alloc(), b"\"\x1fa\"", refused);
+}
+
 /// The timing groups of the only pin of a library, which has a direction and the content of a timing group. The content
 /// begins on line 2.
 fn compare_timings(
@@ -241,21 +301,10 @@ fn timing_groups_have_their_kinds(rt: HostRuntime) {
             "timing_type : clear rising_edge;",
             Ok(TimingKind::Unsupported),
         ),
-        ("output", "timing_type : clear;", Ok(TimingKind::Skipped)),
-        (
-            "input",
-            "timing_type : recovery_rising;",
-            Ok(TimingKind::Skipped),
-        ),
         (
             "output",
-            "timing_type : three_state_disable_fall;",
-            Ok(TimingKind::Skipped),
-        ),
-        (
-            "input",
-            "timing_type : minimum_period;",
-            Ok(TimingKind::Skipped),
+            "timing_type : combinational_rise;",
+            Ok(TimingKind::Unsupported),
         ),
         (
             "output",
@@ -269,6 +318,48 @@ fn timing_groups_have_their_kinds(rt: HostRuntime) {
         ),
     ];
     compare_timings(&rt, rt.alloc(), &rows);
+}
+
+#[test]
+fn types_without_a_use_are_skipped(rt: HostRuntime) {
+    let types = [
+        "clear",
+        "preset",
+        "recovery_rising",
+        "recovery_falling",
+        "removal_rising",
+        "removal_falling",
+        "three_state_enable",
+        "three_state_disable",
+        "three_state_enable_rise",
+        "three_state_enable_fall",
+        "three_state_disable_rise",
+        "three_state_disable_fall",
+        "min_pulse_width",
+        "minimum_period",
+    ];
+    for kind in types {
+        for direction in ["input", "output"] {
+            let pieces = [
+                "library (x) { cell (A) { pin (Z) { direction : ",
+                direction,
+                "; timing () { timing_type : ",
+                kind,
+                "; } } } }",
+            ];
+            let text = joined(&rt, rt.alloc(), &pieces);
+            match read(&rt, rt.alloc(), text.as_slice()) {
+                Ok(library) => {
+                    assert_eq!(rt;
+                        only_timing(&rt, &library).kind,
+                        TimingKind::Skipped,
+                        "at {kind}"
+                    );
+                }
+                Err(_) => panic!(rt; "refused at {kind}"),
+            }
+        }
+    }
 }
 
 #[test]
@@ -378,7 +469,7 @@ const LOADS_FIRST: &str = "lu_table_template (t) {\nvariable_1 : total_output_ne
 
 #[test]
 fn tables_stand_row_by_row(rt: HostRuntime) {
-    let rows: [(&'static str, &'static str, TableWant); 5] = [
+    let rows: [(&'static str, &'static str, TableWant); 6] = [
         (
             "",
             "(scalar) { values (\"0.5\"); }",
@@ -418,6 +509,17 @@ fn tables_stand_row_by_row(rt: HostRuntime) {
                 &[300_000, 400_000],
                 &[-1_000_000, 5_000_000],
                 &[1_000_000, 2_000_000, 3_000_000, 4_000_000],
+            ),
+        ),
+        (
+            "time_unit : 10ps; capacitive_load_unit (1, ff); lu_table_template (t) {\
+            variable_1 : total_output_net_capacitance; variable_2 : input_net_transition;\
+            index_1 (1, 2, 3); index_2 (9); }",
+            "(t) { index_2 (4, 5); values (\"1,2\", \"3,4\", \"5,6\"); }",
+            (
+                &[40_000, 50_000],
+                &[1_000, 2_000, 3_000],
+                &[10_000, 30_000, 50_000, 20_000, 40_000, 60_000],
             ),
         ),
     ];
@@ -504,6 +606,38 @@ fn tables_are_refused_at_their_lines(rt: HostRuntime) {
     compare_table_refusals(&rt, rt.alloc(), &rows);
 }
 
+/// The numbers from 0 to 63.
+const SIXTY_FOUR: &str =
+    "0 1 2 3 4 5 6 7 8 9 10 11 12 13 14 15 16 17 18 19 20 21 22 23 24 25 26 27 28 29 30 31 \
+    32 33 34 35 36 37 38 39 40 41 42 43 44 45 46 47 48 49 50 51 52 53 54 55 56 57 58 59 60 61 62 63";
+
+#[test]
+fn an_index_has_at_most_64_numbers(rt: HostRuntime) {
+    for (more, want) in [("", None), (" 64", Some((7, Code::L4)))] {
+        for (long, short) in [("index_1", "index_2"), ("index_2", "index_1")] {
+            let pieces = [
+                "library (x) {\n",
+                SLEWS_FIRST,
+                "cell (A) { pin (Z) { direction : output; timing () { related_pin : B;\
+                rise_transition (scalar) { values (1); } cell_rise (t) { values (\"",
+                SIXTY_FOUR,
+                more,
+                "\"); ",
+                short,
+                " (0);\n",
+                long,
+                " (\"",
+                SIXTY_FOUR,
+                more,
+                "\"); } } } } }",
+            ];
+            let text = joined(&rt, rt.alloc(), &pieces);
+            let fault = read(&rt, rt.alloc(), text.as_slice()).err();
+            assert_eq!(rt; fault, want, "at {long}");
+        }
+    }
+}
+
 #[test]
 fn templates_are_refused_where_a_table_uses_them(rt: HostRuntime) {
     let rows = [
@@ -536,6 +670,16 @@ fn templates_are_refused_where_a_table_uses_them(rt: HostRuntime) {
         (
             "lu_table_template (t) { variable_1 : input_net_transition;\nindex_1 (1, z); }",
             "(t) { index_2 (1);\nvalues (z); }",
+            (3, Code::L3),
+        ),
+        (
+            "time_unit : 1ps; lu_table_template (t) {\nvariable_1 : x; index_1 (1.2e6); }",
+            "(t) { values (1); }",
+            (3, Code::L4),
+        ),
+        (
+            "capacitive_load_unit (1, ff); lu_table_template (t) {\nvariable_1 : x; index_1 (1.2e6); }",
+            "(t) { values (1); }",
             (3, Code::L3),
         ),
     ];
