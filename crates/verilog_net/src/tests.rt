@@ -307,6 +307,56 @@ fn several_modules_are_read_apart(rt: HostRuntime) {
 }
 
 #[test]
+fn modules_have_their_nets_and_instances(rt: HostRuntime) {
+    let text = concat!(
+        "module a (y); output [1:0] y; wire s; b u (.p(y), .q(y[0]), .r(s)); endmodule\n",
+        "module b; input [7:0] p; INV u (.A(\\p[8] )); endmodule\n"
+    );
+    if text.len() > MOST_BYTES {
+        panic!(rt; "too long");
+    }
+    let Ok(modules) = read_modules(rt.alloc(), text.as_bytes()) else {
+        panic!(rt; "refused");
+    };
+    let [a, b] = modules.list.as_slice() else {
+        panic!(rt; "not two modules");
+    };
+    assert_eq!(rt; a.module.bytes(), b"a".as_slice());
+    assert_eq!(rt; b.module.bytes(), b"b".as_slice());
+    compare_nets(
+        &rt,
+        a,
+        &[
+            ("y", PortRole::Output, Some((1, 0))),
+            ("s", PortRole::Inner, None),
+        ],
+    );
+    compare_nets(
+        &rt,
+        b,
+        &[
+            ("p", PortRole::Input, Some((7, 0))),
+            ("p[8]", PortRole::Inner, None),
+        ],
+    );
+    let ([first], [second]) = (a.instances.as_slice(), b.instances.as_slice()) else {
+        panic!(rt; "not one instance each");
+    };
+    let bit = |decl: u32, bit: u32| Wire::Bit { decl, bit };
+    compare_instance(
+        &rt,
+        first,
+        ("b", "u", 1),
+        &[
+            ("p", Wire::Whole { decl: 0 }),
+            ("q", bit(0, 0)),
+            ("r", bit(1, 0)),
+        ],
+    );
+    compare_instance(&rt, second, ("INV", "u", 2), &[("A", bit(1, 0))]);
+}
+
+#[test]
 fn a_name_has_at_most_1024_bytes(rt: HostRuntime) {
     let alloc = rt.alloc();
     for length in 1023..1026 {
