@@ -12,8 +12,8 @@ use Rattle.elmore_tree.specs.declared.part.Tap.{Tap}
 use Rattle.elmore_tree.specs.declared.walk.Step.{Step}
 use Rattle.elmore_tree.specs.declared.form.WireForm.{WireForm}
 use Rattle.elmore_tree.specs.Trees.{TreeParts, IsSoundTree, ground_at, ground_sum, is_needed}
-use Rattle.elmore_tree.specs.Gathering.{IsAllReached}
-use Rattle.elmore_tree.specs.Forms.{IsFormOf}
+use Rattle.elmore_tree.specs.Gathering.{IsTreeWalk}
+use Rattle.elmore_tree.specs.Forms.{IsFormOf, IsTakenTree}
 use Rattle.elmore_tree.specs.Paths.{Joins, is_on, IsPath, IsJoined, is_in, resistors_in}
 use Rattle.elmore_tree.specs.Sums.{shared, sum_below, base_of, coefficient_of, ArePaths, SinkSums, sink_sums}
 use Rattle.elmore_tree.specs.Walks.{is_visited, IsGrown, IsWalked, path_of}
@@ -190,16 +190,22 @@ module _ (t : TreeParts) (reached : List Bool) (steps : List Step) (sound : IsSo
     pub same_forms : map (sink_sums t paths) t.sinks ≡ map (sink_sums t (path_of steps)) t.sinks
     same_forms = map_same (sink_sums t paths) (sink_sums t (path_of steps)) 0 t.sinks (λ i lt. same_sums (get_or t.sinks i 0) (needed_sink t i lt))
 
-pub form_is : (t : TreeParts) (needed reached : List Bool) (steps : List Step) (form : WireForm) → IsSoundTree t → IsWalked t reached steps → resistors_in reached t.resistors ≤ length steps
-    → ((k : ℕ) → is_in needed k ≡ is_needed t k) → IsAllReached needed reached
-    → form.load ≡ pos (ground_sum t.ground) → form.sinks ≡ map (sink_sums t (path_of steps)) t.sinks → IsFormOf t form
-form_is t needed reached steps form sound w tree each all load sinks = record {
-  tree = not_meshed t reached steps w tree;
-  reached = joined;
-  once = λ k p q is_p is_q. path_unique t reached steps sound w tree p k is_p ∙ sym (path_unique t reached steps sound w tree q k is_q);
-  paths = (path_of steps, record { each = λ k j. path_is t steps w.grown (length steps) k (omega arith) (ap (λ ss. is_visited t ss k) (take_whole steps) ∙ joined_visited t reached steps w j.0 k j.1) });
-  sums = λ paths are. record { load = load; sinks = sinks ∙ sym (same_forms t reached steps sound w tree paths are joined) };
-}
-  where
-    joined : (k : ℕ) → is_needed t k ≡ true → IsJoined t k
-    joined k h = ((part_is t reached steps w).each k).0 (all.each k (each k ∙ h))
+module _ (t : TreeParts) (steps : List Step) (w : IsTreeWalk t steps) where
+  joined : (k : ℕ) → is_needed t k ≡ true → IsJoined t k
+  joined k h = ((part_is t w.reached steps w.walked).each k).0 (w.all.each k (w.each k ∙ h))
+
+  -- the wire is a tree that reaches all
+  pub taken_is : IsTakenTree t
+  taken_is = record { tree = not_meshed t w.reached steps w.walked w.tree; reached = joined }
+
+  pub form_is : (form : WireForm) → form.load ≡ pos (ground_sum t.ground) → form.sinks ≡ map (sink_sums t (path_of steps)) t.sinks → IsFormOf t form
+  form_is form load sinks = record {
+    tree = not_meshed t w.reached steps w.walked w.tree;
+    reached = joined;
+    once = λ k p q is_p is_q. path_unique t w.reached steps w.sound w.walked w.tree p k is_p ∙ sym (path_unique t w.reached steps w.sound w.walked w.tree q k is_q);
+    paths = (
+      path_of steps,
+      record { each = λ k j. path_is t steps w.walked.grown (length steps) k (omega arith) (ap (λ ss. is_visited t ss k) (take_whole steps) ∙ joined_visited t w.reached steps w.walked j.0 k j.1) },
+    );
+    sums = λ paths are. record { load = load; sinks = sinks ∙ sym (same_forms t w.reached steps w.sound w.walked w.tree paths are joined) };
+  }

@@ -3,10 +3,10 @@ use Rattle.std.specs.Prelude.{◌≡◌, ℕ, ◌*◌, ◌<◌, ◌≤◌, ◌^�
 use Rattle.std.specs.Prelude.{if◌then◌else◌, Some}
 use Rattle.std.specs.List.{slice_get, slice_index}
 use Rattle.elmore_tree.specs.declared.walk.Step.{Step}
-use Rattle.elmore_tree.specs.Trees.{TreeParts}
-use Rattle.elmore_tree.specs.Paths.{is_on, is_in}
+use Rattle.elmore_tree.specs.Trees.{TreeParts, IsSoundTree, is_needed}
+use Rattle.elmore_tree.specs.Paths.{is_on, is_in, resistors_in}
 use Rattle.elmore_tree.specs.Sums.{sum_below, shared}
-use Rattle.elmore_tree.specs.Walks.{is_visited, path_to, path_of}
+use Rattle.elmore_tree.specs.Walks.{is_visited, path_to, path_of, IsWalked}
 
 -- over all nodes, the resistance common to the paths to this node and to the other times the other's capacitance
 abbrev pub elmore_sum : TreeParts → List Step → List ℕ → ℕ → ℕ
@@ -47,3 +47,13 @@ pub record IsFirstUnreached (needed reached : List Bool) (n : ℕ) : Type 0 wher
 -- each needed node is reached
 pub record IsAllReached (needed reached : List Bool) : Type 0 where
   pub each : (k : ℕ) → is_in needed k ≡ true → is_in reached k ≡ true
+
+-- a walk over a sound wire that is a tree and reaches all that has to be reached: there are no more resistors than steps
+pub record IsTreeWalk (t : TreeParts) (steps : List Step) : Type 0 where
+  pub sound : IsSoundTree t
+  pub needed : List Bool
+  pub reached : List Bool
+  pub walked : IsWalked t reached steps
+  pub tree : resistors_in reached t.resistors ≤ length steps
+  pub each : (k : ℕ) → is_in needed k ≡ is_needed t k
+  pub all : IsAllReached needed reached

@@ -1,14 +1,15 @@
 //! The Elmore form of a wire whose resistors make a tree.
 
 ghost use Rattle.std.specs.Prelude.{◌≡◌, ℕ, ◌+◌, ◌*◌, ◌<◌, ◌≤◌, ◌^◌, true, ℤ, pos, ◌≤ℤ◌, length, map, IfOk};
-ghost use Rattle.std.specs.Prelude.{IfErr, slice_index};
+ghost use Rattle.std.specs.Prelude.{IfErr, OnOk, slice_index};
 ghost use Rattle.std.specs.Int.RustNames.{unsigned_abs};
 ghost use Rattle.std.specs.List.{All};
 ghost use Rattle.elmore_tree.specs.Trees.{ground_sum, is_needed};
 ghost use Rattle.elmore_tree.specs.Sums.{base_of, sink_sums};
 ghost use Rattle.elmore_tree.specs.Walks.{is_visited, path_of};
 ghost use Rattle.elmore_tree.specs.Orders.{IsPreorderWalk, IsTapOrder, IsRowOf};
-ghost use Rattle.elmore_tree.specs.Forms.{IsFormOf, IsFaultOf};
+ghost use Rattle.elmore_tree.specs.Gathering.{IsTreeWalk};
+ghost use Rattle.elmore_tree.specs.Forms.{IsFormOf, IsTakenTree, IsFaultOf};
 
 use crate::fault::TreeFault;
 use crate::form::{SinkForm, WireForm};
@@ -16,7 +17,7 @@ use crate::order::TapOrder;
 use crate::reached::{first_unreached, needed_nodes, resistors_in};
 use crate::sums::elmore_sums;
 use crate::tree::Tree;
-use crate::walk::{Step, walk_from_root};
+use crate::walk::{Step, Walked, walk_from_root};
 use std::alloc::{AllocError, Global};
 use xt_model::Row;
 
@@ -99,13 +100,9 @@ fn sink_forms(alloc: Global, tree: &Tree, steps: &[Step]) -> Result<Vec<SinkForm
     Ok(forms)
 }
 
-/// The Elmore form of a wire: its load, and for each sink a base and a coefficient for each tap, as sums of the
-/// resistance common to two paths from the root times a capacitance (Elmore 1948). `NotTree` where the part
-/// joined to the root has at least as many resistors as nodes; else `NotReached` with the least node outside
-/// that part that has a sink, a tap or capacitance to ground. Takes time in proportion to the parts of the wire and
-/// to the sinks times the taps; beside the answer, memory in proportion to the nodes and the resistors.
-pub fn coefficients(alloc: Global, tree: &Tree) -> Result<WireForm, TreeFault>
-    ensures ok { IfOk result (λ form. IsFormOf tree.now form) }
+/// The steps of a walk over a tree that reaches all that hangs at it, or why the wire is no such tree.
+fn tree_steps(alloc: Global, tree: &Tree) -> Result<Vec<Step>, TreeFault>
+    ensures ok { IfOk result (λ steps. IsTreeWalk tree.now steps.items) }
     ensures fault { IfErr result (IsFaultOf tree.now) }
 {
     let walked = walk_from_root(alloc, tree)?;
@@ -116,7 +113,31 @@ pub fn coefficients(alloc: Global, tree: &Tree) -> Result<WireForm, TreeFault>
     if let Some(node) = first_unreached(&needed, &walked.reached) {
         return Err(TreeFault::NotReached(node));
     }
-    let sinks = sink_forms(alloc, tree, &walked.steps)?;
+    let Walked { steps, .. } = walked;
+    Ok(steps)
+}
+
+/// Tests whether a wire is a tree that reaches all that hangs at it, with the faults of `coefficients`. Takes time and
+/// memory in proportion to the nodes, the resistors, the sinks and the taps.
+pub fn check(alloc: Global, tree: &Tree) -> Result<(), TreeFault>
+    ensures ok { OnOk result (IsTakenTree tree.now) }
+    ensures fault { IfErr result (IsFaultOf tree.now) }
+{
+    tree_steps(alloc, tree)?;
+    Ok(())
+}
+
+/// The Elmore form of a wire: its load, and for each sink a base and a coefficient for each tap, as sums of the
+/// resistance common to two paths from the root times a capacitance (Elmore 1948). `NotTree` where the part
+/// joined to the root has at least as many resistors as nodes; else `NotReached` with the least node outside
+/// that part that has a sink, a tap or capacitance to ground. Takes time in proportion to the parts of the wire and
+/// to the sinks times the taps; beside the answer, memory in proportion to the nodes and the resistors.
+pub fn coefficients(alloc: Global, tree: &Tree) -> Result<WireForm, TreeFault>
+    ensures ok { IfOk result (λ form. IsFormOf tree.now form) }
+    ensures fault { IfErr result (IsFaultOf tree.now) }
+{
+    let steps = tree_steps(alloc, tree)?;
+    let sinks = sink_forms(alloc, tree, &steps)?;
     Ok(WireForm {
         load: load(tree),
         sinks: Row::from_vec(sinks),

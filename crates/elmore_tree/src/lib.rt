@@ -12,7 +12,7 @@ mod sums;
 mod tree;
 mod walk;
 
-pub use elmore::coefficients;
+pub use elmore::{check, coefficients};
 pub use fault::TreeFault;
 pub use form::{SinkForm, WireForm};
 pub use part::{Resistor, Tap};

@@ -1,35 +1,17 @@
-use Rattle.std.proofs.Common.{◌≡◌, ◌∙◌, ◌≤◌, ◌<◌, arith, length}
-use Rattle.elmore_tree.specs.Paths.{resistors_in}
-use Rattle.elmore_tree.proofs.FormLaws.{preorder_walk, is_meshed, not_meshed, least_unreached, stored_load, load_fits}
+use Rattle.std.proofs.Common.{◌∙◌}
+use Rattle.elmore_tree.proofs.FormLaws.{preorder_walk, needed_visited, stored_load, load_fits}
 use Rattle.elmore_tree.proofs.UniqueLaws.{form_is}
 use Rattle.elmore_tree.proofs.elmore.coefficients.Goals as goal
 
-pub returns-then-resistors_in-len-clause-fault : goal.returns-then-resistors_in-len-clause-fault
-returns-then-resistors_in-len-clause-fault c =
-    let t = c.args.tree.now in
-    let e : c.resistors_in.result ≡ resistors_in c.in_ok-walked.walked.reached.items t.resistors = rw (c.deref.ensures.value, c.resistors.ensures.value) at c.resistors_in.ensures in
-    let more : length c.in_ok-walked.walked.steps.items < resistors_in c.in_ok-walked.walked.reached.items t.resistors = omega (arith, e) in
-    is_meshed t c.in_ok-walked.walked.reached.items c.in_ok-walked.walked.steps.items c.in_ok-walked.ensures more
-
-pub returns-in-Some-clause-fault : goal.returns-in-Some-clause-fault
-returns-in-Some-clause-fault c =
-    let t = c.args.tree.now in
-    let e : c.resistors_in.result ≡ resistors_in c.in_ok-walked.walked.reached.items t.resistors = rw (c.deref.ensures.value, c.resistors.ensures.value) at c.resistors_in.ensures in
-    let first = rw (c.deref-2.ensures.value, c.deref-3.ensures.value) at c.in-Some.ensures in
-    let tree : resistors_in c.in_ok-walked.walked.reached.items t.resistors ≤ length c.in_ok-walked.walked.steps.items = omega (arith, e) in (
-      not_meshed t c.in_ok-walked.walked.reached.items c.in_ok-walked.walked.steps.items c.in_ok-walked.ensures tree,
-      least_unreached t c.in_ok-needed.needed.items c.in_ok-walked.walked.reached.items c.in_ok-walked.walked.steps.items c.in-Some.node c.in_ok-walked.ensures c.in_ok-needed.ensures.each first,
-    )
-
 pub sink_forms-requires-clause-walk : goal.sink_forms-requires-clause-walk
-sink_forms-requires-clause-walk c = rw c.deref-4.ensures.value (preorder_walk c.args.tree.now c.in_ok-walked.walked.reached.items c.in_ok-walked.walked.steps.items c.resistors.ensures.sound c.in_ok-walked.ensures)
+sink_forms-requires-clause-walk c = let w = c.in_ok-steps.ensures.ok in rw c.deref.ensures.value (preorder_walk c.args.tree.now w.reached c.in_ok-steps.steps.items w.sound w.walked)
+
+pub sink_forms-requires-clause-reached : goal.sink_forms-requires-clause-reached
+sink_forms-requires-clause-reached c = let w = c.in_ok-steps.ensures.ok in rw c.deref.ensures.value (needed_visited c.args.tree.now w.needed w.reached c.in_ok-steps.steps.items w.walked w.each w.all)
 
 pub returns-clause-ok : goal.returns-clause-ok
 returns-clause-ok c =
     let t = c.args.tree.now in
-    let e : c.resistors_in.result ≡ resistors_in c.in_ok-walked.walked.reached.items t.resistors = rw (c.deref.ensures.value, c.resistors.ensures.value) at c.resistors_in.ensures in
-    let tree : resistors_in c.in_ok-walked.walked.reached.items t.resistors ≤ length c.in_ok-walked.walked.steps.items = omega (arith, e) in
-    let all = rw (c.deref-2.ensures.value, c.deref-3.ensures.value) at c.in_default.ensures in
-    let forms = rw c.deref-4.ensures.value at c.in_ok-sinks.ensures in
-    form_is t c.in_ok-needed.needed.items c.in_ok-walked.walked.reached.items c.in_ok-walked.walked.steps.items _ c.resistors.ensures.sound c.in_ok-walked.ensures tree c.in_ok-needed.ensures.each all
-    (stored_load _ c.load.result c.load.ensures (load_fits t c.resistors.ensures.sound)) (c.from_vec.ensures ∙ forms)
+    let w = c.in_ok-steps.ensures.ok in
+    let forms = rw c.deref.ensures.value at c.in_ok-sinks.ensures in
+    form_is t c.in_ok-steps.steps.items w _ (stored_load _ c.load.result c.load.ensures (load_fits t w.sound)) (c.from_vec.ensures ∙ forms)

@@ -1,0 +1,10 @@
+mod GroundLaws
+mod ListLaws
+mod NodeLaws
+mod PlaceLaws
+mod TreeLaws
+mod NeedLaws
+mod SoundLaws
+mod LimitLaws
+mod NetLaws
+mod WireLaws

@@ -1,0 +1,6 @@
+use Rattle.std.proofs.Common.{◌≡◌, take, map}
+use Rattle.link_rules.specs.Wires.{resistor_of}
+use Rattle.link_wires.proofs.tree.resistors_of.Given as goal
+
+abbrev pub invariant-loop-resistor : goal.invariant-loop-resistor
+invariant-loop-resistor l = l.resistors.items ≡ map (resistor_of l.nodes) (take l.resistor-index l.wire.resistors)

@@ -1,0 +1,4 @@
+pub mod Places
+pub mod Wires
+pub mod Told
+pub mod Ground

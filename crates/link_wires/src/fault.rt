@@ -1,0 +1,89 @@
+//! What is refused at the wire of a net.
+
+ghost use Rattle.std.specs.Prelude.{◌≡◌, Some, IfOk};
+ghost use Rattle.link_rules.specs.declared.fault.LinkFault.TheVariants as faults;
+ghost use Rattle.link_rules.specs.Limits.{passed};
+ghost use Rattle.link_wires.specs.Told.{IsThere, IsToldFault, limit_by};
+
+use crate::nodes::Nodes;
+use elmore_tree::TreeFault;
+use link_rules::{LinkFault, LinkRefusal};
+use std::alloc::{AllocError, Global};
+use xt_model::{LimitKind, Name};
+
+/// Nodes of a net.
+const MOST_NODES: u128 = 65_536;
+
+/// The greatest load of a net, in aF.
+const MOST_LOAD: u128 = 1 << 46;
+
+/// A name once more.
+fn copied(alloc: Global, name: &Name) -> Result<Name, AllocError>
+    ensures { IfOk result (λ n. n ≡ name.now) }
+{
+    Ok(Name::new(Vec::from_slice(alloc, name.bytes())?))
+}
+
+/// The limit that a net passes, where the value is more than the most.
+fn passed(
+    alloc: Global,
+    what: LimitKind,
+    net: &Name,
+    value: u128,
+    most: u128,
+) -> Result<Option<LinkFault>, AllocError>
+    ensures { IfOk result (λ f. f ≡ passed what (Some net.now) value most) }
+{
+    if value <= most {
+        return Ok(None);
+    }
+    Ok(Some(LinkFault::Limit {
+        what,
+        name: Some(copied(alloc, net)?),
+        value,
+    }))
+}
+
+/// The limit that a net passes: of its nodes, where its wire is listed, then of its load.
+pub fn limit_of(
+    alloc: Global,
+    net: &Name,
+    listed: bool,
+    nodes: u32,
+    load: u128,
+) -> Result<Option<LinkFault>, AllocError>
+    ensures { IfOk result (λ f. f ≡ limit_by listed net.now nodes load) }
+{
+    if listed {
+        let fault = passed(alloc, LimitKind::Nodes, net, u128::from(nodes), MOST_NODES)?;
+        if fault.is_some() {
+            return Ok(fault);
+        }
+    }
+    passed(alloc, LimitKind::Load, net, load, MOST_LOAD)
+}
+
+/// The refusal of a net whose tree has a fault.
+pub fn refusal_of<'a>(
+    alloc: Global,
+    net: &Name,
+    nodes: &Nodes<'a>,
+    fault: TreeFault,
+) -> Result<LinkFault, AllocError>
+    requires { IsThere nodes.now fault }
+    ensures { IfOk result (IsToldFault net.now nodes.now fault) }
+{
+    match fault {
+        TreeFault::NotTree => Ok(LinkFault::Refused(LinkRefusal::K5 {
+            net: copied(alloc, net)?,
+        })),
+        TreeFault::NotReached(node) => {
+            let node = Vec::from_slice(alloc, nodes.name(node))?;
+            Ok(LinkFault::Refused(LinkRefusal::K6 {
+                net: copied(alloc, net)?,
+                node: Name::new(node),
+            }))
+        }
+        TreeFault::NoMemory => Ok(LinkFault::NoMemory),
+    }
+}

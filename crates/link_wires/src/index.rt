@@ -1,0 +1,103 @@
+//! What parasitics list, by the names of nets and nodes.
+
+ghost use Rattle.std.specs.Prelude.{◌≡◌, IfOk, option_map};
+ghost use Rattle.link_rules.specs.Nodes.{text_of};
+ghost use Rattle.link_wires.specs.Places.{HavePlaces};
+
+use link_index::{NetIndex, set_first};
+use link_rules::NetPins;
+use name_numbers::Named;
+use spef_read::{Name, Parasitics, WireText};
+use std::alloc::{AllocError, Global};
+use std::marker::Model;
+
+/// The bytes of a name; none for one that is not there.
+pub fn text_of<'a>(parasitics: &'a Parasitics, name: Name) -> &'a [u8]
+    ensures { result.now ≡ text_of parasitics.entry.now name }
+{
+    match parasitics.bytes(name) {
+        Some(bytes) => bytes,
+        None => b"",
+    }
+}
+
+/// Where the first wire of each name stands.
+fn places_of<'a>(alloc: Global, parasitics: &'a Parasitics) -> Result<Named<'a, usize>, AllocError>
+    ensures { IfOk result (HavePlaces parasitics.entry.now) }
+{
+    let mut places = Named::new(alloc);
+    let mut place = 0;
+    let mut rest = parasitics.nets.as_slice();
+    'wires: while let [wire, more @ ..] = rest {
+        set_first(&mut places, text_of(parasitics, wire.name), place)?;
+        place += 1;
+        rest = more;
+    }
+    Ok(places)
+}
+
+/// Parasitics beside the netlist that their names speak of, whose wires are found by hash. Contracts see both. No
+/// look-up takes memory.
+#[derive(Drop)]
+pub struct WireIndex<'a> {
+    nets: &'a NetIndex<'a>,
+    parasitics: &'a Parasitics,
+    places: Named<'a, usize>,
+}
+
+impl<'a> Model for WireIndex<'a> {
+    ghost use Rattle.link_wires.specs.Places.{Extracted, HavePlaces};
+
+    ghost Value = { Extracted };
+
+    ghost view = { λ i. record { netlist = i.nets.now; parasitics = i.parasitics.now } };
+
+    ghost invariant = { λ i. HavePlaces i.parasitics.now i.places };
+}
+
+impl<'a> WireIndex<'a> {
+    ghost use Rattle.link_rules.specs.Nodes.{node_net};
+    ghost use Rattle.link_rules.specs.Wires.{listed};
+
+    /// The index of parasitics. Takes time and memory in proportion to the wires.
+    pub fn new(
+        alloc: Global,
+        nets: &'a NetIndex<'a>,
+        parasitics: &'a Parasitics,
+    ) -> Result<WireIndex<'a>, AllocError>
+        ensures { IfOk result (λ i. i ≡ record { netlist = nets.entry.now; parasitics = parasitics.entry.now }) }
+    {
+        Ok(WireIndex {
+            nets,
+            parasitics,
+            places: places_of(alloc, parasitics)?,
+        })
+    }
+
+    /// The parasitics.
+    pub fn parasitics(&self) -> &'a Parasitics
+        ensures { result.now ≡ self.now.parasitics }
+    {
+        self.parasitics
+    }
+
+    /// The net of a node.
+    pub fn node_net(&self, node: &'a [u8]) -> Option<u32>
+        ensures { result ≡ node_net self.now.netlist self.now.parasitics.delimiter node.entry.now }
+    {
+        self.nets.node_net(self.parasitics.delimiter, node)
+    }
+
+    /// The wire that is listed for a net; none for one without a driver.
+    pub fn listed(&self, pins: &'a NetPins) -> Option<&'a WireText>
+        ensures { option_map (λ w. w.now) result ≡ listed self.now.netlist self.now.parasitics pins.entry.now }
+    {
+        match &pins.driver {
+            None => None,
+            Some(_) => match self.places.get(pins.name.bytes()) {
+                None => None,
+                Some(place) => Some(&self.parasitics.nets.as_slice()[*place]),
+            },
+        }
+    }
+}

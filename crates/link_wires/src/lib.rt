@@ -1,0 +1,12 @@
+//! The wires of nets: from parasitics to one tree and its couplings for each net (IEEE 1481, Elmore 1948).
+#![tactic(auto)]
+
+mod charges;
+mod fault;
+mod index;
+mod nodes;
+mod parts;
+mod tree;
+mod wire;
+
+pub use wire::{NetWire, form, wires};

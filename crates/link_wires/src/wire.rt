@@ -1,0 +1,119 @@
+//! The wire of each net.
+
+ghost use Rattle.std.specs.Prelude.{◌≡◌, ◌<◌, ◌^◌, false, length, IfOk, IfErr};
+ghost use Rattle.std.specs.List.{All, enumerate_from};
+ghost use Rattle.elmore_tree.specs.Forms.{IsFormOf, IsTakenTree};
+ghost use Rattle.link_rules.specs.Sound.{AreSoundParasitics};
+ghost use Rattle.link_rules.specs.Wires.{has_resistors};
+ghost use Rattle.link_wires.specs.Told.{IsLimit, IsTreeWithin, limit_at};
+ghost use Rattle.link_wires.specs.Wires.{HasQuantities, HasSinkQuantities, IsNumbered};
+ghost use Rattle.link_wires.specs.Wires.{IsWireOf, AreWires, IsNetFault, IsFirstFault};
+
+use crate::charges::{charges_of, couplings_of, greatest_load, taps_of};
+use crate::fault::{limit_of, refusal_of};
+use crate::index::WireIndex;
+use crate::nodes::{Nodes, end_nodes, nodes_of};
+use crate::parts::WireParts;
+use crate::tree::tree_of;
+use elmore_tree::{Tree, WireForm, check, coefficients};
+use link_index::NetIndex;
+use link_rules::{LinkFault, NetPins};
+use spef_read::Parasitics;
+use std::alloc::{AllocError, Global};
+use xt_model::{Coupling, Row};
+
+/// The couplings of a net and the tree of its wire, with a tap for each coupling.
+#[derive(Debug, Drop)]
+pub struct NetWire {
+    pub couplings: Row<Coupling>,
+    pub tree: Tree,
+}
+
+/// The tree of a net, or the limit that it passes.
+fn tree_within<'a>(
+    alloc: Global,
+    pins: &NetPins,
+    listed: bool,
+    nodes: &Nodes<'a>,
+    parts: &WireParts<'a>,
+) -> Result<Tree, LinkFault>
+    requires numbered { IsNumbered nodes.now pins.now.sinks parts.now }
+    requires wire { HasQuantities parts.now }
+    requires sinks { HasSinkQuantities pins.now }
+    requires unlisted { listed ≡ false → has_resistors parts.now ≡ false }
+    ensures ok { IfOk result (IsTreeWithin listed pins.now nodes.now parts.now) }
+    ensures fault { IfErr result (IsLimit (limit_at listed pins.now nodes.now parts.now)) }
+{
+    let sinks = pins.sinks.as_slice();
+    let charges = charges_of(alloc, nodes, sinks, parts)?;
+    let taps = taps_of(alloc, nodes, parts)?;
+    let load = greatest_load(&charges, &taps);
+    if let Some(fault) = limit_of(alloc, &pins.name, listed, nodes.len(), load)? {
+        return Err(fault);
+    }
+    let tree = tree_of(alloc, nodes, sinks, parts, &charges, taps)?;
+    Ok(tree)
+}
+
+/// The wire of a net of this number.
+fn wire_of<'a>(
+    alloc: Global,
+    index: &WireIndex<'a>,
+    net: u32,
+    pins: &'a NetPins,
+) -> Result<NetWire, LinkFault>
+    requires parasitics { AreSoundParasitics index.now.parasitics }
+    requires sinks { HasSinkQuantities pins.now }
+    ensures ok { IfOk result (IsWireOf index.now.netlist index.now.parasitics (net, pins.entry.now)) }
+    ensures fault { IfErr result (IsNetFault index.now.netlist index.now.parasitics (net, pins.entry.now)) }
+{
+    let listed = index.listed(pins);
+    let parts = WireParts::of_net(alloc, index, net, listed)?;
+    let ends = end_nodes(alloc, index.parasitics().delimiter, pins)?;
+    let nodes = nodes_of(alloc, &ends, &parts)?;
+    let tree = tree_within(alloc, pins, listed.is_some(), &nodes, &parts)?;
+    match check(alloc, &tree) {
+        Ok(()) => Ok(NetWire {
+            couplings: Row::from_vec(couplings_of(alloc, &parts)?),
+            tree,
+        }),
+        Err(fault) => Err(refusal_of(alloc, &pins.name, &nodes, fault)?),
+    }
+}
+
+/// The wires of nets, in their order. The first fault counts: of the first net that has one its count of nodes, where
+/// it has a driver and is listed, then its greatest load, then resistors that make no tree (`K5`), then the first node
+/// that is not reached (`K6`). Takes time and memory in proportion to the wires, their capacitors and resistors and the
+/// sinks of the nets.
+pub fn wires<'a>(
+    alloc: Global,
+    index: &'a NetIndex<'a>,
+    nets: &'a [NetPins],
+    parasitics: &'a Parasitics,
+) -> Result<Vec<NetWire>, LinkFault>
+    requires few { length nets.now < 2 ^ 32 }
+    requires parasitics { AreSoundParasitics parasitics.now }
+    requires sinks { All HasSinkQuantities nets.now }
+    ensures ok { IfOk result
+        (λ v. AreWires index.entry.now parasitics.entry.now (enumerate_from 0 nets.entry.now) v.items) }
+    ensures fault { IfErr result
+        (IsFirstFault index.entry.now parasitics.entry.now (enumerate_from 0 nets.entry.now)) }
+{
+    let extracted = WireIndex::new(alloc, index, parasitics)?;
+    let mut wires = Vec::new(alloc);
+    for (net, pins) in nets.iter().enumerate() {
+        wires.push(wire_of(alloc, &extracted, net as u32, pins)?)?;
+    }
+    Ok(wires)
+}
+
+/// The Elmore form of a wire that is a tree which reaches all.
+pub fn form(alloc: Global, wire: &NetWire) -> Result<WireForm, AllocError>
+    requires { IsTakenTree wire.now.tree }
+    ensures { IfOk result (IsFormOf wire.now.tree) }
+{
+    match coefficients(alloc, &wire.tree) {
+        Ok(form) => Ok(form),
+        Err(_) => Err(AllocError),
+    }
+}
