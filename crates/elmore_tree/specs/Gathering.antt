@@ -48,7 +48,8 @@ pub record IsFirstUnreached (needed reached : List Bool) (n : ℕ) : Type 0 wher
 pub record IsAllReached (needed reached : List Bool) : Type 0 where
   pub each : (k : ℕ) → is_in needed k ≡ true → is_in reached k ≡ true
 
--- a walk over a sound wire that is a tree and reaches all that has to be reached: there are no more resistors than steps
+-- a walk over a sound wire that is a tree and reaches all that has to be reached: there are no more resistors than
+-- steps
 pub record IsTreeWalk (t : TreeParts) (steps : List Step) : Type 0 where
   pub sound : IsSoundTree t
   pub needed : List Bool
