@@ -1,6 +1,7 @@
-mod BitLaws
+pub mod BitLaws
 pub mod FirstLaws
 mod PlaceLaws
 mod SplitLaws
 mod NameLaws
+mod SpelledLaws
 mod IndexLaws

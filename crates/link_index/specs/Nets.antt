@@ -10,6 +10,7 @@ use Rattle.xt_model.specs.Limits.{most_nets}
 use Rattle.link_rules.specs.Bits.{bits}
 use Rattle.link_rules.specs.Sound.{IsSoundNetlist}
 use Rattle.link_index.specs.Bits.{AreStarts}
+use Rattle.link_index.specs.Names.{AreNames}
 
 -- a table has the names of the bits in order
 abbrev pub HasNames : Nets → List (Text × Unit {0}) → Type 0
@@ -31,5 +32,6 @@ pub record IsIndex (n : Netlist) (firsts : List ℕ) (table : List (Text × Unit
   pub most : length (bits n.nets) ≤ most_nets
   pub starts : AreStarts n.nets firsts
   pub names : HasNames n.nets table
+  pub spelled : AreNames table
   pub instances : HaveNumbers n.instances numbers
   pub wires : AllZip (λ i. HaveWires i.pins) n.instances pins

@@ -34,9 +34,10 @@ impl<'a> Model for NetIndex<'a> {
 }
 
 impl<'a> NetIndex<'a> {
-    ghost use Rattle.std.specs.Prelude.{◌≤◌, length, IfOk, option_map, Some};
+    ghost use Rattle.std.specs.Prelude.{◌≤◌, length, IfOk, IfSome, option_map, Some};
     ghost use Rattle.std.specs.List.{slice_get};
     ghost use Rattle.xt_model.specs.Limits.{most_nets};
+    ghost use Rattle.xt_model.specs.Names.{IsName};
     ghost use Rattle.link_rules.specs.Bits.{bits, net_of};
     ghost use Rattle.link_rules.specs.Limits.{most_instances};
     ghost use Rattle.link_rules.specs.Nodes.{net_named, pin_net, node_net};
@@ -81,7 +82,8 @@ impl<'a> NetIndex<'a> {
 
     /// The name of the net of this number.
     pub fn name(&self, net: u32) -> Option<&[u8]>
-        ensures { option_map (λ b. b.now) result ≡ option_map (λ b. b.name) (slice_get (bits self.now.nets) net) }
+        ensures value { option_map (λ b. b.now) result ≡ option_map (λ b. b.name) (slice_get (bits self.now.nets) net) }
+        ensures spelled { IfSome result (λ n. IsName n.now) }
     {
         match self.names.get(net) {
             Some((name, _)) => Some(name),

@@ -12,7 +12,7 @@ mod places;
 mod split;
 mod wires;
 
-pub use bits::count_bits;
+pub use bits::{count_bits, number_at, width};
 pub use cells::CellIndex;
 pub use first::set_first;
 pub use index::NetIndex;

@@ -1,13 +1,13 @@
 //! The names of the bits of nets.
 
 ghost use Rattle.std.specs.Prelude.{◌≡◌, ◌<◌, ◌^◌, map, length, Some, IfOk, OnOk};
-ghost use Rattle.std.specs.List.{slice_get};
+ghost use Rattle.std.specs.List.{All, slice_get};
 ghost use Rattle.std.specs.Option.{IsSomeAnd};
 ghost use Rattle.link_rules.specs.Bits.{bits, bit_name, numbers_of};
-ghost use Rattle.link_rules.specs.Sound.{HaveOwnNames};
+ghost use Rattle.link_rules.specs.Sound.{IsShortName, IsSoundNetlist};
 ghost use Rattle.link_index.specs.Bits.{width};
 ghost use Rattle.link_index.specs.Nets.{HasNames};
-ghost use Rattle.link_index.specs.Names.{with_names, net_names};
+ghost use Rattle.link_index.specs.Names.{with_names, net_names, AreNames};
 
 use crate::bits::{number_at, width};
 use itoa::Buffer;
@@ -35,9 +35,12 @@ fn add_bus(
     left: u32,
     right: u32,
 ) -> Result<(), AllocError>
-    requires { width (Some (left, right)) < 2 ^ 32 }
-    ensures { OnOk result
+    requires few { width (Some (left, right)) < 2 ^ 32 }
+    requires short { IsShortName name.now }
+    requires spelled { AreNames names.old }
+    ensures entered { OnOk result
         (names.new ≡ with_names names.old (map (bit_name name.now) (numbers_of (left, right)))) }
+    ensures spelled { OnOk result (AreNames names.new) }
 {
     let count = width(Some((left, right))) as u32;
     for place in 0..count {
@@ -56,8 +59,11 @@ fn add_net(
 ) -> Result<(), AllocError>
     requires inside { number < length nets.now }
     requires few { length (bits nets.now) < 2 ^ 32 }
-    ensures { OnOk result
+    requires short { All (λ net. IsShortName net.0) nets.now }
+    requires spelled { AreNames names.old }
+    ensures entered { OnOk result
         (IsSomeAnd (slice_get nets.now number) (λ e. names.new ≡ with_names names.old (net_names e.0 e.1.range))) }
+    ensures spelled { OnOk result (AreNames names.new) }
 {
     match nets.get(number) {
         None => Ok(()),
@@ -70,9 +76,10 @@ fn add_net(
 
 /// A table of the names of all bits.
 pub fn names_of(alloc: Global, netlist: &Netlist) -> Result<NameTable<()>, AllocError>
-    requires own { HaveOwnNames netlist.now }
+    requires sound { IsSoundNetlist netlist.now }
     requires few { length (bits netlist.now.nets) < 2 ^ 32 }
-    ensures { IfOk result (HasNames netlist.now.nets) }
+    ensures names { IfOk result (HasNames netlist.now.nets) }
+    ensures spelled { IfOk result AreNames }
 {
     let nets = &netlist.nets;
     let mut names = NameTable::new(alloc);
