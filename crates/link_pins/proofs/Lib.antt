@@ -1,0 +1,17 @@
+mod PinLaws
+mod BitLaws
+mod FaultLaws
+mod PinsSound
+mod DriverLaws
+mod DriverFaults
+mod SinkLaws
+mod ArcLaws
+mod PlaceLaws
+mod PlacedLaws
+mod OrderLaws
+mod TimingLaws
+mod CheckLaws
+mod RowLaws
+mod StretchLaws
+mod NetLaws
+mod MadeLaws

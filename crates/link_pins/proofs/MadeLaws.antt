@@ -1,0 +1,103 @@
+-- Nets that are made of what was gathered for them, one after another.
+use Rattle.std.proofs.Common.{◌≡◌, ◌≢◌, ℕ, ◌+◌, ◌<◌, ◌≤◌, List, [], ◌∷◌, ◌++◌, length, map, take, set, get_or, Some, refl, sym, ap, ◌∙◌, arith}
+use Rattle.std.specs.Prelude.{flat_map}
+use Rattle.std.specs.List.{slice_get}
+use Rattle.std.proofs.lemmas.List.{length-set, map-append, take_all}
+use Rattle.std.proofs.lemmas.List.FromFn.{length-enumerate_from, get_or-enumerate_from}
+use Rattle.std.proofs.lemmas.Option.{slice_get_within, slice_get-get_or, get_or_from_slice_get}
+use Rattle.liberty_cells.specs.declared.library.Library.{Library}
+use Rattle.verilog_net.specs.declared.netlist.Netlist.{Netlist}
+use Rattle.sdc_read.specs.declared.constraints.Constraints.{Constraints}
+use Rattle.link_rules.specs.declared.circuit.Circuit.{Circuit}
+use Rattle.link_rules.specs.declared.circuit.NetPins.{NetPins}
+use Rattle.link_rules.specs.Arcs.{pin_arcs, arcs_of}
+use Rattle.link_rules.specs.Bits.{Bit, bits}
+use Rattle.link_rules.specs.Checks.{pin_checks, flop_checks, port_checks_from, checks_of}
+use Rattle.link_rules.specs.Circuit.{numbered, first_of, drivers_of, sinks_of, net_pins, circuit_of}
+use Rattle.link_rules.specs.Given.{given_of, is_input_port}
+use Rattle.link_rules.specs.Pins.{pins}
+use Rattle.link_pins.specs.declared.drivers.Driver.{Driver}
+use Rattle.link_pins.specs.declared.sinks.NetSinks.{NetSinks}
+use Rattle.link_pins.specs.declared.timings.NetArcs.{NetArcs}
+use Rattle.link_pins.specs.Rows.{outputs_in}
+use Rattle.link_pins.proofs.DriverLaws.{set_elsewhere}
+use Rattle.link_pins.proofs.PinLaws.{taken}
+
+-- of so many items those from a number on are as they were gathered
+pub record AreLeft (X : Type 0) (P : ℕ → X → Type 0) (count net : ℕ) (xs : List X) : Type 0 where
+  pub all : length xs ≡ count
+  pub each : (i : ℕ) (x : X) → net ≤ i → slice_get xs i ≡ Some x → P i x
+
+-- one of them is taken
+pub left_more : (X : Type 0) (P : ℕ → X → Type 0) (count net : ℕ) (xs : List X) (new : X) → AreLeft X P count net xs
+    → AreLeft X P count (net + 1) (set xs net new)
+left_more X P count net xs new left = record {
+  all = length-set xs net new ∙ left.all;
+  each = λ i x le at.
+      let other : i ≢ net = λ e. absurd (omega (arith, le, e)) in
+      left.each i x (omega (arith, le)) (set_elsewhere xs net i new x other at);
+}
+
+module _ (library : Library) (netlist : Netlist) (constraints : Constraints) where
+  abbrev pub HasDriver : ℕ → Driver → Type 0
+  HasDriver net d = (b : Bit) → slice_get (bits netlist.nets) net ≡ Some b → d.end ≡ first_of (drivers_of library netlist (net, b))
+
+  abbrev pub HasSinks : ℕ → NetSinks → Type 0
+  HasSinks net row = (b : Bit) → slice_get (bits netlist.nets) net ≡ Some b → row.sinks.items ≡ sinks_of library netlist constraints (net, b)
+
+  abbrev pub HasArcs : ℕ → NetArcs → Type 0
+  HasArcs net row = row.arcs.items ≡ flat_map (pin_arcs library netlist) (outputs_in net (pins library netlist))
+
+  -- a net by its parts
+  pub made_so : (net : ℕ) (b : Bit) (p : NetPins) → p.name ≡ b.name → p.input ≡ is_input_port b.role → p.given ≡ given_of constraints b
+      → p.driver ≡ first_of (drivers_of library netlist (net, b)) → p.sinks ≡ sinks_of library netlist constraints (net, b)
+      → p.arcs ≡ flat_map (pin_arcs library netlist) (outputs_in net (pins library netlist)) → p ≡ net_pins library netlist constraints (net, b)
+  unfolding net_pins arcs_of
+  made_so net b p name input given driver sinks arcs =
+      let e : ◌≡◌ {A = NetPins}
+      (record { name = p.name; input = p.input; given = p.given; driver = p.driver; sinks = p.sinks; arcs = p.arcs })
+      (record {
+        name = b.name;
+        input = is_input_port b.role;
+        given = given_of constraints b;
+        driver = first_of (drivers_of library netlist (net, b));
+        sinks = sinks_of library netlist constraints (net, b);
+        arcs = flat_map (pin_arcs library netlist) (outputs_in net (pins library netlist));
+      }) = rw (name, input, given, driver, sinks, arcs) refl in
+      e
+
+  numbered_at : (net : ℕ) (b : Bit) → slice_get (bits netlist.nets) net ≡ Some b → slice_get (numbered netlist) net ≡ Some (net, b)
+  numbered_at net b at =
+      let within : net < length (bits netlist.nets) = slice_get_within (bits netlist.nets) net b at in
+      let len : length (numbered netlist) ≡ length (bits netlist.nets) = length-enumerate_from 0 (bits netlist.nets) in
+      slice_get-get_or (numbered netlist) net (net, b) (omega (arith, within, len))
+      ∙ ap Some (get_or-enumerate_from 0 (bits netlist.nets) net (net, b) within ∙ ap (λ k. (k, get_or (bits netlist.nets) net b)) (omega arith)
+      ∙ ap (λ (x : Bit). (net, x)) (get_or_from_slice_get (bits netlist.nets) net b b at))
+
+  -- a net more
+  pub made_more : (net : ℕ) (b : Bit) (p : NetPins) (old new : List NetPins) → slice_get (bits netlist.nets) net ≡ Some b → p ≡ net_pins library netlist constraints (net, b)
+      → new ≡ old ++ p ∷ [] → old ≡ map (net_pins library netlist constraints) (take net (numbered netlist))
+      → new ≡ map (net_pins library netlist constraints) (take (net + 1) (numbered netlist))
+  made_more net b p old new at is push so_far =
+      push ∙ (ap (λ l. l ++ p ∷ []) so_far
+      ∙ (ap (λ (x : NetPins). map (net_pins library netlist constraints) (take net (numbered netlist)) ++ x ∷ []) is
+      ∙ (sym (map-append (net_pins library netlist constraints) (take net (numbered netlist)) ((net, b) ∷ []))
+      ∙ ap (map (net_pins library netlist constraints)) (sym (taken net (numbered netlist) (net, b) (numbered_at net b at))))))
+
+  pub made_all : (net : ℕ) (made : List NetPins) → length (bits netlist.nets) ≤ net → made ≡ map (net_pins library netlist constraints) (take net (numbered netlist))
+      → made ≡ map (net_pins library netlist constraints) (numbered netlist)
+  made_all net made past so_far =
+      let len : length (numbered netlist) ≡ length (bits netlist.nets) = length-enumerate_from 0 (bits netlist.nets) in
+      so_far ∙ ap (map (net_pins library netlist constraints)) (take_all net (numbered netlist) (omega (arith, past, len)))
+
+  -- the nets and the check points together
+  pub circuit_so : (c : Circuit) → c.nets ≡ map (net_pins library netlist constraints) (numbered netlist)
+      → c.checks ≡ flat_map (pin_checks library netlist) (pins library netlist) ++ port_checks_from library netlist constraints 0 (bits netlist.nets)
+      → c ≡ circuit_of library netlist constraints
+  unfolding circuit_of checks_of flop_checks
+  circuit_so c nets checks =
+      let e : ◌≡◌ {A = Circuit} (record { nets = c.nets; checks = c.checks }) (record {
+        nets = map (net_pins library netlist constraints) (numbered netlist);
+        checks = flat_map (pin_checks library netlist) (pins library netlist) ++ port_checks_from library netlist constraints 0 (bits netlist.nets);
+      }) = rw (nets, checks) refl in
+      e

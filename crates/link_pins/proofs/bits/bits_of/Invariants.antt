@@ -1,0 +1,7 @@
+use Rattle.std.proofs.Common.{◌≡◌, map, take}
+use Rattle.link_rules.specs.Bits.{bits}
+use Rattle.link_pins.specs.Seen.{bit_at}
+use Rattle.link_pins.proofs.bits.bits_of.Given as goal
+
+abbrev pub invariant-loop-number : goal.invariant-loop-number
+invariant-loop-number l = l.bits.items ≡ map bit_at (bits (take l.number l.netlist.nets))

@@ -1,0 +1,20 @@
+use Rattle.std.proofs.Common.{length, ap, subst, arith}
+use Rattle.std.proofs.lemmas.List.{length_push}
+use Rattle.verilog_net.specs.declared.netlist.PortRole.{PortRole}
+use Rattle.link_rules.specs.Bits.{bits}
+use Rattle.link_rules.specs.Circuit.{port_drivers}
+use Rattle.link_pins.specs.declared.bits.BitAt.{BitAt}
+use Rattle.link_pins.specs.Rows.{IsDriver}
+use Rattle.link_pins.proofs.BitLaws.{bit_read}
+use Rattle.link_pins.proofs.DriverLaws.{port_added}
+use Rattle.link_pins.proofs.drivers.port_drivers.Goals as goal
+
+pub loop-net-preserved : goal.loop-net-preserved
+loop-net-preserved c = record {
+  count = omega (arith, ap length c.in_ok-push.ensures.items, length_push c.loop-net.drivers.items c.in_ok-of_port.field-0, c.loop-net.invariant.count);
+  each =
+      port_added c.args.nets.now.nets c.loop-net.net c.loop-net.drivers.items c.push.new.self.items c.in_ok-of_port.field-0 c.loop-net.invariant.count c.in_ok-push.ensures.items
+      c.loop-net.invariant.each
+      (λ b at. subst (λ (r : PortRole). IsDriver c.in_ok-of_port.field-0 (port_drivers b r)) (ap (λ (x : BitAt). x.role) (bit_read (bits c.args.nets.now.nets) c.args.bits.now c.loop-net.net b _ c.requires.bits at))
+      (c.in_ok-of_port.ensures b at));
+}

@@ -1,0 +1,21 @@
+use Rattle.std.proofs.Common.{◌≤◌, ◌-◌, length, take}
+use Rattle.link_rules.specs.Pins.{pins}
+use Rattle.link_pins.specs.Places.{HasRoom, IsClear}
+use Rattle.link_pins.specs.Rows.{AreTimed}
+use Rattle.link_pins.proofs.OrderLaws.{IsBoundary}
+use Rattle.link_pins.proofs.timings.timings_of.Given as goal
+
+abbrev pub invariant-loop-k : goal.invariant-loop-k
+invariant-loop-k l = AreTimed l.cells l.nets (take l.k (pins l.cells l.nets)) l.timings.nets.items l.timings.checks.items
+
+abbrev pub invariant-instances : goal.invariant-instances
+invariant-instances l = record {
+  within : l.from ≤ length l.pins;
+  boundary : IsBoundary l.cells l.nets l.from;
+  room : HasRoom l.cells l.places.at.items;
+  clear : IsClear l.places.at.items;
+  timed : AreTimed l.cells l.nets (take l.from (pins l.cells l.nets)) l.timings.nets.items l.timings.checks.items;
+}
+
+abbrev pub decreases-instances : goal.decreases-instances
+decreases-instances l = length l.pins - l.from

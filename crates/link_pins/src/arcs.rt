@@ -1,0 +1,186 @@
+//! The timing arcs of output pins.
+
+ghost use Rattle.std.specs.Prelude.{◌≡◌, ◌<◌, ◌≤◌, ◌++◌, length, option_map, Some, IsSome, IfOk, OnOk};
+ghost use Rattle.std.specs.List.{All};
+ghost use Rattle.verilog_net.specs.declared.netlist.Netlist.{Netlist};
+ghost use Rattle.link_rules.specs.Arcs.{edge_pairs, tables_at, arcs_from, pin_arcs};
+ghost use Rattle.link_rules.specs.Pins.{Connected};
+ghost use Rattle.link_pins.specs.Places.{place_of, entered, with_pin, AreEntries, AreEntered, AreThose};
+ghost use Rattle.link_pins.specs.Places.{IsClear, HasRoom};
+ghost use Rattle.link_pins.specs.Seen.{pin_at, connected_at};
+
+use crate::pins::PinOn;
+use liberty_cells::{Sense, Timing, TimingKind};
+use link_index::CellIndex;
+use std::alloc::{AllocError, Global};
+use xt_model::{Edge, NetId, TimingArc};
+
+/// A sink by the numbers of its net and of itself there.
+#[derive(Clone, Copy, Debug, PartialEq, Eq)]
+pub struct SinkAt {
+    pub net: u32,
+    pub sink: u32,
+}
+
+/// The sinks that the input pins of one instance are, by the places of the pins in the cell.
+#[derive(Drop)]
+pub struct Places {
+    at: Vec<Option<SinkAt>>,
+}
+
+/// The pairs of edges of an input and of an output that a timing group has arcs for.
+fn edge_pairs(kind: TimingKind, sense: Sense) -> &'static [(Edge, Edge)]
+    ensures { result.now ≡ edge_pairs kind sense }
+{
+    match (kind, sense) {
+        (TimingKind::RisingEdge, _) => &[(Edge::Rise, Edge::Rise), (Edge::Rise, Edge::Fall)],
+        (TimingKind::Combinational, Sense::Positive) => {
+            &[(Edge::Rise, Edge::Rise), (Edge::Fall, Edge::Fall)]
+        }
+        (TimingKind::Combinational, Sense::Negative) => {
+            &[(Edge::Rise, Edge::Fall), (Edge::Fall, Edge::Rise)]
+        }
+        (TimingKind::Combinational, Sense::Non) => &[
+            (Edge::Rise, Edge::Rise),
+            (Edge::Rise, Edge::Fall),
+            (Edge::Fall, Edge::Rise),
+            (Edge::Fall, Edge::Fall),
+        ],
+        _ => &[],
+    }
+}
+
+/// The delay table and the slew table of an output's edge.
+fn tables_at(timing: &Timing, edge: Edge) -> Option<(u32, u32)>
+    ensures { result ≡ tables_at timing.now edge }
+{
+    let (delay, slew) = match edge {
+        Edge::Rise => (timing.rise, timing.rise_slew),
+        Edge::Fall => (timing.fall, timing.fall_slew),
+    };
+    match (delay, slew) {
+        (Some(delay), Some(slew)) => Some((delay, slew)),
+        _ => None,
+    }
+}
+
+impl Places {
+    /// Room for so many pins.
+    pub fn new(alloc: Global, size: usize) -> Result<Places, AllocError>
+        ensures count { IfOk result (λ p. length p.at.items ≡ size) }
+        ensures clear { IfOk result (λ p. IsClear p.at.items) }
+    {
+        Ok(Places {
+            at: vec![in alloc; None; size]?,
+        })
+    }
+
+    /// Enters a pin with its place, where it is an input pin; of two of one name the first stays.
+    fn add<'a>(&mut self, cells: &CellIndex<'a>, pin: PinOn, place: u32)
+        requires there { IsSome (pin_at cells.now pin) }
+        requires room { pin.pin < length self.now.at.items }
+        ensures { self.new.at.items ≡ with_pin cells.now pin place self.old.at.items }
+    {
+        if pin.is_input(cells) {
+            if self.at[pin.pin].is_none() {
+                self.at[pin.pin] = Some(SinkAt {
+                    net: pin.net,
+                    sink: place,
+                });
+            }
+        }
+    }
+
+    /// Enters the input pins among those of one instance, which stand from one place to before another; of two of one
+    /// name the first stays.
+    pub fn enter<'a>(
+        &mut self,
+        cells: &CellIndex<'a>,
+        pins: &[PinOn],
+        places: &[u32],
+        from: usize,
+        to: usize,
+    )
+        requires order { from ≤ to }
+        requires within { to ≤ length pins.now }
+        requires places { length places.now ≡ length pins.now }
+        requires there { All (λ p. IsSome (pin_at cells.now p)) pins.now }
+        requires room { HasRoom cells.now self.now.at.items }
+        requires clear { IsClear self.now.at.items }
+        ensures count { length self.new.at.items ≡ length self.old.at.items }
+        ensures entries { AreEntries cells.now pins.now places.now from to self.new.at.items }
+    {
+        for k in from..to {
+            self.add(cells, pins[k], places[k]);
+        }
+    }
+
+    /// Forgets the pins that stand from one place to before another.
+    pub fn clear(&mut self, pins: &[PinOn], from: usize, to: usize)
+        requires order { from ≤ to }
+        requires within { to ≤ length pins.now }
+        requires room { All (λ p. p.pin < length self.now.at.items) pins.now }
+        requires those { AreThose pins.now from to self.now.at.items }
+        ensures count { length self.new.at.items ≡ length self.old.at.items }
+        ensures clear { IsClear self.new.at.items }
+    {
+        for k in from..to {
+            self.at[pins[k].pin] = None;
+        }
+    }
+
+    /// The sink that the input pin of this name in a cell is.
+    pub fn find<'a>(&self, cells: &CellIndex<'a>, cell: usize, name: &'a [u8]) -> Option<SinkAt>
+        requires cell { cell < length cells.now.cells }
+        requires room { HasRoom cells.now self.now.at.items }
+        ensures { option_map place_of result ≡ entered cells.now cell self.now.at.items name.entry.now }
+    {
+        match cells.pin(cell, name) {
+            None => None,
+            Some(pin) => self.at[pin],
+        }
+    }
+}
+
+/// Adds the arcs of a timing group from a sink.
+fn add_arcs(timing: &Timing, from: SinkAt, arcs: &mut Vec<TimingArc>) -> Result<(), AllocError>
+    ensures { OnOk result (arcs.new.items ≡ arcs.old.items ++ arcs_from timing.now (Some (place_of from))) }
+{
+    for (input, output) in edge_pairs(timing.kind, timing.sense) {
+        if let Some((delay, slew)) = tables_at(timing, *output) {
+            arcs.push(TimingArc {
+                from: NetId(from.net),
+                sink: from.sink,
+                input: *input,
+                output: *output,
+                delay,
+                slew,
+            })?;
+        }
+    }
+    Ok(())
+}
+
+/// Adds the arcs of an output pin: timing groups in order, related pins in order, pairs of edges in order.
+pub fn add_pin_arcs<'a>(
+    cells: &CellIndex<'a>,
+    places: &Places,
+    pin: PinOn,
+    arcs: &mut Vec<TimingArc>,
+) -> Result<(), AllocError>
+    requires there { IsSome (pin_at cells.now pin) }
+    requires room { HasRoom cells.now places.now.at.items }
+    ensures { OnOk result
+        ((netlist : Netlist) (c : Connected) → connected_at cells.now netlist pin ≡ Some c
+        → AreEntered cells.now netlist pin.instance pin.cell places.now.at.items
+        → arcs.new.items ≡ arcs.old.items ++ pin_arcs cells.now netlist c) }
+{
+    for timing in pin.of(cells).timings() {
+        for related in timing.related.as_slice() {
+            if let Some(from) = places.find(cells, pin.cell, related.bytes()) {
+                add_arcs(timing, from, arcs)?;
+            }
+        }
+    }
+    Ok(())
+}

@@ -1,0 +1,22 @@
+//! The nets of a design by their pins: from a library, a netlist and constraints to what drives each net, its sinks,
+//! its timing arcs and the check points.
+#![tactic(auto)]
+
+mod arcs;
+mod bits;
+mod checks;
+mod circuit;
+mod drivers;
+mod given;
+mod instances;
+mod limits;
+mod names;
+mod nets;
+mod pins;
+mod ports;
+mod sinks;
+mod timings;
+
+pub use circuit::connect;
+pub use instances::check_instances;
+pub use limits::check_counts;

@@ -1,0 +1,175 @@
+//! Nets from what was gathered for them.
+
+ghost use Rattle.std.specs.Prelude.{◌≡◌, ◌<◌, ◌++◌, length, map, Some, IfOk, OnOk};
+ghost use Rattle.std.specs.List.{slice_get};
+ghost use Rattle.liberty_cells.specs.declared.library.Library.{Library};
+ghost use Rattle.link_rules.specs.Bits.{Bit, bits as bits_of};
+ghost use Rattle.link_rules.specs.Checks.{port_checks, port_checks_from};
+ghost use Rattle.link_rules.specs.Circuit.{net_pins as pins_by, numbered, sinks_of};
+ghost use Rattle.link_rules.specs.Given.{given_of, is_input_port};
+ghost use Rattle.link_rules.specs.Pins.{pins as pins_of};
+ghost use Rattle.link_rules.specs.Sound.{IsSoundNetlist};
+ghost use Rattle.link_pins.specs.Rows.{AreDrivers, AreSinks, HaveArcs};
+ghost use Rattle.link_pins.specs.Seen.{bit_at, AreBits};
+
+use crate::bits::BitAt;
+use crate::checks::add_port_checks;
+use crate::drivers::Driver;
+use crate::given::given;
+use crate::names::net_name;
+use crate::sinks::NetSinks;
+use crate::timings::NetArcs;
+use link_index::{CellIndex, NetIndex};
+use link_rules::NetPins;
+use sdc_read::Constraints;
+use std::alloc::{AllocError, Global};
+use std::mem;
+use verilog_net::PortRole;
+use xt_model::{CheckPoint, Name, Row};
+
+/// What was gathered for each net: its driver, its sinks, and the arcs into it.
+#[derive(Drop)]
+pub struct Gathered {
+    pub drivers: Vec<Driver>,
+    pub sinks: Vec<NetSinks>,
+    pub arcs: Vec<NetArcs>,
+}
+
+/// Adds the check points of the port of a net, where it is an output port, the last of so many sinks. More than fit 32
+/// bits are out of memory.
+fn add_port<'a>(
+    alloc: Global,
+    nets: &NetIndex<'a>,
+    net: u32,
+    constraints: &Constraints,
+    bit: BitAt,
+    sinks: usize,
+    checks: &mut Vec<CheckPoint>,
+) -> Result<(), AllocError>
+    requires there { net < length (bits_of nets.now.nets) }
+    requires sound { IsSoundNetlist nets.now }
+    ensures { OnOk result
+        ((library : Library) (b : Bit) → slice_get (bits_of nets.now.nets) net ≡ Some b → bit ≡ bit_at b
+        → sinks ≡ length (sinks_of library nets.now constraints.now (net, b))
+        → checks.new.items ≡ checks.old.items ++ port_checks library nets.now constraints.now net b b.role) }
+{
+    match bit.role {
+        PortRole::Output => {
+            let Ok(last) = u32::try_from(sinks.saturating_sub(1)) else {
+                return Err(AllocError);
+            };
+            let name = net_name(alloc, nets, net)?;
+            add_port_checks(alloc, name.bytes(), constraints, bit, (net, last), checks)
+        }
+        _ => Ok(()),
+    }
+}
+
+/// Adds the check points of all output ports.
+pub fn add_all_ports<'a>(
+    alloc: Global,
+    cells: &CellIndex<'a>,
+    nets: &NetIndex<'a>,
+    constraints: &Constraints,
+    bits: &[BitAt],
+    sinks: &[NetSinks],
+    checks: &mut Vec<CheckPoint>,
+) -> Result<(), AllocError>
+    requires bits { AreBits nets.now.nets bits.now }
+    requires sinks { AreSinks cells.now nets.now constraints.now sinks.now }
+    ensures { OnOk result
+        (checks.new.items
+        ≡ checks.old.items ++ port_checks_from cells.now nets.now constraints.now 0 (bits_of nets.now.nets)) }
+{
+    let _library = cells.library();
+    for net in 0..nets.count() {
+        let place = net as usize;
+        add_port(
+            alloc,
+            nets,
+            net,
+            constraints,
+            bits[place],
+            sinks[place].sinks.len(),
+            checks,
+        )?;
+    }
+    Ok(())
+}
+
+/// A net by its pins.
+fn net_pins(
+    name: Name,
+    constraints: &Constraints,
+    bit: BitAt,
+    driver: Driver,
+    sinks: NetSinks,
+    arcs: NetArcs,
+) -> NetPins
+    ensures name { result.name ≡ name }
+    ensures input { result.input ≡ is_input_port bit.role }
+    ensures given { (b : Bit) → bit ≡ bit_at b → result.given ≡ given_of constraints.now b }
+    ensures driver { result.driver ≡ driver.end }
+    ensures sinks { result.sinks ≡ sinks.sinks.items }
+    ensures arcs { result.arcs ≡ arcs.arcs.items }
+{
+    let Driver { end, twice: _ } = driver;
+    let NetSinks { sinks } = sinks;
+    let NetArcs { arcs } = arcs;
+    NetPins {
+        name,
+        input: bit.role == PortRole::Input,
+        given: given(constraints, bit),
+        driver: end,
+        sinks: Row::from_vec(sinks),
+        arcs: Row::from_vec(arcs),
+    }
+}
+
+/// All nets by their pins.
+pub fn all_nets<'a>(
+    alloc: Global,
+    cells: &CellIndex<'a>,
+    nets: &NetIndex<'a>,
+    constraints: &Constraints,
+    bits: &[BitAt],
+    gathered: Gathered,
+) -> Result<Vec<NetPins>, AllocError>
+    requires bits { AreBits nets.now.nets bits.now }
+    requires drivers { AreDrivers nets.now.nets (pins_of cells.now nets.now) gathered.drivers.items }
+    requires sinks { AreSinks cells.now nets.now constraints.now gathered.sinks.items }
+    requires arcs { HaveArcs cells.now nets.now (pins_of cells.now nets.now) gathered.arcs.items }
+    ensures { IfOk result
+        (λ v. v.items ≡ map (pins_by cells.now nets.now constraints.now) (numbered nets.now)) }
+{
+    let Gathered {
+        mut drivers,
+        mut sinks,
+        mut arcs,
+    } = gathered;
+    let _library = cells.library();
+    let mut made = Vec::new(alloc);
+    for net in 0..nets.count() {
+        let at = net as usize;
+        let name = net_name(alloc, nets, net)?;
+        let none = Driver {
+            end: None,
+            twice: false,
+        };
+        let driver = mem::replace(&mut drivers[at], none);
+        let row = mem::replace(
+            &mut sinks[at],
+            NetSinks {
+                sinks: Vec::new(alloc),
+            },
+        );
+        let into = mem::replace(
+            &mut arcs[at],
+            NetArcs {
+                arcs: Vec::new(alloc),
+            },
+        );
+        made.push(net_pins(name, constraints, bits[at], driver, row, into))?;
+    }
+    Ok(made)
+}

@@ -1,0 +1,134 @@
+//! The arcs into nets and the check points of instances.
+
+ghost use Rattle.std.specs.Prelude.{◌≡◌, ◌<◌, ◌≤◌, ◌++◌, [], ◌∷◌, List, length, Some, IsSome, IfSome, IfOk, OnOk};
+ghost use Rattle.std.specs.List.{All};
+ghost use Rattle.link_rules.specs.Bits.{bits};
+ghost use Rattle.link_rules.specs.Pins.{Connected, pins as pins_of};
+ghost use Rattle.link_rules.specs.Sound.{IsSoundNetlist};
+ghost use Rattle.link_pins.specs.Places.{AreEntered, HasRoom, IsPlaced, IsStretch};
+ghost use Rattle.link_pins.specs.Rows.{ArePlaces, AreTimed};
+ghost use Rattle.link_pins.specs.Seen.{ArePins, HasShortNames, connected_at};
+
+use crate::arcs::{Places, add_pin_arcs};
+use crate::checks::add_pin_checks;
+use crate::pins::PinOn;
+use link_index::{CellIndex, NetIndex};
+use std::alloc::{AllocError, Global};
+use xt_model::{CheckPoint, TimingArc};
+
+/// The arcs into one net.
+#[derive(Drop)]
+pub struct NetArcs {
+    pub arcs: Vec<TimingArc>,
+}
+
+/// The arcs into each net, and the check points of instances.
+#[derive(Drop)]
+pub struct Timings {
+    pub nets: Vec<NetArcs>,
+    pub checks: Vec<CheckPoint>,
+}
+
+/// The place behind the pins from this one on that are of the same instance.
+fn same_instance(pins: &[PinOn], from: usize) -> usize
+    requires { from < length pins.now }
+    ensures { IsStretch pins.now from result }
+{
+    let mut to = from + 1;
+    'pins: while to < pins.len() {
+        if pins[to].instance != pins[from].instance {
+            break 'pins;
+        }
+        to += 1;
+    }
+    to
+}
+
+/// The most pins that a cell has.
+fn most_pins<'a>(cells: &CellIndex<'a>) -> usize
+    ensures { All (λ c. length c.pins ≤ result) cells.now.cells }
+{
+    let mut most = 0;
+    for cell in cells.library().cells.as_slice() {
+        if cell.pins.len() > most {
+            most = cell.pins.len();
+        }
+    }
+    most
+}
+
+impl Timings {
+    /// Adds the arcs and the check points of a pin.
+    fn add<'a>(
+        &mut self,
+        alloc: Global,
+        cells: &CellIndex<'a>,
+        nets: &NetIndex<'a>,
+        places: &Places,
+        pin: PinOn,
+    ) -> Result<(), AllocError>
+        requires there { IsSome (connected_at cells.now nets.now pin) }
+        requires short { IfSome (connected_at cells.now nets.now pin) HasShortNames }
+        requires net { pin.net < length self.now.nets.items }
+        requires room { HasRoom cells.now places.now.at.items }
+        ensures { OnOk result
+            ((done : List Connected) (c : Connected) → connected_at cells.now nets.now pin ≡ Some c
+            → AreEntered cells.now nets.now pin.instance pin.cell places.now.at.items
+            → AreTimed cells.now nets.now done self.old.nets.items self.old.checks.items
+            → AreTimed cells.now nets.now (done ++ c ∷ []) self.new.nets.items self.new.checks.items) }
+    {
+        add_pin_checks(alloc, cells, nets, places, pin, &mut self.checks)?;
+        if pin.is_output(cells) {
+            add_pin_arcs(cells, places, pin, &mut self.nets[pin.net as usize].arcs)?;
+        }
+        Ok(())
+    }
+}
+
+/// No arcs into any net, and no check points.
+fn no_timings<'a>(alloc: Global, nets: &NetIndex<'a>) -> Result<Timings, AllocError>
+    ensures count { IfOk result (λ t. length t.nets.items ≡ length (bits nets.now.nets)) }
+    ensures arcs { IfOk result (λ t. All (λ row. row.arcs.items ≡ []) t.nets.items) }
+    ensures checks { IfOk result (λ t. t.checks.items ≡ []) }
+{
+    let mut rows = Vec::new(alloc);
+    for _ in 0..nets.count() {
+        rows.push(NetArcs {
+            arcs: Vec::new(alloc),
+        })?;
+    }
+    Ok(Timings {
+        nets: rows,
+        checks: Vec::new(alloc),
+    })
+}
+
+/// The arcs and the check points of all instances; the places are those of pins among the sinks of their nets.
+pub fn timings_of<'a>(
+    alloc: Global,
+    cells: &CellIndex<'a>,
+    nets: &NetIndex<'a>,
+    pins: &[PinOn],
+    sinks: &[u32],
+) -> Result<Timings, AllocError>
+    requires sound { IsSoundNetlist nets.now }
+    requires pins { ArePins cells.now nets.now pins.now }
+    requires placed { All (IsPlaced cells.now nets.now) pins.now }
+    requires places { ArePlaces (pins_of cells.now nets.now) sinks.now }
+    ensures { IfOk result
+        (λ t. AreTimed cells.now nets.now (pins_of cells.now nets.now) t.nets.items t.checks.items) }
+{
+    let mut timings = no_timings(alloc, nets)?;
+    let mut places = Places::new(alloc, most_pins(cells))?;
+    let mut from = 0;
+    'instances: while from < pins.len() {
+        let to = same_instance(pins, from);
+        places.enter(cells, pins, sinks, from, to);
+        for k in from..to {
+            timings.add(alloc, cells, nets, &places, pins[k])?;
+        }
+        places.clear(pins, from, to);
+        from = to;
+    }
+    Ok(timings)
+}
