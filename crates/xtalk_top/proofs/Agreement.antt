@@ -1,5 +1,5 @@
 -- Where the contents of the files are known, the words and the files mean one outcome.
-use Rattle.std.proofs.Common.{◌≡◌, ◌⊎◌, ℕ, ◌<◌, ◌≤◌, List, length, Option, Some, None, Result, Ok, Err, IfSome, refl, sym, ap, ◌∙◌, subst, inl, inr, arith, true≢false}
+use Rattle.std.proofs.Common.{◌≡◌, ◌⊎◌, ℕ, List, Option, Some, None, Result, Ok, Err, IfSome, refl, sym, ap, ◌∙◌, subst, inl, inr}
 use Rattle.std.specs.Prelude.{IsSome, MatchOption}
 use Rattle.xt_model.specs.Miller.{MillerNumbers, IsMiller}
 use Rattle.xt_model.specs.Parts.{Parts}
@@ -12,11 +12,11 @@ use Rattle.design_gen.proofs.Soundness.{sound}
 use Rattle.report_text.specs.declared.kind.ReportKind.{ReportKind}
 use Rattle.report_text.specs.declared.kind.ReportKind.TheVariants.{All}
 use Rattle.xtalk_top.specs.Words.{Text, HasCount, job_of}
-use Rattle.xtalk_top.specs.Outcome.{Contents, Outcome, prints, refuses, unread, FileMeans, LinkedMeans, DesignMeans, SolvedMeans, IsSolution, IsDesignText, TextReportMeans, why_refused, counted_by, most_bytes}
+use Rattle.xtalk_top.specs.Outcome.{Contents, Outcome, prints, refuses, unread, LinkedMeans, DesignMeans, SolvedMeans, IsSolution, IsDesignText, TextReportMeans, why_refused, counted_by}
 use Rattle.xtalk_top.specs.Gen.{GenMeans, IsSummed}
 use Rattle.xtalk_top.specs.Call.{JobMeans, Means, AreKnown, IsStop, status_of}
 use Rattle.xtalk_top.specs.declared.words.Job.{Job}
-use Rattle.xtalk_top.specs.declared.words.Job.TheVariants.{Solve, Replay, Gen}
+use Rattle.xtalk_top.specs.declared.words.Job.TheVariants.{Report, Solve, Replay, Link, Gen}
 use Rattle.xtalk_top.specs.declared.words.GenJob.{GenJob}
 use Rattle.xtalk_top.specs.declared.refusal.Refusal.{Refusal}
 use Rattle.xtalk_top.specs.declared.refusal.FileRefusal.TheVariants.{Content}
@@ -27,28 +27,10 @@ use Rattle.xtalk_top.specs.declared.refusal.Failure.TheVariants.{NoText}
 use Rattle.xtalk_top.proofs.Given.{HasRising, counted_sound, job_rises}
 use Rattle.xtalk_top.proofs.Within.{within_or_passed}
 use Rattle.xtalk_top.proofs.Counts.{job_counts}
-
--- both print, or both refuse with one status; a file that cannot be read stands beside any outcome
-abbrev pub Agree : Outcome → Outcome → Type 0
-Agree (prints a) (prints b) = Unit {0}
-Agree (prints a) (refuses b) = ⊥
-Agree (prints a) (unread f) = Unit {0}
-Agree (refuses a) (prints b) = ⊥
-Agree (refuses a) (refuses b) = status_of (NoText (Refused a)) ≡ status_of (NoText (Refused b))
-Agree (refuses a) (unread f) = Unit {0}
-Agree (unread f) o = Unit {0}
-
--- all outcomes that are meant agree
-abbrev pub LeavesOne : (Outcome → Type 0) → Type 0
-LeavesOne Meant = (o p : Outcome) → Meant o → Meant p → Agree o p
-
-unread_agrees : (o : Outcome) (f : Text) → Agree o (unread f)
-unread_agrees (prints a) f = tt
-unread_agrees (refuses a) f = tt
-unread_agrees (unread g) f = tt
-
-agree_as : (o p x y : Outcome) → o ≡ x → p ≡ y → Agree x y → Agree o p
-agree_as o p x y e f a = subst (λ z. Agree z p) (sym e) (subst (Agree x) (sym f) a)
+use Rattle.text_lines.specs.Lines.{text_of}
+use Rattle.linked_text.specs.Linked.{linked}
+pub use Rattle.xtalk_top.proofs.Agreeing.{Agree, LeavesOne, agree_as, unread_agrees, one_of_file}
+use Rattle.xtalk_top.proofs.OneBlock.{one_of_block}
 
 one_of_solved : (IsText : Text → Type 0) (d : Parts) → IsSound d → LeavesOne (SolvedMeans IsText d)
 one_of_solved IsText d s o p (inl a) (inl b) = agree_as o p _ _ a.2 b.2 refl
@@ -79,28 +61,6 @@ one_of_linked file bytes Leads one o p (inr a) (inl b) = absurd (err_no_ok b.0 a
 one_of_linked file bytes Leads one o p (inr a) (inr b) =
     one a.0 a.1 o p a.2 (subst (λ d. Leads d p) (one_design bytes b.0 a.0 b.1 a.1) b.2)
 
--- where its content is known, a file holds no other bytes
-one_content : (c : Option Text) (a b : Text) → IsSome c → IfSome c (λ whole. a ≡ whole) → IfSome c (λ whole. b ≡ whole) → b ≡ a
-one_content None a b known is_a is_b = absurd (true≢false (sym known))
-one_content (Some whole) a b known is_a is_b = is_b ∙ sym is_a
-
--- and none is too long and is not
-fits_or_not : (c : Option Text) (bytes : Text) → IsSome c → IfSome c (λ whole. bytes ≡ whole) → length bytes ≤ most_bytes → IfSome c (λ whole. most_bytes < length whole) → ⊥
-fits_or_not None bytes known is fits long = absurd (true≢false (sym known))
-fits_or_not (Some whole) bytes known is fits long =
-    let short : length whole ≤ most_bytes = subst (λ b. length b ≤ most_bytes) is fits in
-    absurd (omega (arith, short, long))
-
-pub one_of_file : (file : Text) (content : Contents) (Leads : Text → Outcome → Type 0) → IsSome (content file) → ((bytes : Text) → LeavesOne (Leads bytes))
-    → LeavesOne (λ o. FileMeans file content (λ bytes. Leads bytes o) o)
-one_of_file file content Leads known one o p (inl e) b = agree_as o p (unread file) p e refl tt
-one_of_file file content Leads known one o p (inr a) (inl e) = agree_as o p o (unread file) refl e (unread_agrees o file)
-one_of_file file content Leads known one o p (inr (inl a)) (inr (inl b)) = agree_as o p _ _ a.1 b.1 refl
-one_of_file file content Leads known one o p (inr (inl a)) (inr (inr b)) = absurd (fits_or_not (content file) b.0 known b.1 b.2 a.0)
-one_of_file file content Leads known one o p (inr (inr a)) (inr (inl b)) = absurd (fits_or_not (content file) a.0 known a.1 a.2 b.0)
-one_of_file file content Leads known one o p (inr (inr a)) (inr (inr b)) =
-    one a.0 o p a.3 (subst (λ bytes. Leads bytes p) (one_content (content file) a.0 b.0 known a.1 b.1) b.3)
-
 pub one_of_text : (file : Text) (miller : Option MillerNumbers) (kind : ReportKind) (content : Contents) → IfSome miller IsMiller
     → ((f : Text) → TextReportMeans file miller kind content (unread f) → IsSome (content f)) → LeavesOne (TextReportMeans file miller kind content)
 one_of_text file miller kind content rising known =
@@ -120,6 +80,10 @@ one_outcome words content known = go (job_of words) (job_rises words) (job_count
     go (Some (Solve job)) rising counts known o p a b = one_of_text job.file job.miller job.kind content rising known o p a b
     go (Some (Replay job)) rising counts known o p a b = one_of_text job.file job.miller All content rising known o p a b
     go (Some (Gen job)) rising counts known o p a b = one_of_gen job counts o p a b
+    go (Some (Report job)) rising counts known o p a b =
+        one_of_block job.files content (λ d. DesignMeans job.kind (counted_by job.miller d)) known (λ d s. one_of_design job.kind (counted_by job.miller d) (counted_sound job.miller d rising s)) o p a b
+    go (Some (Link job)) rising counts known o p a b =
+        one_of_block job.files content (λ d o. o ≡ prints (text_of (linked (counted_by job.miller d)))) known (λ d s o p a b. agree_as o p _ _ a b tt) o p a b
 
 -- ---- the status of a call without a text
 

@@ -21,7 +21,7 @@ use Rattle.xtalk_top.specs.Outcome.{Contents, Outcome, DesignMeans, IsDesignText
 use Rattle.xtalk_top.specs.declared.words.CommandName.{CommandName}
 use Rattle.xtalk_top.specs.declared.words.CommandName.TheVariants as command
 use Rattle.xtalk_top.specs.declared.words.Job.{Job}
-use Rattle.xtalk_top.specs.declared.words.Job.TheVariants.{Gen, Replay, Solve}
+use Rattle.xtalk_top.specs.declared.words.Job.TheVariants.{Gen, Link, Replay, Report, Solve}
 use Rattle.xtalk_top.proofs.Lifts.{file_leads}
 
 -- three numbers that are Miller numbers rise
@@ -45,6 +45,8 @@ given_rises (Some text) = go (three_of text)
 
 -- the Miller numbers of a job, if it has any, rise
 abbrev pub HasRising : Job → Type 0
+HasRising (Report job) = IfSome job.miller IsMiller
+HasRising (Link job) = IfSome job.miller IsMiller
 HasRising (Solve job) = IfSome job.miller IsMiller
 HasRising (Replay job) = IfSome job.miller IsMiller
 HasRising (Gen job) = Unit {0}
@@ -55,6 +57,8 @@ job_rises (word ∷ rest) = by_name (command_named word)
   where
     by_items : (name : CommandName) (items : Option (List Item)) → IfSome (option_and_then (λ is. Some (job_for name (value_of is))) items) HasRising
     by_items name None = tt
+    by_items command.Report (Some items) = given_rises (value_of items (codes "miller"))
+    by_items command.Link (Some items) = given_rises (value_of items (codes "miller"))
     by_items command.Solve (Some items) = given_rises (value_of items (codes "miller"))
     by_items command.Replay (Some items) = given_rises (value_of items (codes "miller"))
     by_items command.Gen (Some items) = tt

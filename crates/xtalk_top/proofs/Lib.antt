@@ -1,3 +1,6 @@
+mod Agreeing
+mod OneBlock
+mod Blocks
 mod LinkedFaults
 mod Pieces
 mod Within

@@ -55,3 +55,10 @@ pub writes_line : {E : Type 0} (r : Result (Unit {0}) E) (w v : Option (List ℕ
     → OnOk r (v ≡ appended w line) → OnErr r (IsPrefixAppended w v line) → OnErr r (Rose f g) → WritesLine w v f g line
 writes_line (Ok x) w v f g line ok err rose = record { count = length line; within = omega arith; prefix = ok ∙ ap (appended w) (sym (take-length line)); whole = inl refl }
 writes_line (Err e) w v f g line ok err rose = record { count = err.0; within = omega (arith, err.1); prefix = err.2; whole = inr rose }
+
+pub name_pieces : (start code gap name end : List ℕ) → (start ++ (code ++ gap)) ++ (name ++ end) ≡ (start ++ (code ++ (gap ++ name))) ++ end
+name_pieces start code gap name end = simp append_assoc refl
+
+pub names_pieces : (start code gap first between second end f s : List ℕ) → first ≡ f → second ≡ s
+    → (start ++ (code ++ gap)) ++ (first ++ (between ++ (second ++ end))) ≡ (start ++ (code ++ (gap ++ (f ++ (between ++ s))))) ++ end
+names_pieces start code gap first between second end f s is_f is_s = rw (is_f, is_s) (simp append_assoc refl)

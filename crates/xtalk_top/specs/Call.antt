@@ -12,14 +12,19 @@ use Rattle.xtalk_top.specs.Outcome.{Contents, Outcome, prints, refuses, unread, 
 use Rattle.xtalk_top.specs.Solve.{SolveMeans}
 use Rattle.xtalk_top.specs.Replay.{ReplayMeans}
 use Rattle.xtalk_top.specs.Gen.{GenMeans}
+use Rattle.xtalk_top.specs.Report.{ReportMeans}
+use Rattle.xtalk_top.specs.Link.{LinkMeans}
+use Rattle.link_rules.specs.declared.fault.LinkRefusal.{LinkRefusal}
+use Rattle.link_rules.specs.declared.fault.LinkRefusal.TheVariants as refusals
+use Rattle.xtalk_top.specs.declared.refusal.Unlinked.TheVariants as unlinked
 use Rattle.xtalk_top.specs.Words.{Text, job_of}
 use Rattle.xtalk_top.specs.declared.words.Job.{Job}
-use Rattle.xtalk_top.specs.declared.words.Job.TheVariants.{Solve, Replay, Gen}
+use Rattle.xtalk_top.specs.declared.words.Job.TheVariants.{Report, Solve, Replay, Link, Gen}
 use Rattle.xtalk_top.specs.declared.refusal.PassedLimit.{PassedLimit}
 use Rattle.xtalk_top.specs.declared.refusal.DesignRefusal.TheVariants.{Limit}
 use Rattle.xtalk_top.specs.declared.refusal.TextRefusal.TheVariants.{At, Beyond}
 use Rattle.xtalk_top.specs.declared.refusal.FileRefusal.TheVariants.{TooLong, Content}
-use Rattle.xtalk_top.specs.declared.refusal.Refusal.TheVariants.{Words, File, Design}
+use Rattle.xtalk_top.specs.declared.refusal.Refusal.TheVariants.{Words, File, Linking, Design}
 use Rattle.xtalk_top.specs.declared.refusal.Stop.{Stop}
 use Rattle.xtalk_top.specs.declared.refusal.Stop.TheVariants.{Refused, Unread, NoMemory}
 use Rattle.xtalk_top.specs.declared.refusal.Failure.{Failure}
@@ -29,8 +34,10 @@ use Rattle.xtalk_top.specs.declared.refusal.Failure.TheVariants.{NoText, Unwritt
 
 -- each command has a page of its own
 abbrev pub JobMeans : Job → Contents → Outcome → Type 0
+JobMeans (Report job) content outcome = ReportMeans job content outcome
 JobMeans (Solve job) content outcome = SolveMeans job content outcome
 JobMeans (Replay job) content outcome = ReplayMeans job content outcome
+JobMeans (Link job) content outcome = LinkMeans job content outcome
 JobMeans (Gen job) content outcome = GenMeans job outcome
 
 -- the words are outside the grammar; or they ask for a job, whose files and design lead to the outcome
@@ -96,6 +103,29 @@ limit_line l = codes "limit: " ++ (what_word l.what ++ (codes " " ++ (name_field
 abbrev pub beyond_line : LimitKind → Option Text → ℕ → Text
 beyond_line what name value = codes "limit: " ++ (kind_word what ++ (codes " " ++ (name_field name ++ decimal value)))
 
+-- a code with one name, or with two
+abbrev pub one_name : Text → Text → Text
+one_name code name = code ++ (codes " " ++ name)
+
+abbrev pub two_names : Text → Text → Text → Text
+two_names code first second = code ++ (codes " " ++ (first ++ (codes " " ++ second)))
+
+-- the first of several names
+abbrev pub first_name : List Text → Text
+first_name [] = []
+first_name (name ∷ more) = name
+
+-- the code of a refusal of linking with its names: of a loop of arcs the first net that is told
+abbrev pub link_words : LinkRefusal → Text
+link_words (refusals.K1 instance cell) = two_names (codes "K1") instance cell
+link_words (refusals.K2 instance pin) = two_names (codes "K2") instance pin
+link_words (refusals.K3 net) = one_name (codes "K3") net
+link_words (refusals.K4 nets) = one_name (codes "K4") (first_name nets)
+link_words (refusals.K5 net) = one_name (codes "K5") net
+link_words (refusals.K6 net node) = two_names (codes "K6") net node
+link_words (refusals.K7 check) = one_name (codes "K7") check
+link_words (refusals.K9 instance cell) = two_names (codes "K9") instance cell
+
 -- the exit status of each failure, and its line on the error stream
 abbrev pub status_and_line : Failure → ℕ × Text
 status_and_line (NoText (Refused Words)) = (2, codes "xtalk: bad command line")
@@ -105,6 +135,8 @@ status_and_line (NoText (Refused (File file (Content (Beyond what name value))))
     (5, beyond_line what name value)
 status_and_line (NoText (Refused (File file TooLong))) =
     (5, codes "limit: file " ++ (file ++ (codes " " ++ decimal (most_bytes + 1))))
+status_and_line (NoText (Refused (Linking (unlinked.Refused why)))) = (4, codes "link: " ++ link_words why)
+status_and_line (NoText (Refused (Linking (unlinked.Beyond what name value)))) = (5, beyond_line what name value)
 status_and_line (NoText (Refused (Design (Limit passed)))) = (5, limit_line passed)
 status_and_line (NoText (Unread file)) = (6, codes "read fault: " ++ file)
 status_and_line Unwritten = (7, codes "write fault")

@@ -3,7 +3,10 @@ pub mod Forms
 pub mod Reading
 pub mod Words
 pub mod Outcome
+pub mod Linking
+pub mod Report
 pub mod Solve
 pub mod Replay
+pub mod Link
 pub mod Gen
 pub mod Call

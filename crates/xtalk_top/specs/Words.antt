@@ -13,11 +13,14 @@ use Rattle.xtalk_top.specs.Grammar.{CommandForm, OptionForm, given_of, number, n
 use Rattle.xtalk_top.specs.Grammar.{three_of, value_of, ◌>>=◌}
 use Rattle.xtalk_top.specs.declared.words.CommandName.{CommandName}
 use Rattle.xtalk_top.specs.declared.words.CommandName.TheVariants as command
+use Rattle.xtalk_top.specs.declared.words.BlockFiles.{BlockFiles}
+use Rattle.xtalk_top.specs.declared.words.ReportJob.{ReportJob}
+use Rattle.xtalk_top.specs.declared.words.LinkJob.{LinkJob}
 use Rattle.xtalk_top.specs.declared.words.SolveJob.{SolveJob}
 use Rattle.xtalk_top.specs.declared.words.ReplayJob.{ReplayJob}
 use Rattle.xtalk_top.specs.declared.words.GenJob.{GenJob}
 use Rattle.xtalk_top.specs.declared.words.Job.{Job}
-use Rattle.xtalk_top.specs.declared.words.Job.TheVariants.{Solve, Replay, Gen}
+use Rattle.xtalk_top.specs.declared.words.Job.TheVariants.{Report, Solve, Replay, Link, Gen}
 
 -- ---- the table
 
@@ -45,6 +48,18 @@ order = record { name = codes "order"; is_required = true; value = number 0 1844
 abbrev pub some_workers : OptionForm
 some_workers = record workers { is_required = true }
 
+-- the four files of a block, in their order
+abbrev pub block : List Text
+block = codes "lib" ∷ codes "netlist" ∷ codes "spef" ∷ codes "sdc" ∷ []
+
+-- `report LIB NETLIST SPEF SDC [--workers N] [--kind all|checks] [--miller L,M,H]`
+abbrev pub report_form : CommandForm
+report_form = record { positionals = block; options = workers ∷ kind ∷ miller ∷ [] }
+
+-- `link LIB NETLIST SPEF SDC [--miller L,M,H]`
+abbrev pub link_form : CommandForm
+link_form = record { positionals = block; options = miller ∷ [] }
+
 -- `replay FILE --order N --workers W [--miller L,M,H]`
 abbrev pub replay_form : CommandForm
 replay_form = record { positionals = codes "file" ∷ []; options = order ∷ some_workers ∷ miller ∷ [] }
@@ -64,14 +79,18 @@ gen_form = record { positionals = []; options = seed ∷ net_count ∷ workers �
 -- the command of this name
 abbrev pub command_named : Text → Option CommandName
 command_named word =
-    if bytes_eq word (codes "solve") then Some command.Solve
+    if bytes_eq word (codes "report") then Some command.Report
+    else if bytes_eq word (codes "solve") then Some command.Solve
     else if bytes_eq word (codes "replay") then Some command.Replay
+    else if bytes_eq word (codes "link") then Some command.Link
     else if bytes_eq word (codes "gen") then Some command.Gen else None
 
 -- the form of the words behind the command's own
 abbrev pub form_of_command : CommandName → CommandForm
+form_of_command command.Report = report_form
 form_of_command command.Solve = solve_form
 form_of_command command.Replay = replay_form
+form_of_command command.Link = link_form
 form_of_command command.Gen = gen_form
 
 -- ---- the jobs, where each name has this word
@@ -98,6 +117,29 @@ miller_of t =
 -- the Miller numbers that are given, if any are
 abbrev pub miller_or_none : Option Text → Option MillerNumbers
 miller_or_none text = text >>= three_of >>= miller_of
+
+-- the names of the four files that are given
+abbrev pub block_files : (Text → Option Text) → BlockFiles
+block_files given = record {
+  lib = text_or_empty (given (codes "lib"));
+  netlist = text_or_empty (given (codes "netlist"));
+  spef = text_or_empty (given (codes "spef"));
+  sdc = text_or_empty (given (codes "sdc"));
+}
+
+-- four files to link and to solve, by one worker, with the whole report and by the classical Miller numbers unless
+-- others are given
+abbrev pub report_job : (Text → Option Text) → ReportJob
+report_job given = record {
+  files = block_files given;
+  workers = number_or_one (given (codes "workers"));
+  kind = kind_or_all (given (codes "kind"));
+  miller = miller_or_none (given (codes "miller"));
+}
+
+-- four files to link, by the classical Miller numbers unless others are given
+abbrev pub link_job : (Text → Option Text) → LinkJob
+link_job given = record { files = block_files given; miller = miller_or_none (given (codes "miller")) }
 
 -- a linked text to solve, by one worker, with the whole report and by its own Miller numbers unless others are given
 abbrev pub solve_job : (Text → Option Text) → SolveJob
@@ -146,8 +188,10 @@ gen_job given = record {
 }
 
 abbrev pub job_for : CommandName → (Text → Option Text) → Job
+job_for command.Report given = Report (report_job given)
 job_for command.Solve given = Solve (solve_job given)
 job_for command.Replay given = Replay (replay_job given)
+job_for command.Link given = Link (link_job given)
 job_for command.Gen given = Gen (gen_job given)
 
 -- the job that the words ask for: the first word names a command, and those behind it are of its form
@@ -160,6 +204,8 @@ job_of (word ∷ rest) = do
 
 -- a run can have the count of workers of the job, and a design be generated for its count of nets, where it says one
 abbrev pub HasCount : Job → Type 0
+HasCount (Report job) = Unit {0}
 HasCount (Solve job) = Unit {0}
 HasCount (Replay job) = IsWorkerCount job.workers
+HasCount (Link job) = Unit {0}
 HasCount (Gen job) = IsCount job.nets

@@ -2,6 +2,7 @@
 
 ghost use Rattle.std.specs.Prelude.{◌≡◌, ◌≢◌, ◌≤◌, length, IfOk, IfErr, IfSome};
 ghost use Rattle.xt_io.specs.Outside.{KeepsCounts};
+ghost use Rattle.xtalk_top.specs.Words.{Text};
 ghost use Rattle.xtalk_top.specs.Outcome.{FileMeans, LinkedMeans, IsDesignText, most_bytes};
 ghost use Rattle.xtalk_top.specs.Call.{HasFault, IsStop, status_of};
 ghost use Rattle.xtalk_top.specs.declared.refusal.Failure.TheVariants.{NoText};
@@ -19,6 +20,7 @@ pub fn read_file<F: Files>(
     files: &mut F,
     file: FileName,
 ) -> Result<(FileName, Vec<u8>), Stop>
+    ensures content { (m : Text) → F.content files.new m ≡ F.content files.old m }
     ensures name { IfOk result (λ r. r.0 ≡ file) }
     ensures whole { IfOk result (λ r. IfSome (F.content files.old file) (λ whole. r.1.items ≡ whole)) }
     ensures fits { IfOk result (λ r. length r.1.items ≤ most_bytes) }

@@ -3,6 +3,7 @@
 
 use crate::file_name::FileName;
 use envelope::What;
+use link_rules::LinkRefusal;
 use xt_model::{Code, LimitKind, Name};
 
 /// A limit that is passed: what has it, the name of its net, if it is a net's, and the number that passes it.
@@ -45,6 +46,19 @@ pub enum FileRefusal {
     Content(TextRefusal),
 }
 
+/// Why the values of the four files of a block make no design.
+#[derive(Debug, Drop)]
+pub enum Unlinked {
+    /// They do not agree on something.
+    Refused(LinkRefusal),
+    /// They pass a limit, by this value: for nodes, and for a load in aF, that of the net of this name.
+    Beyond {
+        what: LimitKind,
+        name: Option<Name>,
+        value: u128,
+    },
+}
+
 /// Why the words and the files of a call mean no text.
 #[derive(Debug, Drop)]
 pub enum Refusal {
@@ -52,6 +66,8 @@ pub enum Refusal {
     Words,
     /// A file is refused.
     File { file: FileName, why: FileRefusal },
+    /// The files make no design together.
+    Linking(Unlinked),
     /// The design is refused.
     Design(DesignRefusal),
 }

@@ -1,8 +1,9 @@
 //! The line and the status of a failure.
 
-ghost use Rattle.std.specs.Prelude.{◌≡◌, ℕ, ◌≤◌, List, [], ◌∷◌, ◌++◌, OnOk, OnErr};
+ghost use Rattle.std.specs.Prelude.{◌≡◌, ℕ, ◌≤◌, List, [], ◌∷◌, ◌++◌, OnOk, OnErr, codes};
 ghost use Rattle.xt_io.specs.Outside.{Rose, appended, IsPrefixAppended};
 ghost use Rattle.xtalk_top.specs.Call.{line_of, status_of, beyond_line, what_word, kind_word, name_field, WritesLine};
+ghost use Rattle.xtalk_top.specs.Call.{first_name, link_words, one_name, two_names};
 ghost use Rattle.xtalk_top.specs.declared.refusal.Failure.TheVariants.{NoText};
 ghost use Rattle.xtalk_top.specs.declared.refusal.Stop.TheVariants.{Refused};
 ghost use Rattle.xtalk_top.specs.declared.refusal.Refusal.TheVariants.{File, Design};
@@ -12,10 +13,11 @@ ghost use Rattle.xtalk_top.specs.declared.refusal.DesignRefusal.TheVariants.{Lim
 
 use crate::file_name::FileName;
 use crate::refusal::{
-    DesignRefusal, Failure, FileRefusal, PassedLimit, Refusal, Stop, TextRefusal,
+    DesignRefusal, Failure, FileRefusal, PassedLimit, Refusal, Stop, TextRefusal, Unlinked,
 };
 use envelope::What;
 use itoa::Buffer;
+use link_rules::LinkRefusal;
 use xt_io::{Failed, MOST_BYTES, Sink, write_whole};
 use xt_model::{Code, LimitKind, Name};
 
@@ -66,6 +68,14 @@ fn refusal_status(why: &Refusal) -> u8
             file: _,
             why: FileRefusal::TooLong,
         } => 5,
+        Refusal::Linking(Unlinked::Refused(_)) => 4,
+        Refusal::Linking(
+            Unlinked::Beyond {
+                what: _,
+                name: _,
+                value: _,
+            },
+        ) => 5,
         Refusal::Design(DesignRefusal::Limit(_)) => 5,
     }
 }
@@ -121,6 +131,10 @@ fn write_refusal<E: Sink>(err: &mut E, why: &Refusal) -> Result<(), Failed>
     match why {
         Refusal::Words => write_whole(err, b"xtalk: bad command line\n"),
         Refusal::File { file, why } => write_file_refusal(err, file, why),
+        Refusal::Linking(Unlinked::Refused(why)) => write_unlinked(err, why),
+        Refusal::Linking(Unlinked::Beyond { what, name, value }) => write_beyond(
+            err, *what, name, *value,
+        ),
         Refusal::Design(DesignRefusal::Limit(passed)) => write_limit(err, passed),
     }
 }
@@ -194,6 +208,65 @@ fn word_of_kind(what: LimitKind) -> &'static [u8]
         LimitKind::Tables => b"tables",
         LimitKind::Checks => b"checks",
         LimitKind::Reads => b"reads",
+    }
+}
+
+// Writes a code with one name behind it.
+fn write_one_name<E: Sink>(err: &mut E, code: &[u8], name: &[u8]) -> Result<(), Failed>
+    ensures ok { OnOk result (E.written err.new ≡ appended (E.written err.old)
+        ((codes "link: " ++ one_name code.now name.now) ++ 10 ∷ [])) }
+    ensures err { OnErr result (IsPrefixAppended (E.written err.old) (E.written err.new)
+        ((codes "link: " ++ one_name code.now name.now) ++ 10 ∷ [])) }
+    ensures failed { OnErr result (Rose (E.faults err.old) (E.faults err.new)) }
+{
+    write_three(err, b"link: ", code, b" ")?;
+    write_two(err, name, b"\n")
+}
+
+// Writes a code with two names behind it.
+fn write_two_names<E: Sink>(
+    err: &mut E,
+    code: &[u8],
+    first: &Name,
+    second: &Name,
+) -> Result<(), Failed>
+    ensures ok { OnOk result (E.written err.new ≡ appended (E.written err.old)
+        ((codes "link: " ++ two_names code.now first.now second.now) ++ 10 ∷ [])) }
+    ensures err { OnErr result (IsPrefixAppended (E.written err.old) (E.written err.new)
+        ((codes "link: " ++ two_names code.now first.now second.now) ++ 10 ∷ [])) }
+    ensures failed { OnErr result (Rose (E.faults err.old) (E.faults err.new)) }
+{
+    write_three(err, b"link: ", code, b" ")?;
+    write_four(err, first.bytes(), b" ", second.bytes(), b"\n")
+}
+
+// The first name, or nothing.
+fn first_of(names: &[Name]) -> &[u8]
+    ensures { result.now ≡ first_name names.now }
+{
+    match names.first() {
+        Some(name) => name.bytes(),
+        None => b"",
+    }
+}
+
+// Writes why the files of a block make no design together.
+fn write_unlinked<E: Sink>(err: &mut E, why: &LinkRefusal) -> Result<(), Failed>
+    ensures ok { OnOk result (E.written err.new ≡ appended (E.written err.old)
+        ((codes "link: " ++ link_words why.now) ++ 10 ∷ [])) }
+    ensures err { OnErr result (IsPrefixAppended (E.written err.old) (E.written err.new)
+        ((codes "link: " ++ link_words why.now) ++ 10 ∷ [])) }
+    ensures failed { OnErr result (Rose (E.faults err.old) (E.faults err.new)) }
+{
+    match why {
+        LinkRefusal::K1 { instance, cell } => write_two_names(err, b"K1", instance, cell),
+        LinkRefusal::K2 { instance, pin } => write_two_names(err, b"K2", instance, pin),
+        LinkRefusal::K3 { net } => write_one_name(err, b"K3", net.bytes()),
+        LinkRefusal::K4 { nets } => write_one_name(err, b"K4", first_of(nets.as_slice())),
+        LinkRefusal::K5 { net } => write_one_name(err, b"K5", net.bytes()),
+        LinkRefusal::K6 { net, node } => write_two_names(err, b"K6", net, node),
+        LinkRefusal::K7 { check } => write_one_name(err, b"K7", check.bytes()),
+        LinkRefusal::K9 { instance, cell } => write_two_names(err, b"K9", instance, cell),
     }
 }
 

@@ -10,9 +10,11 @@ ghost use Rattle.xtalk_top.specs.declared.refusal.Failure.TheVariants.{NoText};
 ghost use Rattle.xtalk_top.specs.declared.refusal.Stop.TheVariants.{Refused};
 
 use crate::generated::summary_of_generated;
+use crate::link::text_of_block;
 use crate::refusal::{Failure, Refusal, Stop};
 use crate::refuse::refuse;
 use crate::replay::replay;
+use crate::report::report_of_block;
 use crate::solve::solve;
 use crate::words::{Job, WordsFault, parse_words};
 use std::alloc::Global;
@@ -95,8 +97,10 @@ fn job_text<F: Files>(alloc: Global, files: &mut F, job: Job) -> Result<Vec<u8>,
         → KeepsCounts (F.faults files.old) (F.faults files.new)) }
 {
     match job {
+        Job::Report(job) => report_of_block(alloc, files, job),
         Job::Solve(job) => solve(alloc, files, job),
         Job::Replay(job) => replay(alloc, files, job),
+        Job::Link(job) => text_of_block(alloc, files, job),
         Job::Gen(job) => summary_of_generated(alloc, job),
     }
 }

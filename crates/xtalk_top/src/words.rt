@@ -17,12 +17,42 @@ use xt_model::Miller;
 /// What the words ask for.
 #[derive(Debug, Drop)]
 pub enum Job {
+    /// The report of the design that the four files of a block make.
+    Report(ReportJob),
     /// The report of the design in a linked text.
     Solve(SolveJob),
     /// The same report, by runs of many workers in an order that a number picks.
     Replay(ReplayJob),
+    /// The linked text of the design that the four files of a block make.
+    Link(LinkJob),
     /// The summary of a generated design.
     Gen(GenJob),
+}
+
+/// The files of a block: a Liberty library, a structural Verilog netlist, SPEF parasitics and SDC constraints.
+#[derive(Debug, Drop)]
+pub struct BlockFiles {
+    pub lib: FileName,
+    pub netlist: FileName,
+    pub spef: FileName,
+    pub sdc: FileName,
+}
+
+/// A block to link and to solve: by how many workers, which report of it, and by which Miller numbers in place of the
+/// classical ones.
+#[derive(Debug, Drop)]
+pub struct ReportJob {
+    pub files: BlockFiles,
+    pub workers: u32,
+    pub kind: ReportKind,
+    pub miller: Option<Miller>,
+}
+
+/// A block to link, and by which Miller numbers in place of the classical ones.
+#[derive(Debug, Drop)]
+pub struct LinkJob {
+    pub files: BlockFiles,
+    pub miller: Option<Miller>,
 }
 
 /// A linked text to solve: by how many workers, which report of it, and by which Miller numbers in place of its own.
@@ -55,8 +85,10 @@ pub struct GenJob {
 /// The command that the first word names.
 #[derive(Debug, Clone, Copy)]
 enum CommandName {
+    Report,
     Solve,
     Replay,
+    Link,
     Gen,
 }
 
@@ -85,6 +117,18 @@ const MILLER: OptionRule = OptionRule {
 const SOLVE: CommandRule = CommandRule {
     positionals: &["file"],
     options: &[WORKERS, KIND, MILLER],
+};
+
+const BLOCK: &'static [&'static str] = &["lib", "netlist", "spef", "sdc"];
+
+const REPORT: CommandRule = CommandRule {
+    positionals: BLOCK,
+    options: &[WORKERS, KIND, MILLER],
+};
+
+const LINK: CommandRule = CommandRule {
+    positionals: BLOCK,
+    options: &[MILLER],
 };
 
 const ORDER: OptionRule = OptionRule {
@@ -135,8 +179,10 @@ fn command_named(word: &str) -> Option<CommandName>
     ensures { result ≡ Words.command_named word.now }
 {
     match word {
+        "report" => Some(CommandName::Report),
         "solve" => Some(CommandName::Solve),
         "replay" => Some(CommandName::Replay),
+        "link" => Some(CommandName::Link),
         "gen" => Some(CommandName::Gen),
         _ => None,
     }
@@ -147,8 +193,10 @@ fn rule_of(command: CommandName) -> CommandRule
     ensures { form_of result ≡ Words.form_of_command command }
 {
     match command {
+        CommandName::Report => REPORT,
         CommandName::Solve => SOLVE,
         CommandName::Replay => REPLAY,
+        CommandName::Link => LINK,
         CommandName::Gen => GEN,
     }
 }
@@ -231,6 +279,37 @@ fn file_name(alloc: Global, text: Option<&str>) -> Result<FileName, AllocError>
 
 // ---- jobs
 
+fn block_files(alloc: Global, matches: &ArgMatches) -> Result<BlockFiles, AllocError>
+    ensures { IfOk result (λ files. files ≡ Words.block_files (first_value (found_of matches.now))) }
+{
+    Ok(BlockFiles {
+        lib: file_name(alloc, matches.get_str("lib"))?,
+        netlist: file_name(alloc, matches.get_str("netlist"))?,
+        spef: file_name(alloc, matches.get_str("spef"))?,
+        sdc: file_name(alloc, matches.get_str("sdc"))?,
+    })
+}
+
+fn report_job(alloc: Global, matches: &ArgMatches) -> Result<ReportJob, AllocError>
+    ensures { IfOk result (λ job. job ≡ Words.report_job (first_value (found_of matches.now))) }
+{
+    Ok(ReportJob {
+        files: block_files(alloc, matches)?,
+        workers: number_or_one(matches.get_str("workers")),
+        kind: kind_or_all(matches.get_str("kind")),
+        miller: miller_or_none(matches.get_str("miller")),
+    })
+}
+
+fn link_job(alloc: Global, matches: &ArgMatches) -> Result<LinkJob, AllocError>
+    ensures { IfOk result (λ job. job ≡ Words.link_job (first_value (found_of matches.now))) }
+{
+    Ok(LinkJob {
+        files: block_files(alloc, matches)?,
+        miller: miller_or_none(matches.get_str("miller")),
+    })
+}
+
 fn solve_job(alloc: Global, matches: &ArgMatches) -> Result<SolveJob, AllocError>
     ensures { IfOk result (λ job. job ≡ Words.solve_job (first_value (found_of matches.now))) }
 {
@@ -268,8 +347,10 @@ fn job_for(alloc: Global, command: CommandName, matches: &ArgMatches) -> Result<
     ensures { IfOk result (λ job. job ≡ Words.job_for command (first_value (found_of matches.now))) }
 {
     match command {
+        CommandName::Report => Ok(Job::Report(report_job(alloc, matches)?)),
         CommandName::Solve => Ok(Job::Solve(solve_job(alloc, matches)?)),
         CommandName::Replay => Ok(Job::Replay(replay_job(alloc, matches)?)),
+        CommandName::Link => Ok(Job::Link(link_job(alloc, matches)?)),
         CommandName::Gen => Ok(Job::Gen(gen_job(matches))),
     }
 }

@@ -1,0 +1,26 @@
+//! Tests of the top call, and of the edge of the program: words, texts, limits and faults, over files and streams in
+//! memory. Nothing stands on this crate.
+#![tactic(auto)]
+
+#[cfg(test)]
+mod call;
+#[cfg(test)]
+mod checks;
+#[cfg(test)]
+mod designs;
+#[cfg(test)]
+mod edge;
+#[cfg(test)]
+mod generated;
+#[cfg(test)]
+mod limits;
+#[cfg(test)]
+mod miller;
+#[cfg(test)]
+mod outside;
+#[cfg(test)]
+mod refused_texts;
+#[cfg(test)]
+mod solving;
+#[cfg(test)]
+mod words;

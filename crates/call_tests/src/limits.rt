@@ -1,0 +1,76 @@
+//! Texts that are refused, and texts at the ends of what is taken.
+
+use crate::call::{calm, refuses, run};
+use crate::designs::ONE;
+use crate::refused_texts::{BACKWARD, CHECKED, LOOP, TOO_EARLY, TOO_LATE, TOO_SLOW, TWICE};
+use itoa::Buffer;
+use std::alloc::{AllocError, Global};
+use std::test::Fail;
+
+#[test]
+fn refuses_texts_limits_and_names(rt: HostRuntime) -> Result<(), Fail> {
+    let cases: [(&str, &[u8], u8, &[u8]); 8] = [
+        ("one.xt", CHECKED, 3, b"one.xt:7: X1\n"),
+        ("one.xt", LOOP, 3, b"one.xt:14: X3\n"),
+        ("one.xt", BACKWARD, 3, b"one.xt:5: X3\n"),
+        ("one.xt", TWICE, 3, b"one.xt:5: X3\n"),
+        ("one.xt", TOO_LATE, 5, b"limit: time a 70368744177665\n"),
+        ("one.xt", TOO_SLOW, 5, b"limit: slew a 1099511627778\n"),
+        ("one.xt", TOO_EARLY, 5, b"limit: time b -70368744177665\n"),
+        ("two.xt", ONE, 6, b"read fault: two.xt\n"),
+    ];
+    for (name, text, status, line) in cases {
+        assert!(rt; refuses(&rt, rt.alloc(), &["solve", name], text, status, line)?);
+    }
+    Ok(())
+}
+
+// One byte more than a file may have.
+#[test]
+fn refuses_a_file_that_is_too_long(rt: HostRuntime) -> Result<(), Fail> {
+    let alloc = rt.alloc();
+    let zeros: Vec<u8> = vec![in alloc; 0; 268_435_457]?;
+    let line = b"limit: file one.xt 268435457\n";
+    assert!(rt; refuses(&rt, alloc, &["solve", "one.xt"], &zeros, 5, line)?);
+    Ok(())
+}
+
+/// A design of so many nets that never switch, each of whose names begins like this.
+fn quiet_nets(alloc: Global, count: u32, name: &[u8]) -> Result<Vec<u8>, AllocError> {
+    let mut text = Vec::new(alloc);
+    let mut digits = Buffer::new();
+    text.extend_from_slice(b"xtalk-design 1\ncounts 0 ")?;
+    text.extend_from_slice(digits.format(count).as_bytes())?;
+    text.extend_from_slice(b" 0\nperiod none\n")?;
+    for number in 0..count {
+        text.extend_from_slice(b"net ")?;
+        text.extend_from_slice(name)?;
+        text.extend_from_slice(digits.format(number).as_bytes())?;
+        text.extend_from_slice(b" w 0 0 0 0\n")?;
+    }
+    for _ in 0..count {
+        text.extend_from_slice(b"rise quiet\nfall quiet\n")?;
+    }
+    text.extend_from_slice(b"end\n")?;
+    Ok(text)
+}
+
+// A name may have 2,049 bytes, the number among them; and a design 262,144 nets.
+#[test]
+fn takes_names_and_nets_up_to_their_limits(rt: HostRuntime) -> Result<(), Fail> {
+    let alloc = rt.alloc();
+    for (letters, count, wanted) in [
+        (2048, 1, 0),
+        (2049, 1, 3),
+        (1, 262_144, 0),
+        (1, 262_145, 5),
+    ] {
+        let name: Vec<u8> = vec![in alloc; b'n'; letters]?;
+        let mut outside = calm(alloc);
+        outside.room = 1 << 24;
+        let text = quiet_nets(alloc, count, &name)?;
+        let ended = run(&rt, alloc, &["solve", "one.xt"], &text, outside)?;
+        assert_eq!(rt; ended.status, wanted);
+    }
+    Ok(())
+}

@@ -1,0 +1,4 @@
+pub mod Nets
+pub mod Sizes
+pub mod Gathered
+pub mod Built

@@ -1,0 +1,60 @@
+//! From four values to the pins and the wires of nets.
+
+ghost use Rattle.std.specs.Prelude.{IfOk, IfErr, Err};
+ghost use Rattle.link_rules.specs.Link.{Links};
+ghost use Rattle.link_rules.specs.Sound.{IsSoundLibrary, IsSoundNetlist, AreSoundParasitics, AreSoundConstraints};
+ghost use Rattle.design_link.specs.Gathered.{IsGathered};
+
+use crate::sizes::check_sizes;
+use liberty_cells::Library;
+use link_index::{CellIndex, NetIndex};
+use link_pins::{check_counts, check_instances, connect};
+use link_rules::{Circuit, LinkFault};
+use link_wires::{NetWire, wires};
+use sdc_read::Constraints;
+use spef_read::Parasitics;
+use std::alloc::Global;
+use verilog_net::Netlist;
+
+/// The nets of a design by their pins, its check points, and the wires of the nets.
+#[derive(Drop)]
+pub struct Gathered {
+    pub circuit: Circuit,
+    pub wires: Vec<NetWire>,
+}
+
+/// The pins and the wires that four values come to, or the first fault up to the sizes of the design.
+pub fn gather<'a>(
+    alloc: Global,
+    library: &'a Library,
+    netlist: &'a Netlist,
+    parasitics: &'a Parasitics,
+    constraints: &Constraints,
+) -> Result<Gathered, LinkFault>
+    requires library { IsSoundLibrary library.now }
+    requires netlist { IsSoundNetlist netlist.now }
+    requires parasitics { AreSoundParasitics parasitics.now }
+    requires constraints { AreSoundConstraints constraints.now }
+    ensures ok { IfOk result (IsGathered (record {
+      library = library.now;
+      netlist = netlist.now;
+      parasitics = parasitics.now;
+      constraints = constraints.now;
+    })) }
+    ensures fault { IfErr result (λ f. Links (record {
+      library = library.now;
+      netlist = netlist.now;
+      parasitics = parasitics.now;
+      constraints = constraints.now;
+    }) (Err f)) }
+{
+    check_counts(netlist)?;
+    let index: NetIndex<'a> = NetIndex::new(alloc, netlist)?;
+    let cells: CellIndex<'a> = CellIndex::new(alloc, library)?;
+    check_instances(alloc, &cells, netlist)?;
+    let circuit = connect(alloc, &cells, &index, constraints)?;
+    let nets = circuit.nets.as_slice();
+    let wires = wires(alloc, &index, nets, parasitics)?;
+    check_sizes(library, &circuit, &wires)?;
+    Ok(Gathered { circuit, wires })
+}

@@ -1,0 +1,34 @@
+//! The names of the nets of a loop.
+
+ghost use Rattle.std.specs.Prelude.{◌≡◌, ◌<◌, length, map, None, IfOk};
+ghost use Rattle.std.specs.List.{All};
+ghost use Rattle.xt_model.specs.Names.{IsName};
+ghost use Rattle.link_rules.specs.Bits.{bits};
+ghost use Rattle.link_rules.specs.Limits.{count_fault};
+ghost use Rattle.link_rules.specs.Sound.{IsSoundNetlist};
+ghost use Rattle.design_link.specs.Built.{net_name};
+
+use link_index::NetIndex;
+use std::alloc::{AllocError, Global};
+use verilog_net::Netlist;
+use xt_model::{Name, NetId, Row};
+
+/// The names of the nets of these numbers.
+pub fn names_of(alloc: Global, netlist: &Netlist, nets: &[NetId]) -> Result<Row<Name>, AllocError>
+    requires sound { IsSoundNetlist netlist.now }
+    requires counts { count_fault netlist.now ≡ None }
+    requires names { All (λ b. IsName b.name) (bits netlist.now.nets) }
+    requires there { All (λ n. n.0 < length (bits netlist.now.nets)) nets.now }
+    ensures { IfOk result (λ names. names ≡ map (λ n. net_name netlist.now n.0) nets.now) }
+{
+    let index = NetIndex::new(alloc, netlist)?;
+    let mut names = Vec::new(alloc);
+    for net in nets {
+        let Some(name) = index.name(net.0) else {
+            unreachable!()
+        };
+        let bytes = Vec::from_slice(alloc, name)?;
+        names.push(Name::new(bytes))?;
+    }
+    Ok(Row::from_vec(names))
+}

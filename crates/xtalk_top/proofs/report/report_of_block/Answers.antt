@@ -1,0 +1,32 @@
+use Rattle.std.proofs.Common.{subst}
+use Rattle.std.proofs.lemmas.Result.{err_from_is_err_and, IfErr-weaker, IfOk-weaker}
+use Rattle.xtalk_top.specs.Outcome.{DesignMeans, counted_by, prints}
+use Rattle.xtalk_top.specs.Call.{HasFault}
+use Rattle.xtalk_top.specs.Linking.{BlockMeans}
+use Rattle.xtalk_top.specs.Report.{ReportMeans}
+use Rattle.xtalk_top.proofs.Blocks.{block_leads, block_stops}
+use Rattle.xtalk_top.proofs.Lifts.{lift_stop}
+use Rattle.xtalk_top.proofs.report.report_of_block.Goals as goal
+
+pub returns-in_err-design-clause-stop : goal.returns-in_err-design-clause-stop
+returns-in_err-design-clause-stop g c =
+    let content = g.F.Files.content c.args.files.now in
+    let Fault = HasFault (g.F.Files.faults c.args.files.now) (g.F.Files.faults c.read_block.new.files) in
+    let failed = err_from_is_err_and c.from_residual.result c.from_residual.ensures.1 in
+    rw failed.1 (rw failed.2 (lift_stop (BlockMeans c.args.job.files content (λ _. ⊥)) (ReportMeans c.args.job content) Fault Fault c.in_err-design.field-0.0
+    (λ o h. block_stops c.args.job.files content (λ d. DesignMeans c.args.job.kind (counted_by c.args.job.miller d) o) o h) (λ f r. r) c.in_err-design.ensures.stop))
+
+pub returns-clause-ok : goal.returns-clause-ok
+returns-clause-ok g c =
+    IfOk-weaker c.report.result _ _ (λ text h.
+    block_leads c.args.job.files (g.F.Files.content c.args.files.now) (λ d. DesignMeans c.args.job.kind (counted_by c.args.job.miller d) (prints text.items)) (prints text.items)
+    c.in_ok-design.design c.in_ok-design.ensures.ok (subst (λ d. DesignMeans c.args.job.kind d (prints text.items)) c.counted_by-design.ensures.value h)) c.report.ensures.ok
+
+pub returns-clause-stop : goal.returns-clause-stop
+returns-clause-stop g c =
+    let content = g.F.Files.content c.args.files.now in
+    IfErr-weaker c.report.result _ _ (λ stop h.
+    lift_stop (DesignMeans c.args.job.kind c.counted_by-design.result) (ReportMeans c.args.job content) (λ _. ⊥)
+    (HasFault (g.F.Files.faults c.args.files.now) (g.F.Files.faults c.read_block.new.files)) stop
+    (λ o m. block_leads c.args.job.files content (λ d. DesignMeans c.args.job.kind (counted_by c.args.job.miller d) o) o c.in_ok-design.design c.in_ok-design.ensures.ok
+    (subst (λ d. DesignMeans c.args.job.kind d o) c.counted_by-design.ensures.value m)) (λ f r. absurd r) h) c.report.ensures.stop

@@ -1,0 +1,100 @@
+-- What the four files of a block come to: a library, a netlist, parasitics and constraints, each read and then its
+-- text, in this order; and their linking.
+use Rattle.std.specs.Prelude.{◌≡◌, ◌≤◌, ◌⊎◌, length, Result, Ok, Err, IfSome}
+use Rattle.xt_model.specs.declared.code.Code.{Code}
+use Rattle.xt_model.specs.Parts.{Parts}
+use Rattle.xt_model.specs.Sound.{IsSound}
+use Rattle.text_forms.specs.Forms.{Refusal as Place}
+use Rattle.liberty_cells.specs.Library.{library_meant}
+use Rattle.liberty_cells.specs.declared.library.Library.{Library}
+use Rattle.verilog_net.specs.Reading.{netlist_of_text}
+use Rattle.verilog_net.specs.declared.netlist.Netlist.{Netlist}
+use Rattle.spef_read.specs.Reading.{parasitics_of}
+use Rattle.sdc_read.specs.Reading.{constraints_of}
+use Rattle.sdc_read.specs.declared.constraints.Constraints.{Constraints}
+use Rattle.link_rules.specs.Bare.{Inputs}
+use Rattle.link_rules.specs.Link.{IsLinked, IsRefused}
+use Rattle.link_rules.specs.declared.fault.LinkFault.{LinkFault}
+use Rattle.link_rules.specs.declared.fault.LinkFault.TheVariants as faults
+use Rattle.xtalk_top.specs.Words.{Text}
+use Rattle.xtalk_top.specs.Outcome.{Contents, Outcome, refuses, FileMeans, most_bytes}
+use Rattle.xtalk_top.specs.declared.words.BlockFiles.{BlockFiles}
+use Rattle.xtalk_top.specs.declared.refusal.Unlinked.{Unlinked}
+use Rattle.xtalk_top.specs.declared.refusal.Unlinked.TheVariants as unlinked
+use Rattle.xtalk_top.specs.declared.refusal.TextRefusal.TheVariants.{At}
+use Rattle.xtalk_top.specs.declared.refusal.FileRefusal.TheVariants.{Content}
+use Rattle.xtalk_top.specs.declared.refusal.Refusal.TheVariants.{File, Linking}
+
+-- ---- the texts
+
+-- what the text of a file means: its first refusal, by its line; or a value that leads to the outcome
+abbrev pub SourceMeans : {V : Type 0} → Text → Result V (Place Code) → (V → Type 0) → Outcome → Type 0
+SourceMeans file (Ok value) Leads outcome = Leads value
+SourceMeans file (Err place) Leads outcome = outcome ≡ refuses (File file (Content (At place.line place.code)))
+
+-- a file, and then its text
+abbrev pub FileAndText : {V : Type 0} → Text → Contents → (Text → Result V (Place Code)) → (V → Type 0) → Outcome
+    → Type 0
+FileAndText file content meant Leads outcome =
+    FileMeans file content (λ bytes. SourceMeans file (meant bytes) Leads outcome) outcome
+
+-- the constraints are for the netlist, and count by the units of the library until they give their own
+abbrev pub constraints_for : Library → Netlist → Text → Result Constraints (Place Code)
+constraints_for library netlist bytes =
+    constraints_of bytes netlist.nets library.time_scale library.cap_scale
+
+-- the four files in their order, each read and then its text: the first that gives nothing has the outcome, or their
+-- values lead to it
+abbrev pub FilesMean : BlockFiles → Contents → (Inputs → Type 0) → Outcome → Type 0
+FilesMean files content Leads outcome =
+    FileAndText files.lib content library_meant (λ library.
+    FileAndText files.netlist content netlist_of_text (λ netlist.
+    FileAndText files.spef content parasitics_of (λ parasitics.
+    FileAndText files.sdc content (constraints_for library netlist) (λ constraints.
+    Leads (record {
+      library = library;
+      netlist = netlist;
+      parasitics = parasitics;
+      constraints = constraints;
+    })) outcome) outcome) outcome) outcome
+
+-- ---- linking
+
+-- why the values make no design, as the fault of linking that it is
+abbrev pub fault_of : Unlinked → LinkFault
+fault_of (unlinked.Refused why) = faults.Refused why
+fault_of (unlinked.Beyond what name value) = faults.Limit what name value
+
+-- the values are refused, by their first fault; or they make a design, which is sound, that leads to the outcome
+abbrev pub LinkingMeans : Inputs → (Parts → Type 0) → Outcome → Type 0
+LinkingMeans x Leads outcome =
+    ((why : Unlinked) × IsRefused x (fault_of why) × (outcome ≡ refuses (Linking why)))
+    ⊎ ((d : Parts) × IsLinked x d × IsSound d × Leads d)
+
+-- the four files of a block, and then their linking
+abbrev pub BlockMeans : BlockFiles → Contents → (Parts → Type 0) → Outcome → Type 0
+BlockMeans files content Leads outcome = FilesMean files content (λ x. LinkingMeans x Leads outcome) outcome
+
+-- ---- what was read
+
+-- the file holds bytes, no more than a file may have and its content where that is known, that mean this value
+pub record HoldsText {V : Type 0} (file : Text) (content : Contents) (meant : Text → Result V (Place Code)) (value : V)
+    : Type 0 where
+  pub bytes : Text
+  pub held : IfSome (content file) (λ whole. bytes ≡ whole)
+  pub fits : length bytes ≤ most_bytes
+  pub means : meant bytes ≡ Ok value
+
+-- the four files hold texts of these values
+pub record HoldInputs (files : BlockFiles) (content : Contents) (x : Inputs) : Type 0 where
+  pub library : HoldsText files.lib content library_meant x.library
+  pub netlist : HoldsText files.netlist content netlist_of_text x.netlist
+  pub parasitics : HoldsText files.spef content parasitics_of x.parasitics
+  pub constraints : HoldsText files.sdc content (constraints_for x.library x.netlist) x.constraints
+
+-- the four files make this design
+pub record MakeDesign (files : BlockFiles) (content : Contents) (d : Parts) : Type 0 where
+  pub inputs : Inputs
+  pub held : HoldInputs files content inputs
+  pub linked : IsLinked inputs d
+  pub sound : IsSound d

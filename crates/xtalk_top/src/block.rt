@@ -1,0 +1,201 @@
+//! The files of a block, each read and then its text, in their order; and their linking.
+
+ghost use Rattle.std.specs.Prelude.{◌≡◌, ◌≢◌, IfOk, IfErr};
+ghost use Rattle.xt_io.specs.Outside.{KeepsCounts};
+ghost use Rattle.xt_model.specs.Sound.{IsSound};
+ghost use Rattle.liberty_cells.specs.Library.{library_meant};
+ghost use Rattle.verilog_net.specs.Reading.{netlist_of_text};
+ghost use Rattle.spef_read.specs.Reading.{parasitics_of};
+ghost use Rattle.sdc_read.specs.Meaning.{IsScale};
+ghost use Rattle.link_rules.specs.Bare.{Inputs};
+ghost use Rattle.link_rules.specs.Link.{IsLinked};
+ghost use Rattle.link_rules.specs.Sound.{AreSoundConstraints, AreSoundParasitics, IsSoundLibrary, IsSoundNetlist};
+ghost use Rattle.xtalk_top.specs.Call.{HasFault, IsStop, status_of};
+ghost use Rattle.xtalk_top.specs.Linking.{BlockMeans, FileAndText, HoldsText, LinkingMeans, MakeDesign};
+ghost use Rattle.xtalk_top.specs.Linking.{constraints_for};
+ghost use Rattle.xtalk_top.specs.Words.{Text};
+ghost use Rattle.xtalk_top.specs.declared.refusal.Failure.TheVariants.{NoText};
+ghost use Rattle.xtalk_top.specs.declared.refusal.Stop.TheVariants.{Refused};
+ghost use Rattle.xtalk_top.specs.declared.refusal.Refusal.TheVariants.{File};
+ghost use Rattle.xtalk_top.specs.declared.refusal.FileRefusal.TheVariants.{Content};
+ghost use Rattle.xtalk_top.specs.declared.refusal.TextRefusal.TheVariants.{At};
+
+use crate::file_name::FileName;
+use crate::input::read_file;
+use crate::refusal::{FileRefusal, Refusal, Stop, TextRefusal, Unlinked};
+use crate::words::BlockFiles;
+use design_link::link;
+use liberty_cells::Library;
+use link_rules::LinkFault;
+use sdc_read::Constraints;
+use sound_reads::{read_library, read_netlist, read_sdc, read_spef};
+use spef_read::Parasitics;
+use std::alloc::Global;
+use verilog_net::Netlist;
+use xt_io::Files;
+use xt_lex::TextFault;
+use xt_model::{Code, Design};
+
+// A refusal of a file's text, at this line.
+fn refused(file: FileName, line: u32, code: Code) -> Stop
+    ensures { result ≡ Refused (File file (Content (At line code))) }
+{
+    Stop::Refused(Refusal::File {
+        file,
+        why: FileRefusal::Content(TextRefusal::At { line, code }),
+    })
+}
+
+// The Liberty library whose text the file holds.
+fn library<F: Files>(alloc: Global, files: &mut F, file: FileName) -> Result<Library, Stop>
+    ensures ok { IfOk result (HoldsText file (F.content files.old) library_meant) }
+    ensures sound { IfOk result IsSoundLibrary }
+    ensures scales { IfOk result (λ v. IsScale v.time_scale × IsScale v.cap_scale) }
+    ensures stop { IfErr result (IsStop (FileAndText file (F.content files.old) library_meant (λ _. ⊥))
+        (HasFault (F.faults files.old) (F.faults files.new))) }
+    ensures content { (m : Text) → F.content files.new m ≡ F.content files.old m }
+    ensures calm { IfOk result (λ _. KeepsCounts (F.faults files.old) (F.faults files.new)) }
+    ensures read { IfErr result (λ stop. status_of (NoText stop) ≢ 6
+        → KeepsCounts (F.faults files.old) (F.faults files.new)) }
+{
+    let (file, bytes) = read_file(alloc, files, file)?;
+    match read_library(alloc, &bytes) {
+        Ok(value) => Ok(value),
+        Err(TextFault::Refused { line, code }) => Err(refused(file, line, code)),
+        Err(TextFault::NoMemory) => Err(Stop::NoMemory),
+    }
+}
+
+// The structural Verilog netlist whose text the file holds.
+fn netlist<F: Files>(alloc: Global, files: &mut F, file: FileName) -> Result<Netlist, Stop>
+    ensures ok { IfOk result (HoldsText file (F.content files.old) netlist_of_text) }
+    ensures sound { IfOk result IsSoundNetlist }
+    ensures stop { IfErr result (IsStop (FileAndText file (F.content files.old) netlist_of_text (λ _. ⊥))
+        (HasFault (F.faults files.old) (F.faults files.new))) }
+    ensures content { (m : Text) → F.content files.new m ≡ F.content files.old m }
+    ensures calm { IfOk result (λ _. KeepsCounts (F.faults files.old) (F.faults files.new)) }
+    ensures read { IfErr result (λ stop. status_of (NoText stop) ≢ 6
+        → KeepsCounts (F.faults files.old) (F.faults files.new)) }
+{
+    let (file, bytes) = read_file(alloc, files, file)?;
+    match read_netlist(alloc, &bytes) {
+        Ok(value) => Ok(value),
+        Err(TextFault::Refused { line, code }) => Err(refused(file, line, code)),
+        Err(TextFault::NoMemory) => Err(Stop::NoMemory),
+    }
+}
+
+// The SPEF parasitics whose text the file holds.
+fn parasitics<F: Files>(alloc: Global, files: &mut F, file: FileName) -> Result<Parasitics, Stop>
+    ensures ok { IfOk result (HoldsText file (F.content files.old) parasitics_of) }
+    ensures sound { IfOk result AreSoundParasitics }
+    ensures stop { IfErr result (IsStop (FileAndText file (F.content files.old) parasitics_of (λ _. ⊥))
+        (HasFault (F.faults files.old) (F.faults files.new))) }
+    ensures content { (m : Text) → F.content files.new m ≡ F.content files.old m }
+    ensures calm { IfOk result (λ _. KeepsCounts (F.faults files.old) (F.faults files.new)) }
+    ensures read { IfErr result (λ stop. status_of (NoText stop) ≢ 6
+        → KeepsCounts (F.faults files.old) (F.faults files.new)) }
+{
+    let (file, bytes) = read_file(alloc, files, file)?;
+    match read_spef(alloc, &bytes) {
+        Ok(value) => Ok(value),
+        Err(TextFault::Refused { line, code }) => Err(refused(file, line, code)),
+        Err(TextFault::NoMemory) => Err(Stop::NoMemory),
+    }
+}
+
+// The constraints for the netlist whose SDC text the file holds, in the units of the library until it gives its own.
+fn constraints<F: Files>(
+    alloc: Global,
+    files: &mut F,
+    file: FileName,
+    library: &Library,
+    netlist: &Netlist,
+) -> Result<Constraints, Stop>
+    requires time { IsScale library.now.time_scale }
+    requires cap { IsScale library.now.cap_scale }
+    ensures ok { IfOk result (HoldsText file (F.content files.old) (constraints_for library.now netlist.now)) }
+    ensures sound { IfOk result AreSoundConstraints }
+    ensures stop { IfErr result (IsStop (FileAndText
+        file (F.content files.old) (constraints_for library.now netlist.now) (λ _. ⊥))
+        (HasFault (F.faults files.old) (F.faults files.new))) }
+    ensures content { (m : Text) → F.content files.new m ≡ F.content files.old m }
+    ensures calm { IfOk result (λ _. KeepsCounts (F.faults files.old) (F.faults files.new)) }
+    ensures read { IfErr result (λ stop. status_of (NoText stop) ≢ 6
+        → KeepsCounts (F.faults files.old) (F.faults files.new)) }
+{
+    let (file, bytes) = read_file(alloc, files, file)?;
+    match read_sdc(
+        alloc,
+        &bytes,
+        netlist,
+        library.time_scale,
+        library.cap_scale,
+    ) {
+        Ok(value) => Ok(value),
+        Err(TextFault::Refused { line, code }) => Err(refused(file, line, code)),
+        Err(TextFault::NoMemory) => Err(Stop::NoMemory),
+    }
+}
+
+// The design that the values of the four files make.
+fn linked(
+    alloc: Global,
+    library: &Library,
+    netlist: &Netlist,
+    parasitics: &Parasitics,
+    constraints: &Constraints,
+) -> Result<Design, Stop>
+    requires library { IsSoundLibrary library.now }
+    requires netlist { IsSoundNetlist netlist.now }
+    requires parasitics { AreSoundParasitics parasitics.now }
+    requires constraints { AreSoundConstraints constraints.now }
+    ensures ok { IfOk result (λ d. let x : Inputs = record {
+      library = library.now;
+      netlist = netlist.now;
+      parasitics = parasitics.now;
+      constraints = constraints.now;
+    } in IsLinked x d × IsSound d) }
+    ensures stop { let x : Inputs = record {
+      library = library.now;
+      netlist = netlist.now;
+      parasitics = parasitics.now;
+      constraints = constraints.now;
+    } in IfErr result (IsStop (LinkingMeans x (λ _. ⊥)) (λ _. ⊥)) }
+{
+    match link(alloc, library, netlist, parasitics, constraints) {
+        Ok(design) => {
+            prove!(design.order().len() == design.nets().len());
+            Ok(design)
+        }
+        Err(LinkFault::Refused(why)) => Err(Stop::Refused(Refusal::Linking(Unlinked::Refused(
+            why,
+        )))),
+        Err(LinkFault::Limit { what, name, value }) => Err(Stop::Refused(Refusal::Linking(
+            Unlinked::Beyond { what, name, value },
+        ))),
+        Err(LinkFault::NoMemory) => Err(Stop::NoMemory),
+    }
+}
+
+/// The design that the four files of a block make.
+pub fn read_block<F: Files>(alloc: Global, files: &mut F, block: BlockFiles) -> Result<Design, Stop>
+    ensures ok { IfOk result (MakeDesign block (F.content files.old)) }
+    ensures stop { IfErr result (IsStop (BlockMeans block (F.content files.old) (λ _. ⊥))
+        (HasFault (F.faults files.old) (F.faults files.new))) }
+    ensures calm { IfOk result (λ _. KeepsCounts (F.faults files.old) (F.faults files.new)) }
+    ensures read { IfErr result (λ stop. status_of (NoText stop) ≢ 6
+        → KeepsCounts (F.faults files.old) (F.faults files.new)) }
+{
+    let BlockFiles {
+        lib,
+        netlist: netlist_file,
+        spef,
+        sdc,
+    } = block;
+    let library = library(alloc, files, lib)?;
+    let netlist = netlist(alloc, files, netlist_file)?;
+    let parasitics = parasitics(alloc, files, spef)?;
+    let constraints = constraints(alloc, files, sdc, &library, &netlist)?;
+    linked(alloc, &library, &netlist, &parasitics, &constraints)
+}

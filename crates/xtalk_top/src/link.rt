@@ -1,0 +1,39 @@
+//! The command `link`.
+
+ghost use Rattle.std.specs.Prelude.{◌≢◌, IfOk, IfErr};
+ghost use Rattle.xt_io.specs.Outside.{KeepsCounts};
+ghost use Rattle.xtalk_top.specs.Outcome.{prints};
+ghost use Rattle.xtalk_top.specs.Call.{HasFault, IsStop, status_of};
+ghost use Rattle.xtalk_top.specs.declared.refusal.Failure.TheVariants.{NoText};
+ghost use Rattle.xtalk_top.specs.Link.{LinkMeans};
+
+use crate::block::read_block;
+use crate::counted::counted_by;
+use crate::refusal::Stop;
+use crate::words::LinkJob;
+use linked_text::write_linked;
+use std::alloc::Global;
+use xt_io::Files;
+use xt_model::NoMemory;
+
+/// The linked text of the design that the four files of the job's block make, by the job's Miller numbers where it
+/// has any.
+pub fn text_of_block<F: Files>(alloc: Global, files: &mut F, job: LinkJob) -> Result<Vec<u8>, Stop>
+    ensures ok { IfOk result (λ text. LinkMeans job (F.content files.old) (prints text.items)) }
+    ensures stop { IfErr result (IsStop (LinkMeans job (F.content files.old))
+        (HasFault (F.faults files.old) (F.faults files.new))) }
+    ensures calm { IfOk result (λ _. KeepsCounts (F.faults files.old) (F.faults files.new)) }
+    ensures read { IfErr result (λ stop. status_of (NoText stop) ≢ 6
+        → KeepsCounts (F.faults files.old) (F.faults files.new)) }
+{
+    let LinkJob {
+        files: block,
+        miller,
+    } = job;
+    let design = read_block(alloc, files, block)?;
+    let design = counted_by(design, miller);
+    match write_linked(alloc, &design) {
+        Ok(text) => Ok(text),
+        Err(NoMemory) => Err(Stop::NoMemory),
+    }
+}

@@ -1,0 +1,41 @@
+//! The command `report`.
+
+ghost use Rattle.std.specs.Prelude.{◌≢◌, IfOk, IfErr};
+ghost use Rattle.xt_io.specs.Outside.{KeepsCounts};
+ghost use Rattle.xtalk_top.specs.Outcome.{prints};
+ghost use Rattle.xtalk_top.specs.Call.{HasFault, IsStop, status_of};
+ghost use Rattle.xtalk_top.specs.declared.refusal.Failure.TheVariants.{NoText};
+ghost use Rattle.xtalk_top.specs.Report.{ReportMeans};
+
+use crate::block::read_block;
+use crate::counted::counted_by;
+use crate::design_report::report;
+use crate::fixpoints::ONE_WORKER;
+use crate::refusal::Stop;
+use crate::words::ReportJob;
+use std::alloc::Global;
+use xt_io::Files;
+
+/// The report of the design that the four files of the job's block make, by the job's Miller numbers where it has any.
+pub fn report_of_block<F: Files>(
+    alloc: Global,
+    files: &mut F,
+    job: ReportJob,
+) -> Result<Vec<u8>, Stop>
+    ensures ok { IfOk result (λ text. ReportMeans job (F.content files.old) (prints text.items)) }
+    ensures stop { IfErr result (IsStop (ReportMeans job (F.content files.old))
+        (HasFault (F.faults files.old) (F.faults files.new))) }
+    ensures calm { IfOk result (λ _. KeepsCounts (F.faults files.old) (F.faults files.new)) }
+    ensures read { IfErr result (λ stop. status_of (NoText stop) ≢ 6
+        → KeepsCounts (F.faults files.old) (F.faults files.new)) }
+{
+    let ReportJob {
+        files: block,
+        workers: _,
+        kind,
+        miller,
+    } = job;
+    let design = read_block(alloc, files, block)?;
+    let design = counted_by(design, miller);
+    report(alloc, &design, kind, ONE_WORKER)
+}
