@@ -13,11 +13,11 @@ new-requires-clause-instances c = (counts_kept c.args.netlist.now c.requires.cou
 
 pub unreachable-requires : goal.unreachable-requires
 unreachable-requires c =
-    bit_there c.args.netlist.now c.in_ok-index.index c.in_ok-index.ensures _ (c.requires.there c.loop-net.net-index _ c.loop-net-test.true) c.in_default.ensures
+    bit_there c.args.netlist.now c.in_ok-index.index c.in_ok-index.ensures _ (c.requires.there c.loop-net.net-index _ c.loop-net-test.true) c.in_default.ensures.value
 
 pub new-requires-in-loop-net : goal.new-requires-in-loop-net
 new-requires-in-loop-net c =
-    bit_named c.args.netlist.now c.in_ok-index.index c.in_ok-index.ensures _ c.in_ok-bytes.bytes.items c.in-Some.name.now c.requires.names c.in-Some.ensures c.in_ok-bytes.ensures.items
+    bit_named c.args.netlist.now c.in_ok-index.index c.in_ok-index.ensures _ c.in_ok-bytes.bytes.items c.in-Some.name.now c.requires.names c.in-Some.ensures.value c.in_ok-bytes.ensures.items
 
 pub returns : goal.returns
 returns c =
