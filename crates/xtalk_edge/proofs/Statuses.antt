@@ -5,7 +5,8 @@ use Rattle.xtalk_top.specs.Words.{Text}
 use Rattle.xtalk_top.specs.Outcome.{Contents, Outcome, prints, refuses, unread}
 use Rattle.xtalk_top.specs.Call.{AreKnown, IsFailure, Means, status_of}
 use Rattle.xtalk_top.specs.declared.refusal.Refusal.{Refusal}
-use Rattle.xtalk_top.specs.declared.refusal.Refusal.TheVariants.{Words, File, Design}
+use Rattle.xtalk_top.specs.declared.refusal.Refusal.TheVariants.{Words, File, Linking, Design}
+use Rattle.xtalk_top.specs.declared.refusal.Unlinked.TheVariants as unlinked
 use Rattle.xtalk_top.specs.declared.refusal.DesignRefusal.TheVariants.{Limit}
 use Rattle.xtalk_top.specs.declared.refusal.TextRefusal.TheVariants.{At, Beyond}
 use Rattle.xtalk_top.specs.declared.refusal.FileRefusal.TheVariants.{TooLong, Content}
@@ -20,6 +21,8 @@ not_nine (NoText (Refused Words)) e = omega (arith, e)
 not_nine (NoText (Refused (File file (Content (At line code))))) e = omega (arith, e)
 not_nine (NoText (Refused (File file (Content (Beyond what name value))))) e = omega (arith, e)
 not_nine (NoText (Refused (File file TooLong))) e = omega (arith, e)
+not_nine (NoText (Refused (Linking (unlinked.Refused why)))) e = omega (arith, e)
+not_nine (NoText (Refused (Linking (unlinked.Beyond what name value)))) e = omega (arith, e)
 not_nine (NoText (Refused (Design (Limit passed)))) e = omega (arith, e)
 not_nine (NoText (Unread file)) e = omega (arith, e)
 not_nine (NoText NoMemory) e = omega (arith, e)
