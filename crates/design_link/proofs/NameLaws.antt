@@ -1,16 +1,13 @@
 -- The names of nets are those of the bits of a netlist, and the nets of a loop are there.
-use Rattle.std.specs.Prelude.{◌≡◌, refl, ℕ, zero, suc, ◌+◌, ◌-◌, ◌<◌, ◌^◌, nat_lt, Bool, true, false, List, [], ◌∷◌, length, map, drop, Option, Some, None, IfSome, option_map, unwrap_or}
+use Rattle.std.specs.Prelude.{◌≡◌, refl, ℕ, zero, suc, ◌+◌, ◌-◌, ◌<◌, ◌^◌, nat_lt, Bool, true, false, List, [], ◌∷◌, length, map, drop, Some, None, option_map, unwrap_or}
 use Rattle.std.specs.List.{All, AllByRecursion, slice_get, slice_index, enumerate_from}
 use Rattle.std.proofs.Common.{arith, sym, ap, ◌∙◌, subst}
 use Rattle.std.proofs.lemmas.Bool.{ltb-true, ltb-false}
-use Rattle.std.proofs.lemmas.List.Elements.{recursion_from_All, All-from_recursion}
-use Rattle.name_numbers.specs.Names.{Text}
+use Rattle.std.proofs.lemmas.List.Elements.{All-from_recursion}
 use Rattle.xt_model.specs.declared.net.Net.{Net}
 use Rattle.xt_model.specs.declared.net.NetId.{NetId}
 use Rattle.xt_model.specs.Loops.{IsWalkBack, IsToldLoop}
 use Rattle.xt_model.specs.Names.{IsName}
-use Rattle.xt_model.specs.Parts.{Parts}
-use Rattle.xt_model.specs.Sound.{IsSound, IsSoundNet}
 use Rattle.verilog_net.specs.declared.netlist.Netlist.{Netlist}
 use Rattle.liberty_cells.specs.declared.library.Library.{Library}
 use Rattle.spef_read.specs.declared.parasitics.Parasitics.{Parasitics}
@@ -23,7 +20,7 @@ use Rattle.link_rules.specs.declared.circuit.NetPins.{NetPins}
 use Rattle.link_rules.specs.Link.{name_at}
 use Rattle.design_link.specs.Built.{net_name, HaveNamesOf}
 use Rattle.design_link.proofs.FillLaws.{Fit}
-use Rattle.design_link.proofs.Lists.{each_at, each_by, length-mapped, there, within}
+use Rattle.design_link.proofs.Lists.{length-mapped, there, within}
 
 -- ---- names of nets and of bits
 named_at : (ns : List Net) (bs : List Bit) (i : ℕ) → map (λ (n : Net). n.name) ns ≡ map (λ (b : Bit). b.name) bs
@@ -47,27 +44,6 @@ pub names_same : (netlist : Netlist) (ns ms : List Net) → HaveNamesOf netlist 
 names_same netlist ns ms a b [] = refl
 names_same netlist ns ms a b (i ∷ loop) =
     ap (λ t. t ∷ map (name_at ns) loop) (name_is netlist ns i a ∙ sym (name_is netlist ms i b)) ∙ ap (λ r. name_at ms i ∷ r) (names_same netlist ns ms a b loop)
-
-bits_named : (ns : List Net) (bs : List Bit) → map (λ (n : Net). n.name) ns ≡ map (λ (b : Bit). b.name) bs → AllByRecursion (λ n. IsName n.name) ns → AllByRecursion (λ b. IsName b.name) bs
-bits_named [] [] e h = tt
-bits_named [] (b ∷ bs) e h = absurd (cc)
-bits_named (n ∷ ns) [] e h = absurd (cc)
-bits_named (n ∷ ns) (b ∷ bs) e h =
-    let same : n.name ≡ b.name = cc in
-    let rest : map (λ (n : Net). n.name) ns ≡ map (λ (b : Bit). b.name) bs = cc in
-    (subst IsName same h.0, bits_named ns bs rest h.1)
-
-net_named : (d : Parts) (i : ℕ) (n : Net) → IsSound d → slice_get d.nets i ≡ Some n → IsName n.name
-net_named d i n s at = go (slice_get d.nets i) at (s.nets i)
-  where
-    go : (o : Option Net) → o ≡ Some n → IfSome o (IsSoundNet d i) → IsName n.name
-    go None e h = absurd (cc)
-    go (Some m) e h = let same : m ≡ n = cc in subst (λ k. IsName k.name) same h.name
-
-pub sound_names : (netlist : Netlist) (d : Parts) → IsSound d → HaveNamesOf netlist d.nets → All (λ b. IsName b.name) (bits netlist.nets)
-sound_names netlist d s e =
-    All-from_recursion (λ b. IsName b.name) (bits netlist.nets)
-    (bits_named d.nets (bits netlist.nets) e (each_by (λ n. IsName n.name) d.nets (λ i n at. net_named d i n s at)))
 
 -- ---- the nets of a loop are there
 module _ (nets : List Net) where
@@ -148,7 +124,7 @@ module _ (library : Library) (netlist : Netlist) (parasitics : Parasitics) (cons
       let number : j + 1 + i ≡ j + suc i = omega arith in
       subst (λ k. length (sinks_of library netlist constraints (k, b)) < 2 ^ 32) number (kept_few (j + 1) bs h.1 i b e)
 
--- ---- the bit of a number is there, and its name is one
+-- ---- the bit of a number is there
 module _ (netlist index : Netlist) (is_index : index ≡ netlist) where
   pub bit_there : (net : ℕ) → net < length (bits netlist.nets) → None ≡ option_map (λ (b : Bit). b.name) (slice_get (bits index.nets) net) → ⊥
   bit_there net lt e =
@@ -157,14 +133,3 @@ module _ (netlist index : Netlist) (is_index : index ≡ netlist) where
       e ∙ ap (λ (n : Netlist). option_map (λ (b : Bit). b.name) (slice_get (bits n.nets) net)) is_index in
       let same : None ≡ Some b.0.name = none ∙ ap (option_map (λ (b : Bit). b.name)) b.1 in
       absurd (cc)
-
-  pub bit_named : (net : ℕ) (bytes name : Text) → All (λ b. IsName b.name) (bits netlist.nets) → Some name ≡ option_map (λ (b : Bit). b.name) (slice_get (bits index.nets) net)
-      → bytes ≡ name → IsName bytes
-  bit_named net bytes name all e is =
-      go (slice_get (bits netlist.nets) net) refl (e ∙ ap (λ (n : Netlist). option_map (λ (b : Bit). b.name) (slice_get (bits n.nets) net)) is_index)
-    where
-      go : (o : Option Bit) → slice_get (bits netlist.nets) net ≡ o → Some name ≡ option_map (λ (b : Bit). b.name) o → IsName bytes
-      go None at same = absurd (cc)
-      go (Some b) at same =
-          let text : b.name ≡ bytes = cc in
-          subst IsName text (each_at (λ b. IsName b.name) (bits netlist.nets) net b (recursion_from_All (λ b. IsName b.name) (bits netlist.nets) all) at)

@@ -2,7 +2,6 @@
 
 ghost use Rattle.std.specs.Prelude.{◌≡◌, ◌<◌, length, map, None, IfOk};
 ghost use Rattle.std.specs.List.{All};
-ghost use Rattle.xt_model.specs.Names.{IsName};
 ghost use Rattle.link_rules.specs.Bits.{bits};
 ghost use Rattle.link_rules.specs.Limits.{count_fault};
 ghost use Rattle.link_rules.specs.Sound.{IsSoundNetlist};
@@ -17,7 +16,6 @@ use xt_model::{Name, NetId, Row};
 pub fn names_of(alloc: Global, netlist: &Netlist, nets: &[NetId]) -> Result<Row<Name>, AllocError>
     requires sound { IsSoundNetlist netlist.now }
     requires counts { count_fault netlist.now ≡ None }
-    requires names { All (λ b. IsName b.name) (bits netlist.now.nets) }
     requires there { All (λ n. n.0 < length (bits netlist.now.nets)) nets.now }
     ensures { IfOk result (λ names. names ≡ map (λ n. net_name netlist.now n.0) nets.now) }
 {

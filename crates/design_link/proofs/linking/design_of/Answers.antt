@@ -1,10 +1,7 @@
 use Rattle.std.proofs.Common.{◌∙◌, map}
 use Rattle.xt_model.specs.declared.net.NetId.{NetId}
-use Rattle.design_link.proofs.NameLaws.{sound_names, names_are, all_there, told_by}
+use Rattle.design_link.proofs.NameLaws.{names_are, all_there, told_by}
 use Rattle.design_link.proofs.linking.design_of.Goals as goal
-
-pub names_of-requires-clause-names : goal.names_of-requires-clause-names
-names_of-requires-clause-names c = sound_names c.args.netlist.now _ c.requires.sound c.requires.names
 
 pub names_of-requires-clause-there : goal.names_of-requires-clause-there
 names_of-requires-clause-there c =

@@ -1,8 +1,9 @@
-use Rattle.std.proofs.Common.{◌∙◌, ap, map}
+use Rattle.std.proofs.Common.{◌∙◌, sym, ap, subst, map}
 use Rattle.std.proofs.lemmas.List.{take_all}
+use Rattle.xt_model.specs.Names.{IsName}
 use Rattle.design_link.specs.Built.{net_name}
 use Rattle.design_link.proofs.LinkLaws.{counts_kept}
-use Rattle.design_link.proofs.NameLaws.{bit_there, bit_named}
+use Rattle.design_link.proofs.NameLaws.{bit_there}
 use Rattle.design_link.proofs.names.names_of.Goals as goal
 
 pub new-requires-clause-nets : goal.new-requires-clause-nets
@@ -16,8 +17,7 @@ unreachable-requires c =
     bit_there c.args.netlist.now c.in_ok-index.index c.in_ok-index.ensures _ (c.requires.there c.loop-net.net-index _ c.loop-net-test.true) c.in_default.ensures.value
 
 pub new-requires-in-loop-net : goal.new-requires-in-loop-net
-new-requires-in-loop-net c =
-    bit_named c.args.netlist.now c.in_ok-index.index c.in_ok-index.ensures _ c.in_ok-bytes.bytes.items c.in-Some.name.now c.requires.names c.in-Some.ensures.value c.in_ok-bytes.ensures.items
+new-requires-in-loop-net c = subst IsName (sym c.in_ok-bytes.ensures.items) c.in-Some.ensures.spelled
 
 pub returns : goal.returns
 returns c =
