@@ -126,7 +126,10 @@ fn summarises_designs_of_a_number(rt: HostRuntime) -> Result<(), Fail> {
         ("0", "1001", ZERO_OF_THOUSAND_AND_ONE),
     ] {
         let words = ["gen", "--number", number, "--nets", nets];
-        assert!(rt; prints(&rt, rt.alloc(), &words, b"", summary)?, "{number} of {nets}");
+        assert!(rt;
+            prints(&rt, rt.alloc(), &words, b"", summary)?,
+            "{number} of {nets}"
+        );
     }
     Ok(())
 }

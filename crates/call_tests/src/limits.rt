@@ -59,12 +59,7 @@ fn quiet_nets(alloc: Global, count: u32, name: &[u8]) -> Result<Vec<u8>, AllocEr
 #[test]
 fn takes_names_and_nets_up_to_their_limits(rt: HostRuntime) -> Result<(), Fail> {
     let alloc = rt.alloc();
-    for (letters, count, wanted) in [
-        (2048, 1, 0),
-        (2049, 1, 3),
-        (1, 262_144, 0),
-        (1, 262_145, 5),
-    ] {
+    for (letters, count, wanted) in [(2048, 1, 0), (2049, 1, 3), (1, 262_144, 0), (1, 262_145, 5)] {
         let name: Vec<u8> = vec![in alloc; b'n'; letters]?;
         let mut outside = calm(alloc);
         outside.room = 1 << 24;

@@ -82,11 +82,7 @@ fn reads_the_files_of_a_block_in_their_order(rt: HostRuntime) -> Result<(), Fail
     let cases: [(&[&str], u32, bool); 4] = [
         (&["report", "a", "b", "c", "d"], 1, false),
         (&["report", "--workers=8", "a", "b", "c", "d"], 8, false),
-        (
-            &["report", "a", "b", "--kind", "checks", "c", "d"],
-            1,
-            true,
-        ),
+        (&["report", "a", "b", "--kind", "checks", "c", "d"], 1, true),
         (
             &["report", "a", "--miller=4,04,004", "b", "c", "d"],
             1,
