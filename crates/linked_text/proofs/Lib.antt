@@ -1,5 +1,6 @@
 mod Options
 mod Decimals
+mod ShortNumbers
 mod Splits
 mod Loop
 mod Cuts

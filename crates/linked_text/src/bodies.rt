@@ -1,6 +1,6 @@
 //! The bodies of the nets.
 
-ghost use Rattle.std.specs.Prelude.{◌≡◌, ◌^◌, ◌≤ℤ◌, neg_ℤ, pos, unsigned_abs};
+ghost use Rattle.std.specs.Prelude.{◌≡◌, ◌^◌, ◌≤ℤ◌, neg_ℤ, pos, unsigned_abs, [], ◌∷◌, MatchOption};
 ghost use Rattle.xt_model.specs.Sound.{coupling_sum, greatest_load};
 ghost use Rattle.linked_text.specs.Gives.{Gives};
 ghost use Rattle.linked_text.specs.Meaning.{coupled_net, couplings_at, net_at, nets_at, pair_at};
@@ -110,6 +110,17 @@ fn net<'a>(
     Ok((net, rest))
 }
 
+/// Takes out the first head. The room of the heads shrinks with them.
+fn next_head(heads: &mut VecDeque<NetHead>) -> Option<NetHead>
+    ensures { MatchOption result ((heads.old.items ≡ []) × (heads.new.items ≡ [])) (λ h. heads.old.items ≡ h ∷ heads.new.items) }
+{
+    let head = heads.pop_front()?;
+    if heads.len() <= heads.capacity() / 2 {
+        heads.shrink_to_fit();
+    }
+    Some(head)
+}
+
 /// The nets of these heads.
 pub fn nets<'a>(
     alloc: Global,
@@ -120,10 +131,10 @@ pub fn nets<'a>(
 ) -> Result<(Vec<Net>, &'a [u8]), Stop>
     ensures { Gives (λ x. (x.0.items, x.1.now)) result (nets_at sinks.now tables 0 heads.items bytes.entry.now) }
 {
-    let mut nets = Vec::new(alloc);
+    let mut nets = Vec::with_capacity(alloc, heads.len())?;
     let mut heads = VecDeque::from(heads);
     let mut rest = bytes;
-    while let Some(head) = heads.pop_front() {
+    while let Some(head) = next_head(&mut heads) {
         let (net, after) = net(alloc, sinks, tables, nets.len(), head, rest)?;
         nets.push(net)?;
         rest = after;

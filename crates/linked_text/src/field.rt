@@ -1,16 +1,49 @@
 //! Fields: words, names and numbers.
 
 ghost use Rattle.std.specs.Prelude.{◌≡◌, ◌<◌, ◌≤◌, ◌≤ℤ◌, nat_le, ◌&&◌, ◌^◌, length, ◌==◌, option_map};
-ghost use Rattle.std.specs.Prelude.{IfSome, IsTrue, ◌↔◌, pos, neg_ℤ};
+ghost use Rattle.std.specs.Prelude.{IfSome, IsTrue, ◌↔◌, pos, neg_ℤ, if◌then◌else◌, Some, None};
 ghost use Rattle.std.specs.Char.{is_ascii_digit};
 ghost use Rattle.std.specs.Fmt.{decimal};
 ghost use Rattle.std.specs.List.{list_all};
+ghost use Rattle.std.specs.Str.Parse.{digits_value};
 ghost use Rattle.linked_text.specs.Fields.{Finds, between, count, delay, edge_of, hold_of, is_canonical, is_name};
 ghost use Rattle.linked_text.specs.Fields.{is_numeral, is_rising, kind_of, number_of, or_dash, signed_of, size};
 ghost use Rattle.linked_text.specs.Fits.{IsSmaller};
 
 use itoa::Buffer;
 use xt_model::Edge;
+
+/// Any so many digits write a number of 64 bits.
+const SHORT: usize = 19;
+
+/// The number that at most 19 bytes write, where each of them is a digit.
+fn short_value(field: &[u8]) -> Option<u64>
+    requires { length field.now ≤ 19 }
+    ensures { result ≡ (if list_all is_ascii_digit field.now then Some (digits_value 10 field.now) else None) }
+{
+    let mut value: u64 = 0;
+    for digit in field {
+        if !digit.is_ascii_digit() {
+            return None;
+        }
+        value = 10 * value + u64::from(*digit - b'0');
+    }
+    Some(value)
+}
+
+/// The number of 64 bits that at most 19 bytes write, without needless zeros.
+fn short_number(field: &[u8]) -> Option<u64>
+    requires { length field.now ≤ 19 }
+    ensures { Finds (λ x. x) result (number_of (2 ^ 64) field.now) }
+{
+    if field.is_empty() {
+        return None;
+    }
+    if field[0] == b'0' && field.len() > 1 {
+        return None;
+    }
+    short_value(field)
+}
 
 /// Whether the field is what is written for `n`.
 fn is_written_so(n: u128, field: &[u8]) -> bool
@@ -20,11 +53,10 @@ fn is_written_so(n: u128, field: &[u8]) -> bool
     buffer.format(n).as_bytes() == field
 }
 
-/// The number below `limit` that is written so, without needless zeros.
-pub fn number_from(limit: u128, field: &[u8]) -> Option<u128>
+/// The number below `limit` that any bytes write, without needless zeros.
+fn long_number(limit: u128, field: &[u8]) -> Option<u128>
     requires { limit ≤ 2 ^ 127 }
-    ensures value { Finds (λ x. x) result (number_of limit field.now) }
-    ensures below { IfSome result (λ n. n < limit) }
+    ensures { Finds (λ x. x) result (number_of limit field.now) }
 {
     let Ok(text) = str::from_utf8(field) else {
         return None;
@@ -36,6 +68,22 @@ pub fn number_from(limit: u128, field: &[u8]) -> Option<u128>
         return None;
     }
     if !is_written_so(n, field) {
+        return None;
+    }
+    Some(n)
+}
+
+/// The number below `limit` that is written so, without needless zeros.
+pub fn number_from(limit: u128, field: &[u8]) -> Option<u128>
+    requires { limit ≤ 2 ^ 127 }
+    ensures value { Finds (λ x. x) result (number_of limit field.now) }
+    ensures below { IfSome result (λ n. n < limit) }
+{
+    if field.len() > SHORT {
+        return long_number(limit, field);
+    }
+    let n = u128::from(short_number(field)?);
+    if n >= limit {
         return None;
     }
     Some(n)

@@ -164,7 +164,7 @@ pub fn heads<'a>(
 pub fn sink_counts(alloc: Global, heads: &[NetHead]) -> Result<Vec<u32>, AllocError>
     ensures { IfOk result (λ v. v.items ≡ map (λ h. h.sinks) heads.now) }
 {
-    let mut counts = Vec::new(alloc);
+    let mut counts = Vec::with_capacity(alloc, heads.len())?;
     for head in heads {
         counts.push(head.sinks)?;
     }

@@ -157,7 +157,7 @@ impl LineReader for SinkReader {
         let Some(base) = between(0, MOST_PRODUCT, base) else {
             return Err(NUMBERS);
         };
-        let coefs = each_field(alloc, &ProductReader, coefs)?;
+        let coefs = each_field(alloc, &ProductReader, self.couplings, coefs)?;
         if !is_name(name) {
             return Err(HOLDS);
         }

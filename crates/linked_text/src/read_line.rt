@@ -25,15 +25,16 @@ pub trait FieldReader {
         ensures { Finds (λ x. x) result (of self.now field.now) };
 }
 
-/// The number of each of these fields.
+/// The number of each of these fields, with room for `count` of them.
 pub fn each_field<R: FieldReader>(
     alloc: Global,
     reader: &R,
+    count: u32,
     fields: Fields<'_>,
 ) -> Result<Vec<R::Value>, LineStop>
     ensures { LineGives (λ v. v.items) result (numbered (each (R.of reader.now) fields.entry)) }
 {
-    let mut values = Vec::new(alloc);
+    let mut values = Vec::with_capacity(alloc, count as usize)?;
     let mut left = fields;
     'fields: while let Some(field) = left.next_field() {
         let Some(value) = reader.read(field) else {
@@ -84,6 +85,10 @@ pub fn read_line<'a, R: LineReader>(
     }
 }
 
+/// Room is made for at most so many values before the first of them is read: a count may be any number, and no more
+/// memory is to be taken than lines that are there ask for.
+const MOST_ROOM: usize = 64;
+
 /// The values of `count` lines.
 pub fn read_lines<'a, R: LineReader>(
     alloc: Global,
@@ -93,7 +98,7 @@ pub fn read_lines<'a, R: LineReader>(
 ) -> Result<(Vec<R::Value>, &'a [u8]), Stop>
     ensures { Gives (λ x. (x.0.items, x.1.now)) result (many_at (line_at (R.of reader.now)) count bytes.now) }
 {
-    let mut values = Vec::new(alloc);
+    let mut values = Vec::with_capacity(alloc, MOST_ROOM.min(count as usize))?;
     let mut rest = bytes;
     let mut left = count;
     while left > 0 {
@@ -102,5 +107,6 @@ pub fn read_lines<'a, R: LineReader>(
         values.push(value)?;
         rest = after;
     }
+    values.shrink_to_fit();
     Ok((values, rest))
 }

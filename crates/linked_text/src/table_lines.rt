@@ -72,7 +72,7 @@ pub fn row(alloc: Global, word: &[u8], count: u32, line: &[u8]) -> Result<Vec<i6
     let Some(fields) = fields_after(word, count as usize, line) else {
         return Err(WORDS);
     };
-    each_field(alloc, &NumberReader, fields)
+    each_field(alloc, &NumberReader, count, fields)
 }
 
 /// Reads a row of this number of values.

@@ -22,6 +22,7 @@ fn rows(alloc: Global, count: u32, columns: u32, bytes: &[u8]) -> Result<(Vec<i6
         values.extend_from_slice(row.as_slice())?;
         rest = after;
     }
+    values.shrink_to_fit();
     Ok((values, rest))
 }
 

@@ -1,31 +1,15 @@
-use Rattle.std.proofs.Common.{◌≡◌, sym, ap, ◌∙◌, arith, Ok, rules}
-use Rattle.std.specs.Fmt.{decimal}
-use Rattle.std.proofs.lemmas.Fmt.{IsAscii-decimal_wide, parse-decimal_wide}
-use Rattle.std.proofs.lemmas.Str.{IsUtf8-from_ascii}
-use Rattle.linked_text.proofs.Decimals.{no_number, number_again}
+use Rattle.std.proofs.Common.{arith}
+use Rattle.linked_text.proofs.ShortNumbers.{below_limit, none_short, past_limit}
 use Rattle.linked_text.proofs.field.number_from.Goals as goal
 
-pub returns-in_default-clause-value : goal.returns-in_default-clause-value
-returns-in_default-clause-value c = no_number c.args.limit c.args.field.now (λ n lt e. c.in_default.ensures.cases.0 (rw e (IsUtf8-from_ascii (decimal n) (IsAscii-decimal_wide n (omega (arith, c.requires))))))
-
-pub returns-in_default-parse-clause-value : goal.returns-in_default-parse-clause-value
-returns-in_default-parse-clause-value c = no_number c.args.limit c.args.field.now (λ n lt e.
-    c.in_default-parse.not-Ok n (parse-decimal_wide 128 n c.in-Ok.text.now c.parse.result (omega (arith, c.requires)) (omega (arith, c.requires)) (c.in-Ok.ensures.cases.0 ∙ e) c.parse.ensures.value.0))
+pub returns-in_err-short_number-clause-value : goal.returns-in_err-short_number-clause-value
+returns-in_err-short_number-clause-value c =
+    rw c.from_residual.ensures (none_short c.args.limit c.args.field.now c.requires (omega (arith, c.if-field-gt-SHORT.false)) c.in_err-short_number.ensures)
 
 pub returns-then-n-limit-clause-value : goal.returns-then-n-limit-clause-value
-returns-then-n-limit-clause-value c = no_number c.args.limit c.args.field.now (λ n lt e.
-    let p : c.parse.result ≡ Ok n = parse-decimal_wide 128 n c.in-Ok.text.now c.parse.result (omega (arith, c.requires)) (omega (arith, c.requires)) (c.in-Ok.ensures.cases.0 ∙ e) c.parse.ensures.value.0 in
-    let same : c.in-Ok-parse.n ≡ n = cc in
-    omega (arith, c.if-n-limit.true))
-
-pub returns-then-not-is_written_so-clause-value : goal.returns-then-not-is_written_so-clause-value
-returns-then-not-is_written_so-clause-value c = no_number c.args.limit c.args.field.now (λ n lt e.
-    let p : c.parse.result ≡ Ok n = parse-decimal_wide 128 n c.in-Ok.text.now c.parse.result (omega (arith, c.requires)) (omega (arith, c.requires)) (c.in-Ok.ensures.cases.0 ∙ e) c.parse.ensures.value.0 in
-    let same : c.in-Ok-parse.n ≡ n = cc in
-    let so : c.args.field.now ≡ decimal c.in-Ok-parse.n = e ∙ ap decimal (sym same) in
-    search (rules, so))
+returns-then-n-limit-clause-value c =
+    past_limit c.args.limit c.in_ok-short_number.field-0 c.args.field.now c.in_ok-short_number.ensures (omega (arith, c.if-n-limit.true, c.from-n.ensures))
 
 pub returns-clause-value : goal.returns-clause-value
 returns-clause-value c =
-    let so : c.args.field.now ≡ decimal c.in-Ok-parse.n = search rules in
-    rw so (number_again c.args.limit c.in-Ok-parse.n (omega (arith, c.if-n-limit.false)) (omega (arith, c.requires, c.if-n-limit.false)))
+    rw c.from-n.ensures (below_limit c.args.limit c.in_ok-short_number.field-0 c.args.field.now c.in_ok-short_number.ensures (omega (arith, c.if-n-limit.false, c.from-n.ensures)))

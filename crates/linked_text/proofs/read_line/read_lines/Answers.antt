@@ -7,7 +7,7 @@ use Rattle.linked_text.proofs.read_line.read_lines.Goals as goal
 pub returns-in_err-value : goal.returns-in_err-value
 returns-in_err-value g c =
     let at = line_at (g.R.LineReader.of c.args.reader.now) in
-    let p = err_from_is_err_and c.from_residual.result c.from_residual.ensures.1 in
+    let p = err_from_is_err_and c.from_residual-in_err-value.result c.from_residual-in_err-value.ensures.1 in
     let more : c.loop-left.left ≡ suc (c.loop-left.left - 1) = omega (arith, c.loop-left-test.true) in
     rw (p.1, p.2) (ends c.in_err-value.field-0.0 c.loop-left.values.items (at c.loop-left.rest.now)
     (many_at at c.loop-left.left c.loop-left.rest.now) _ (λ f refused. rw (more, refused) refl) c.in_err-value.ensures c.loop-left.invariant)
@@ -23,4 +23,4 @@ pub returns : goal.returns
 returns g c =
     let at = line_at (g.R.LineReader.of c.args.reader.now) in
     let none : c.loop-left.left ≡ 0 = omega (arith, c.loop-left-test.false) in
-    is_done c.loop-left.values.items c.loop-left.rest.now (many_at at c.loop-left.left c.loop-left.rest.now) _ (rw none refl) c.loop-left.invariant
+    rw c.shrink_to_fit.ensures.items (is_done c.loop-left.values.items c.loop-left.rest.now (many_at at c.loop-left.left c.loop-left.rest.now) _ (rw none refl) c.loop-left.invariant)

@@ -19,4 +19,4 @@ loop-preserved c =
 pub returns : goal.returns
 returns c =
     let none : c.args.count - c.loop.counter ≡ 0 = omega (arith, c.loop-test.false) in
-    is_done c.loop.values.items c.loop.rest.now (rows_at (c.args.count - c.loop.counter) c.args.columns c.loop.rest.now) _ (rw none refl) c.loop.invariant
+    rw c.shrink_to_fit.ensures.items (is_done c.loop.values.items c.loop.rest.now (rows_at (c.args.count - c.loop.counter) c.args.columns c.loop.rest.now) _ (rw none refl) c.loop.invariant)
