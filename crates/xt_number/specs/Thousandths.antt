@@ -11,6 +11,10 @@ minus_of (negsuc n) = 45 ∷ []
 abbrev pub three_digits : ℕ → List ℕ
 three_digits n = decimal (n / 100) ++ (decimal (n / 10 % 10) ++ decimal (n % 10))
 
--- a count of thousandths as a decimal number with three digits behind the point
+-- so many thousandths as a decimal number with three digits behind the point
+abbrev pub size_text : ℕ → List ℕ
+size_text n = decimal (n / 1000) ++ (46 ∷ three_digits (n % 1000))
+
+-- a count of thousandths as such a number, with its sign in front
 unfoldable pub thousandths : ℤ → List ℕ
-thousandths z = minus_of z ++ (decimal (unsigned_abs z / 1000) ++ (46 ∷ three_digits (unsigned_abs z % 1000)))
+thousandths z = minus_of z ++ size_text (unsigned_abs z)

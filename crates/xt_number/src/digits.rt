@@ -1,29 +1,29 @@
 //! Printed thousandths.
 
-ghost use Rattle.std.specs.Prelude.{◌≡◌, ◌+◌, ◌<◌, ◌≤◌, List, ℕ, [], ◌∷◌, ◌++◌, length, take};
+ghost use Rattle.std.specs.Prelude.{◌≡◌, ◌+◌, ◌*◌, ◌/◌, ◌%◌, ◌^◌, ◌<◌, ◌≤◌, List, ℕ, [], ◌∷◌, ◌++◌, length, drop};
 ghost use Rattle.std.specs.Fmt.{decimal};
 ghost use Rattle.xt_number.specs.declared.digits.TheConstants.{ROOM};
-ghost use Rattle.xt_number.specs.Thousandths.{thousandths};
+ghost use Rattle.xt_number.specs.Thousandths.{size_text, thousandths, three_digits};
 
-use itoa::Buffer;
+use itoa::{Buffer, write_digits};
 use std::marker::Model;
 
 /// The bytes that any printed number has room in: a sign, 40 digits, a point and three digits.
 const ROOM: usize = 45;
 
-/// A printed number.
+/// A printed number. It stands at the end of its room, since it is written from the last byte to the first.
 #[derive(Drop)]
 pub struct Digits {
     buffer: [u8; ROOM],
-    used: usize,
+    start: usize,
 }
 
 impl Model for Digits {
     ghost Value = { List ℕ };
 
-    ghost view = { λ d. take d.used d.buffer };
+    ghost view = { λ d. drop d.start d.buffer };
 
-    ghost invariant = { λ d. d.used ≤ ROOM };
+    ghost invariant = { λ d. d.start ≤ ROOM };
 }
 
 impl Digits {
@@ -31,7 +31,7 @@ impl Digits {
     pub fn bytes(&self) -> &[u8]
         ensures { result.now ≡ self.now }
     {
-        let (text, _) = self.buffer.split_at(self.used);
+        let (_, text) = self.buffer.split_at(self.start);
         text
     }
 
@@ -40,26 +40,79 @@ impl Digits {
     {
         Digits {
             buffer: [0; ROOM],
-            used: 0,
+            start: ROOM,
         }
     }
 
-    fn push(&mut self, text: &[u8])
-        requires { length self.old + length text.now ≤ ROOM }
-        ensures { self.new ≡ self.old ++ text.now }
+    /// Puts a byte in front.
+    fn put(&mut self, byte: u8)
+        requires { length self.old < ROOM }
+        ensures { self.new ≡ byte ∷ self.old }
     {
-        let end = self.used + text.len();
-        self.buffer[self.used..end].copy_from_slice(text);
-        self.used = end;
+        self.start -= 1;
+        self.buffer[self.start] = byte;
+    }
+
+    /// Puts a text in front.
+    fn put_text(&mut self, text: &[u8])
+        requires { length text.now + length self.old ≤ ROOM }
+        ensures { self.new ≡ text.now ++ self.old }
+    {
+        let end = self.start;
+        self.start -= text.len();
+        self.buffer[self.start..end].copy_from_slice(text);
+    }
+
+    /// Puts a number of 64 bits in front.
+    fn put_number(&mut self, number: u64)
+        requires { length self.old + 20 ≤ ROOM }
+        ensures { self.new ≡ decimal number ++ self.old }
+    {
+        self.start = write_digits(number, &mut self.buffer, self.start);
     }
 }
 
 /// The digit of a number below ten.
-fn digit(value: u128) -> u8
+fn digit(value: u32) -> u8
     requires { value < 10 }
     ensures { result ∷ [] ≡ decimal value }
 {
     b'0' + value as u8
+}
+
+/// A point and so many thousandths behind it.
+fn fraction(thousandths: u32) -> Digits
+    requires { thousandths < 1000 }
+    ensures value { result ≡ 46 ∷ three_digits thousandths }
+    ensures length { length result ≡ 4 }
+{
+    let mut digits = Digits::new();
+    digits.put(digit(thousandths % 10));
+    digits.put(digit(thousandths / 10 % 10));
+    digits.put(digit(thousandths / 100));
+    digits.put(b'.');
+    digits
+}
+
+/// So many thousandths of 64 bits.
+fn short_size(size: u64) -> Digits
+    ensures value { result ≡ size_text size }
+    ensures short { length result ≤ 24 }
+{
+    let mut digits = fraction((size % 1000) as u32);
+    digits.put_number(size / 1000);
+    digits
+}
+
+/// So many thousandths of any size.
+fn long_size(size: u128) -> Digits
+    ensures value { result ≡ size_text size }
+    ensures short { length result ≤ 44 }
+{
+    let mut buffer = Buffer::new();
+    let mut digits = fraction((size % 1000) as u32);
+    digits.put_text(buffer.format(size / 1000).as_bytes());
+    digits
 }
 
 /// A count of thousandths, with three digits behind the point.
@@ -68,15 +121,13 @@ fn print_thousandths(count: i128) -> Digits
     ensures { result ≡ thousandths count }
 {
     let size = count.unsigned_abs();
-    let rest = size % 1000;
-    let mut buffer = Buffer::new();
-    let mut digits = Digits::new();
+    let mut digits = match u64::try_from(size) {
+        Ok(size) => short_size(size),
+        Err(_) => long_size(size),
+    };
     if count < 0 {
-        digits.push(b"-");
+        digits.put(b'-');
     }
-    digits.push(buffer.format(size / 1000).as_bytes());
-    digits.push(b".");
-    digits.push(&[digit(rest / 100), digit(rest / 10 % 10), digit(rest % 10)]);
     digits
 }
 
