@@ -201,26 +201,22 @@ pub fn is_name(bytes: &[u8]) -> bool
 pub fn edge(field: &[u8]) -> Option<Edge>
     ensures { Finds (λ x. x) result (edge_of field.now) }
 {
-    if field == b"rise".as_slice() {
-        return Some(Edge::Rise);
+    match field {
+        b"rise" => Some(Edge::Rise),
+        b"fall" => Some(Edge::Fall),
+        _ => None,
     }
-    if field == b"fall".as_slice() {
-        return Some(Edge::Fall);
-    }
-    None
 }
 
 /// Whether it is an input port.
 pub fn kind(field: &[u8]) -> Option<bool>
     ensures { Finds (λ x. x) result (kind_of field.now) }
 {
-    if field == b"i".as_slice() {
-        return Some(true);
+    match field {
+        b"i" => Some(true),
+        b"w" => Some(false),
+        _ => None,
     }
-    if field == b"w".as_slice() {
-        return Some(false);
-    }
-    None
 }
 
 /// Whether each number is above the one before it.

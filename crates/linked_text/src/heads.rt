@@ -70,7 +70,7 @@ fn head_line<'a>(alloc: Global, names: &mut Names<'a>, line: &'a [u8]) -> Result
     let Some((word, name, input, load, couplings, sinks, arcs)) = seven(line) else {
         return Err(WORDS);
     };
-    if word != b"net".as_slice() {
+    if !matches!(word, b"net") {
         return Err(WORDS);
     }
     let Some(input) = kind(input) else {

@@ -95,7 +95,7 @@ impl LineReader for CouplingReader {
         let Some((word, to, cap)) = three(line) else {
             return Err(WORDS);
         };
-        if word != b"couple".as_slice() {
+        if !matches!(word, b"couple") {
             return Err(WORDS);
         }
         let Some(to) = count(to) else {
@@ -132,7 +132,7 @@ fn sink_fields<'a>(count: usize, line: &'a [u8]) -> Option<(&'a [u8], &'a [u8], 
     let word = fields.next_field()?;
     let name = fields.next_field()?;
     let base = fields.next_field()?;
-    if word != b"sink".as_slice() || fields.len() != count {
+    if !matches!(word, b"sink") || fields.len() != count {
         return None;
     }
     Some((name, base, fields))
@@ -197,7 +197,7 @@ impl<'a> LineReader for ArcReader<'a> {
         let Some((word, from, sink, input, output, delay, slew)) = seven(line) else {
             return Err(WORDS);
         };
-        if word != b"arc".as_slice() {
+        if !matches!(word, b"arc") {
             return Err(WORDS);
         }
         let Some(input) = edge(input) else {
