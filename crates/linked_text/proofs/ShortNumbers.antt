@@ -1,5 +1,5 @@
 -- Numbers of few digits: what the digits are worth, and that it is written so.
-use Rattle.std.proofs.Common.{◌≡◌, ◌≢◌, ℕ, zero, suc, ◌<◌, ◌≤◌, ◌^◌, Bool, true, false, cond, ◌&&◌, List, [], ◌∷◌, length, get_or, Option, Some, None, refl, sym, ap, subst, ◌∙◌, arith, add-one, ◌*◌, ◌+◌}
+use Rattle.std.proofs.Common.{◌≡◌, ℕ, zero, suc, ◌<◌, ◌≤◌, ◌^◌, Bool, true, false, cond, List, [], ◌∷◌, length, get_or, Option, Some, None, refl, sym, ap, subst, ◌∙◌, arith, add-one, ◌*◌, ◌+◌}
 use Rattle.std.specs.Char.{is_ascii_digit, digit_value}
 use Rattle.std.specs.Fmt.{decimal}
 use Rattle.std.specs.List.{list_all}
@@ -11,7 +11,7 @@ use Rattle.std.proofs.lemmas.Fmt.{decimal_is_IsNumeral_wide, decimal-digits_valu
 use Rattle.std.proofs.lemmas.Int.Digits.{digits_value-lt}
 use Rattle.std.proofs.lemmas.Str.Parse.{numerals_by_value, tells_digits, digit_from_value}
 use Rattle.linked_text.specs.Fields.{Finds, number_of}
-use Rattle.linked_text.proofs.Options.{both_true, is_none, some_is}
+use Rattle.linked_text.proofs.Options.{both_true, some_is}
 use Rattle.linked_text.proofs.Decimals.{number_takes, number_again, no_number}
 
 -- one element fails

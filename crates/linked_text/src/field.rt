@@ -53,7 +53,9 @@ fn is_written_so(n: u128, field: &[u8]) -> bool
     buffer.format(n).as_bytes() == field
 }
 
-/// The number below `limit` that any bytes write, without needless zeros.
+/// The number below `limit` that any bytes write, without needless zeros. Hardly a field has so many bytes.
+#[cold]
+#[inline(never)]
 fn long_number(limit: u128, field: &[u8]) -> Option<u128>
     requires { limit ≤ 2 ^ 127 }
     ensures { Finds (λ x. x) result (number_of limit field.now) }
