@@ -182,18 +182,13 @@ class Linker:
         before, mark, behind = text.rpartition(self.parasitics.delimiter)
         return (before, behind) if mark else None
 
-    def pin_of(self, text):
-        """The instance and its connected pin that a node's text names, and their net, or None."""
+    def node_net(self, text):
+        """The net of a node, looked up in three ways, or None."""
         parts = self.split(text)
         instance = self.places.get(parts[0]) if parts else None
         n = instance.wires.get(parts[1]) if instance else None
-        return None if n is None else (instance.name, parts[1], n)
-
-    def node_net(self, text):
-        """The net of a node, looked up in three ways, or None."""
-        pin, parts = self.pin_of(text), self.split(text)
-        if pin:
-            return pin[2]
+        if n is not None:
+            return n
         if parts and parts[0] in self.numbers:
             return self.numbers[parts[0]]
         return self.numbers.get(text)
@@ -284,23 +279,22 @@ class Linker:
 
 
 class Nodes:
-    """The nodes of a net: the driver, the sinks, then others by their texts as they come."""
+    """The nodes of a net: the driver, the sinks, then others by their texts as they come. Two ends of one text are two
+    nodes, of which the first has the text."""
 
     def __init__(self, linker, n):
-        self.linker, self.n, self.texts, self.known = linker, n, [], {}
+        self.texts, self.known = [], {}
         for pin in [*linker.drivers[n], *linker.sinks[n]]:
             text = pin.pin if pin.instance is None else pin.instance + linker.parasitics.delimiter + pin.pin
-            self.known[pin.instance, pin.pin] = len(self.texts)
+            self.known.setdefault(text, len(self.texts))
             self.texts.append(text)
 
     def number(self, text):
         """The number of the node with a text."""
-        pin = self.linker.pin_of(text)
-        key = (pin[0], pin[1]) if pin and (pin[0], pin[1]) in self.known else (None, text)
-        if key not in self.known:
-            self.known[key] = len(self.texts)
+        if text not in self.known:
+            self.known[text] = len(self.texts)
             self.texts.append(text)
-        return self.known[key]
+        return self.known[text]
 
 
 class Shared:

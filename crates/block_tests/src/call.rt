@@ -1,0 +1,105 @@
+//! Calls of the program on files in memory.
+
+ghost use Rattle.std.specs.Prelude.{◌<◌};
+
+use std::alloc::{AllocError, Global};
+use std::process::Abort;
+use std::test::Fail;
+use std::thread::Threads;
+use xt_io::{MemoryFiles, MemorySink, RecordedFiles};
+use xtalk_top::xtalk;
+
+/// Room for what a call writes, in bytes.
+const ROOM: usize = 1 << 20;
+
+/// What goes wrong outside: the numbers of the calls on the files, on the output and on the error stream that fail, and
+/// the most bytes that the output takes at a time.
+#[derive(Drop)]
+pub struct Outside {
+    pub files: Vec<u64>,
+    pub out: Vec<u64>,
+    pub err: Vec<u64>,
+    pub most: usize,
+    ghost some: { 0 < most },
+}
+
+/// Nothing goes wrong.
+pub fn calm(alloc: Global) -> Outside {
+    Outside {
+        files: Vec::new(alloc),
+        out: Vec::new(alloc),
+        err: Vec::new(alloc),
+        most: ROOM,
+    }
+}
+
+/// The words that a line has.
+fn words_of(alloc: Global, line: &str) -> Result<Vec<String>, AllocError> {
+    let mut words = Vec::new(alloc);
+    for word in line.split_whitespace() {
+        words.push(String::from_str(alloc, word)?)?;
+    }
+    Ok(words)
+}
+
+/// Files of these names with these texts.
+fn files_of(alloc: Global, texts: &[(&str, &[u8])]) -> Result<Vec<(String, Vec<u8>)>, AllocError> {
+    let mut files = Vec::new(alloc);
+    for (name, text) in texts {
+        files.push((
+            String::from_str(alloc, name)?,
+            Vec::from_slice(alloc, text)?,
+        ))?;
+    }
+    Ok(files)
+}
+
+/// What a call with these words says: its status, then its line on the error stream, then its output.
+pub fn told<R: Threads + Sync>(
+    rt: &R,
+    alloc: Global,
+    words: &str,
+    texts: &[(&str, &[u8])],
+    outside: Outside,
+) -> Result<String, Fail> {
+    let words = words_of(alloc, words)?;
+    let Outside {
+        files: files_fail,
+        out: out_fail,
+        err: err_fail,
+        most,
+    } = outside;
+    let mut files = MemoryFiles::new(alloc, files_of(alloc, texts)?, files_fail)?;
+    let mut out = MemorySink::new(alloc, out_fail, most, ROOM)?;
+    let mut err = MemorySink::new(alloc, err_fail, ROOM, ROOM)?;
+    let status = xtalk(rt, alloc, &words, &mut files, &mut out, &mut err);
+    let line = str::from_utf8(err.bytes()).unwrap_or("?");
+    let text = str::from_utf8(out.bytes()).unwrap_or("?");
+    Ok(format!(in alloc; "{status} {line}{text}")?)
+}
+
+/// The files that a call with these words opens, each with a space behind it.
+pub fn opened<R: Threads + Sync>(
+    rt: &R,
+    alloc: Global,
+    words: &str,
+    texts: &[(&str, &[u8])],
+) -> Result<String, Fail> {
+    let words = words_of(alloc, words)?;
+    let files = MemoryFiles::new(alloc, files_of(alloc, texts)?, Vec::new(alloc))?;
+    let mut recorded = RecordedFiles::new(alloc, files);
+    let mut out = MemorySink::new(alloc, Vec::new(alloc), ROOM, ROOM)?;
+    let mut err = MemorySink::new(alloc, Vec::new(alloc), ROOM, ROOM)?;
+    let _status = xtalk(rt, alloc, &words, &mut recorded, &mut out, &mut err);
+    let mut names = String::new(alloc);
+    for name in recorded.opened.iter() {
+        names.push_str(name.as_str())?;
+        names.push_str(" ")?;
+    }
+    Ok(names)
+}
+
+/// Compares what a call says; `place` tells it apart.
+pub fn compare(rt: &impl Abort, said: &str, want: &str, place: &str) {
+    assert!(rt; said == want, "{said} at {place}");
+}
