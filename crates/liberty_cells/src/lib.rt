@@ -18,6 +18,3 @@ pub use library::Library;
 pub use pin::{Pin, Role};
 pub use reading::read_library;
 pub use timing::{Sense, Timing, TimingKind};
-
-#[cfg(test)]
-mod tests;

@@ -17,6 +17,3 @@ pub use constraints::{Clock, Constraints};
 pub use port_table::PortTable;
 pub use ports::{PortBit, PortSet, Sides};
 pub use read::read_sdc;
-
-#[cfg(test)]
-mod tests;

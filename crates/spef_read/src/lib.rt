@@ -18,6 +18,3 @@ mod words;
 
 pub use parasitics::{CapText, Name, Parasitics, ResText, WireText};
 pub use read::read_spef;
-
-#[cfg(test)]
-mod tests;

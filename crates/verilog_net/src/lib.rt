@@ -13,8 +13,6 @@ mod refusal;
 mod sort;
 mod state;
 mod stop;
-#[cfg(test)]
-mod tests;
 
 pub use name::Name;
 pub use netlist::{Instance, Modules, Net, Netlist, PortRole, Wire};

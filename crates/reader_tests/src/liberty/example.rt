@@ -1,7 +1,7 @@
 //! A library with an inverter and a flip-flop, worked out by hand.
 
 use super::{compare_name, compare_pin, compare_table, read};
-use crate::{Cell, Pin, Role, Sense, Timing, TimingKind};
+use liberty_cells::{Cell, Pin, Role, Sense, Timing, TimingKind};
 use std::process::Abort;
 use std::test::*;
 

@@ -1,6 +1,6 @@
-//! Short texts and one whole example, with what they mean worked out by hand.
+//! Parasitics: short texts and one whole example, with what they mean worked out by hand.
 
-use crate::{Name, Parasitics, read_spef};
+use spef_read::{Name, Parasitics, read_spef};
 use std::alloc::Global;
 use std::process::Abort;
 use std::test::*;
@@ -304,13 +304,21 @@ fn example() -> [&'static str; 45] {
     ]
 }
 
-/// The first lines of the example, with one of them changed.
-fn changed(alloc: Global, cut: usize, number: usize, line: &str) -> Option<String> {
+/// Lines that stand in place of those of the example, each with its number from 1 on.
+type Changes<'a> = &'a [(usize, &'static str)];
+
+/// The first lines of the example, some of them changed.
+fn changed(alloc: Global, cut: usize, changes: Changes<'_>) -> Option<String> {
     let mut text = String::new(alloc);
     let mut at: usize = 0;
     for own in example() {
         if at < cut {
-            let shown = if at + 1 == number { line } else { own };
+            let mut shown = own;
+            for (number, line) in changes {
+                if *number == at + 1 {
+                    shown = *line;
+                }
+            }
             text.push_str(shown).ok()?;
             text.push('\n').ok()?;
         }
@@ -324,10 +332,9 @@ fn refused_example(
     rt: &impl Abort,
     alloc: Global,
     cut: usize,
-    number: usize,
-    line: &str,
+    changes: Changes<'_>,
 ) -> Option<(u32, Code)> {
-    match changed(alloc, cut, number, line) {
+    match changed(alloc, cut, changes) {
         Some(text) => refused(rt, alloc, text.as_bytes()),
         None => panic!(rt; "out of memory"),
     }
@@ -348,7 +355,7 @@ fn the_example_is_refused_where_it_is_cut(rt: HostRuntime) {
             Some((line, Code::S2))
         };
         assert_eq!(rt;
-            refused_example(&rt, alloc, cut as usize, 0, ""),
+            refused_example(&rt, alloc, cut as usize, &[]),
             want,
             "{cut}"
         );
@@ -367,7 +374,7 @@ fn the_example_is_refused_at_a_changed_line(rt: HostRuntime) {
     ];
     for (number, line, code) in rows {
         assert_eq!(rt;
-            refused_example(&rt, alloc, 45, number, line),
+            refused_example(&rt, alloc, 45, &[(number, line)]),
             Some((number as u32, code))
         );
     }
@@ -425,9 +432,9 @@ const EXAMPLE: &str =
     "n1 3000\nC n1:1 2000\nC n1:1 bus[0]:1 1000\nR g1:Y n1:1 50000\nR n1:1 f2:D 50000\n\
      bus[0] 3000\nC bus[0]:1 2000\nC bus[0]:1 n1:1 1000\nR g2:Y bus[0]:1 100000\nR bus[0]:1 f1:D 100000\n";
 
-/// Compares what the example means with one line changed.
-fn compare_example(rt: &impl Abort, alloc: Global, number: usize, line: &str) {
-    match changed(alloc, 45, number, line) {
+/// Compares what the example means with some lines changed.
+fn compare_example(rt: &impl Abort, alloc: Global, changes: Changes<'_>) {
+    match changed(alloc, 45, changes) {
         Some(text) => compare_value(rt, alloc, text.as_bytes(), EXAMPLE),
         None => panic!(rt; "out of memory"),
     }
@@ -436,11 +443,12 @@ fn compare_example(rt: &impl Abort, alloc: Global, number: usize, line: &str) {
 #[test]
 fn the_example_means_two_nets(rt: HostRuntime) {
     let alloc = rt.alloc();
-    compare_example(&rt, alloc, 0, "");
-    compare_example(&rt, alloc, 16, "*0001 n1");
-    compare_example(&rt, alloc, 10, "*BUS_DELIMITER ( )");
-    compare_example(&rt, alloc, 45, "*END *PORTS *END");
-    compare_example(&rt, alloc, 8, "*DIVIDER |");
+    compare_example(&rt, alloc, &[]);
+    compare_example(&rt, alloc, &[(16, "*0001 n1")]);
+    compare_example(&rt, alloc, &[(10, "*BUS_DELIMITER ( )")]);
+    compare_example(&rt, alloc, &[(10, "*BUS_DELIMITER < >"), (17, "*2 bus<0>")]);
+    compare_example(&rt, alloc, &[(45, "*END *PORTS *END")]);
+    compare_example(&rt, alloc, &[(8, "*DIVIDER |")]);
 }
 
 #[test]

@@ -2,7 +2,7 @@
 
 mod example;
 
-use crate::{Cell, Library, Pin, Role, Sense, Timing, TimingKind, read_library};
+use liberty_cells::{Cell, Library, Pin, Role, Sense, Timing, TimingKind, read_library};
 use std::alloc::{AllocError, Global};
 use std::process::Abort;
 use std::test::*;

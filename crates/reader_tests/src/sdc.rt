@@ -1,6 +1,6 @@
-//! Small texts and one whole example, with what they mean worked out by hand.
+//! Constraints: small texts and one whole example, with what they mean worked out by hand.
 
-use crate::{Constraints, PortSet, Sides, read_sdc};
+use sdc_read::{Constraints, PortSet, Sides, read_sdc};
 use std::alloc::{AllocError, Global};
 use std::process::Abort;
 use std::test::*;

@@ -1,9 +1,9 @@
-//! Short netlists, worked out by hand.
+//! Netlists: short texts, worked out by hand.
 
-use crate::{Instance, Netlist, PortFound, PortRole, Wire, read_modules, read_netlist};
 use std::alloc::Global;
 use std::process::Abort;
 use std::test::*;
+use verilog_net::{Instance, Netlist, PortFound, PortRole, Wire, read_modules, read_netlist};
 use xt_lex::{Code, MOST_BYTES, TextFault};
 
 /// A text and the line and code of its refusal, if it has one.
