@@ -5,6 +5,8 @@
 #[cfg(test)]
 mod liberty;
 #[cfg(test)]
+mod rows;
+#[cfg(test)]
 mod sdc;
 #[cfg(test)]
 mod spef;

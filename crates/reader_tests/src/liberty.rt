@@ -2,162 +2,101 @@
 
 mod example;
 
+use crate::rows::{at_bar, in_words, with_lines};
 use liberty_cells::{Cell, Library, Pin, Role, Sense, Timing, TimingKind, read_library};
 use std::alloc::{AllocError, Global};
 use std::process::Abort;
 use std::test::*;
 use xt_lex::{MOST_BYTES, TextFault};
-use xt_model::{Code, Name, Table};
-
-/// A line and a code of a refusal.
-type Refusal = (u32, Code);
+use xt_model::{Name, Row, Table};
 
 /// Reads a library.
-fn read(rt: &impl Abort, alloc: Global, text: &[u8]) -> Result<Library, Refusal> {
+fn read(rt: &impl Abort, alloc: Global, text: &[u8]) -> Result<Library, TextFault> {
     if text.len() > MOST_BYTES {
         panic!(rt; "too long");
     }
-    match read_library(alloc, text) {
-        Ok(library) => Ok(library),
-        Err(TextFault::Refused { line, code }) => Err((line, code)),
-        Err(TextFault::NoMemory) => panic!(rt; "out of memory"),
-    }
+    read_library(alloc, text)
 }
 
-/// Pieces of a text, one after another.
-fn joined(rt: &impl Abort, alloc: Global, pieces: &[&str]) -> Vec<u8> {
-    match try_joined(alloc, pieces) {
-        Ok(text) => text,
-        Err(_) => panic!(rt; "out of memory"),
+/// Compares what becomes of libraries with the content of each row, which begins on line 1.
+fn compare(rt: &impl Abort, alloc: Global, rows: &str) -> Result<(), Fail> {
+    for row in rows.lines() {
+        let (want, content) = at_bar(row)?;
+        let content = with_lines(alloc, content)?;
+        let content = content.as_str();
+        let text = format!(in alloc; "library (x) {{{content}}}")?;
+        let words = in_words(alloc, read(rt, alloc, text.as_bytes()))?;
+        assert!(rt; words.as_str() == want, "{words} at {row}");
     }
+    Ok(())
 }
 
-fn try_joined(alloc: Global, pieces: &[&str]) -> Result<Vec<u8>, AllocError> {
-    let mut text = Vec::new(alloc);
-    for piece in pieces {
-        text.extend_from_slice(piece.as_bytes())?;
-    }
-    Ok(text)
-}
-
-/// Compares the refusals of libraries with these contents, which begin on line 1.
-fn compare_refusals(rt: &impl Abort, alloc: Global, rows: &[(&'static str, Option<Refusal>)]) {
-    for (content, want) in rows {
-        let text = joined(rt, alloc, &["library (x) {", content, "}"]);
-        let fault = read(rt, alloc, text.as_slice()).err();
-        assert_eq!(rt; fault, *want, "at {content}");
-    }
-}
+/// The scales of time and of capacitance, behind units.
+const UNITS: &str = "\
+6 6 |
+3 3 | time_unit : \"1ps\"; capacitive_load_unit (1, ff);
+4 5 | time_unit : 10ps; capacitive_load_unit (\"0.1\", \"pF\");
+5 6 | time_unit (100ps); capacitive_load_unit (1000.0, FF);
+6 0 | time_unit : 5ps; time_unit : 1ns; capacitive_load_unit (1e-3, ff);
+";
 
 #[test]
-fn units_have_their_scales(rt: HostRuntime) {
-    let rows = [
-        ("", 6, 6),
-        ("time_unit : \"1ps\"; capacitive_load_unit (1, ff);", 3, 3),
-        (
-            "time_unit : 10ps; capacitive_load_unit (\"0.1\", \"pF\");",
-            4,
-            5,
-        ),
-        (
-            "time_unit (100ps); capacitive_load_unit (1000.0, FF);",
-            5,
-            6,
-        ),
-        (
-            "time_unit : 5ps; time_unit : 1ns; capacitive_load_unit (1e-3, ff);",
-            6,
-            0,
-        ),
-    ];
-    for (content, time, cap) in rows {
-        let text = joined(&rt, rt.alloc(), &["library (x) {", content, "}"]);
-        match read(&rt, rt.alloc(), text.as_slice()) {
-            Ok(library) => {
-                assert_eq!(rt; library.time_scale, time, "at {content}");
-                assert_eq!(rt; library.cap_scale, cap, "at {content}");
-            }
-            Err(_) => panic!(rt; "refused at {content}"),
-        }
+fn units_have_their_scales(rt: HostRuntime) -> Result<(), Fail> {
+    let alloc = rt.alloc();
+    for row in UNITS.lines() {
+        let (want, content) = at_bar(row)?;
+        let text = format!(in alloc; "library (x) {{{content}}}")?;
+        let Ok(library) = read(&rt, alloc, text.as_bytes()) else {
+            panic!(rt; "refused at {row}");
+        };
+        let (time, cap) = (library.time_scale, library.cap_scale);
+        let words = format!(in alloc; "{time} {cap}")?;
+        assert!(rt; words.as_str() == want, "{words} at {row}");
     }
+    Ok(())
 }
 
-#[test]
-fn units_and_names_are_refused(rt: HostRuntime) {
-    let rows = [
-        ("time_unit : 5ps;", Some((1, Code::L8))),
-        ("time_unit : 1NS;", Some((1, Code::L8))),
-        ("time_unit : 1 ns;", Some((1, Code::L8))),
-        ("\ncapacitive_load_unit (2, pf);", Some((2, Code::L8))),
-        ("\ncapacitive_load_unit (1, pf, 1);", Some((2, Code::L8))),
-        ("\ncapacitive_load_unit (10000, pf);", Some((2, Code::L8))),
-        (
-            "\ncapacitive_load_unit (2, pf);\ntime_unit : 2ns;",
-            Some((2, Code::L8)),
-        ),
-        (
-            "lu_table_template () { } time_unit : 2ns;",
-            Some((1, Code::L8)),
-        ),
-        (
-            "cell () { }\nlu_table_template (t, u) { }",
-            Some((2, Code::L1)),
-        ),
-        ("\nlu_table_template (\"a b\") { }", Some((2, Code::L1))),
-        (
-            "cell (A) { }\ncell (\"A\") { }\ncell (A) { }",
-            Some((2, Code::L7)),
-        ),
-        ("cell (A) { }\ncell (A, B) { }", Some((2, Code::L1))),
-        ("cell (A) { } cell (\"\\A\\B\") { } cell (a) { }", None),
-    ];
-    compare_refusals(&rt, rt.alloc(), &rows);
-}
+/// Units, and names of templates and cells.
+const NAMES: &str = "\
+L8 1 | time_unit : 5ps;
+L8 1 | time_unit : 1NS;
+L8 1 | time_unit : 1 ns;
+L8 2 | ⏎capacitive_load_unit (2, pf);
+L8 2 | ⏎capacitive_load_unit (1, pf, 1);
+L8 2 | ⏎capacitive_load_unit (10000, pf);
+L8 2 | ⏎capacitive_load_unit (2, pf);⏎time_unit : 2ns;
+L8 1 | lu_table_template () { } time_unit : 2ns;
+L1 2 | cell () { }⏎lu_table_template (t, u) { }
+L1 2 | ⏎lu_table_template (\"a b\") { }
+L7 2 | cell (A) { }⏎cell (\"A\") { }⏎cell (A) { }
+L1 2 | cell (A) { }⏎cell (A, B) { }
+read | cell (A) { } cell (\"\\A\\B\") { } cell (a) { }
+";
 
 #[test]
-fn pins_are_refused(rt: HostRuntime) {
-    let rows = [
-        ("cell (A) {\npin () { } }", Some((2, Code::L1))),
-        (
-            "cell (A) {\npin (B, \"\") {\ncapacitance : x; } }",
-            Some((2, Code::L1)),
-        ),
-        ("cell (A) { pin (B, B) { } pin (B) { } }", None),
-        (
-            "cell (A) { pin (B) {\ncapacitance : x; } }",
-            Some((2, Code::L3)),
-        ),
-        (
-            "cell (A) { pin (B) {\ncapacitance : 1 2; } }",
-            Some((2, Code::L3)),
-        ),
-        (
-            "cell (A) { pin (B) {\ncapacitance : -0.001; } }",
-            Some((2, Code::L3)),
-        ),
-        (
-            "cell (A) { pin (B) { capacitance : x;\ncapacitance : 1; } }",
-            None,
-        ),
-        (
-            "cell (A) { pin (B) { capacitance : -0.0000000001; } }",
-            None,
-        ),
-        (
-            "cell (A) { pin (B) { capacitance : 1099511.627776; } }",
-            None,
-        ),
-        (
-            "cell (A) { pin (B) { capacitance : 1099511.627777; } }",
-            Some((1, Code::L3)),
-        ),
-        (
-            "cell (A) { pin (B) { timing () { }\ncapacitance : x; } }",
-            Some((2, Code::L3)),
-        ),
-        ("cell (A) { bundle (B) { pin () { } } }", None),
-    ];
-    compare_refusals(&rt, rt.alloc(), &rows);
+fn units_and_names_are_refused(rt: HostRuntime) -> Result<(), Fail> {
+    compare(&rt, rt.alloc(), NAMES)
+}
+
+/// Pins.
+const PINS: &str = "\
+L1 2 | cell (A) {⏎pin () { } }
+L1 2 | cell (A) {⏎pin (B, \"\") {⏎capacitance : x; } }
+read | cell (A) { pin (B, B) { } pin (B) { } }
+L3 2 | cell (A) { pin (B) {⏎capacitance : x; } }
+L3 2 | cell (A) { pin (B) {⏎capacitance : 1 2; } }
+L3 2 | cell (A) { pin (B) {⏎capacitance : -0.001; } }
+read | cell (A) { pin (B) { capacitance : x;⏎capacitance : 1; } }
+read | cell (A) { pin (B) { capacitance : -0.0000000001; } }
+read | cell (A) { pin (B) { capacitance : 1099511.627776; } }
+L3 1 | cell (A) { pin (B) { capacitance : 1099511.627777; } }
+L3 2 | cell (A) { pin (B) { timing () { }⏎capacitance : x; } }
+read | cell (A) { bundle (B) { pin () { } } }
+";
+
+#[test]
+fn pins_are_refused(rt: HostRuntime) -> Result<(), Fail> {
+    compare(&rt, rt.alloc(), PINS)
 }
 
 #[test]
@@ -178,9 +117,9 @@ fn pins_have_their_directions(rt: HostRuntime) {
     compare_pin(&rt, d, "D", Role::Other, 0, 0);
 }
 
-/// Compares the refusals of libraries with a name as that of a template, a cell, a pin and a related pin, on line 2.
-fn compare_named(rt: &impl Abort, alloc: Global, name: &[u8], want: Option<Refusal>) {
-    let places = [
+/// Compares what becomes of libraries with a name as that of a template, a cell, a pin and a related pin, on line 2.
+fn compare_named(rt: &impl Abort, alloc: Global, name: &[u8], want: &str) -> Result<(), Fail> {
+    for (before, after) in [
         ("\nlu_table_template (", ") { } }"),
         ("\ncell (", ") { } }"),
         ("cell (A) {\npin (", ") { } } }"),
@@ -188,63 +127,61 @@ fn compare_named(rt: &impl Abort, alloc: Global, name: &[u8], want: Option<Refus
             "cell (A) { pin (Z) { timing () {\nrelated_pin : ",
             "; } } } }",
         ),
-    ];
-    for (before, after) in places {
-        let mut text = joined(rt, alloc, &["library (x) {", before]);
-        if text.extend_from_slice(name).is_err()
-            || text.extend_from_slice(after.as_bytes()).is_err()
-        {
-            panic!(rt; "out of memory");
-        }
-        let fault = read(rt, alloc, text.as_slice()).err();
-        assert_eq!(rt; fault, want, "at {before}");
+    ] {
+        let mut text = Vec::new(alloc);
+        text.extend_from_slice(b"library (x) {")?;
+        text.extend_from_slice(before.as_bytes())?;
+        text.extend_from_slice(name)?;
+        text.extend_from_slice(after.as_bytes())?;
+        let words = in_words(alloc, read(rt, alloc, text.as_slice()))?;
+        assert!(rt; words.as_str() == want, "{words} at {before}");
     }
+    Ok(())
 }
 
 #[test]
-fn a_name_is_printable_and_has_at_most_1024_bytes(rt: HostRuntime) {
-    let mut name = Vec::new(rt.alloc());
-    for length in 1..1026 {
-        if name.push(b'x').is_err() {
-            panic!(rt; "out of memory");
-        }
-        if length == 1024 {
-            compare_named(&rt, rt.alloc(), name.as_slice(), None);
-        }
-    }
-    let refused = Some((2, Code::L1));
-    compare_named(&rt, rt.alloc(), name.as_slice(), refused);
-    compare_named(&rt, rt.alloc(), b"\"!~\"", None);
-    compare_named(&rt, rt.alloc(), b"\"a\x7f\"", refused);
-    compare_named(&rt, rt.alloc(), b"\"\xff\"", refused);
-    compare_named(&rt, rt.alloc(), b"\"\x1fa\"", refused);
+fn a_name_is_printable_and_has_at_most_1024_bytes(rt: HostRuntime) -> Result<(), Fail> {
+    let alloc = rt.alloc();
+    let mut name = vec![in alloc; b'x'; 1024]?;
+    compare_named(&rt, alloc, name.as_slice(), "read")?;
+    name.push(b'x')?;
+    compare_named(&rt, alloc, name.as_slice(), "L1 2")?;
+    compare_named(&rt, alloc, b"\"!~\"", "read")?;
+    compare_named(&rt, alloc, b"\"a\x7f\"", "L1 2")?;
+    compare_named(&rt, alloc, b"\"\xff\"", "L1 2")?;
+    compare_named(&rt, alloc, b"\"\x1fa\"", "L1 2")
 }
 
-/// The timing groups of the only pin of a library, which has a direction and the content of a timing group. The content
-/// begins on line 2.
-fn compare_timings(
+/// What a library with one timing group means: the kind of the group, or the refusal.
+fn kind_in_words(
     rt: &impl Abort,
     alloc: Global,
-    rows: &[(&'static str, &'static str, Result<TimingKind, Refusal>)],
-) {
-    for (direction, content, want) in rows {
-        let text = joined(
-            rt,
-            alloc,
-            &[
-                "library (x) { cell (A) { pin (Z) { direction : ",
-                direction,
-                "; timing () {\n",
-                content,
-                "} } } }",
-            ],
-        );
-        let kind = match read(rt, alloc, text.as_slice()) {
-            Ok(library) => Ok(only_timing(rt, &library).kind),
-            Err(refusal) => Err(refusal),
-        };
-        assert_eq!(rt; kind, *want, "at {direction} {content}");
+    direction: &str,
+    content: &str,
+) -> Result<String, Fail> {
+    let text = format!(in alloc;
+        "library (x) {{ cell (A) {{ pin (Z) {{ direction : {direction}; timing () {{\n{content}}} }} }} }}"
+    )?;
+    match read(rt, alloc, text.as_bytes()) {
+        Ok(library) => {
+            let kind = only_timing(rt, &library).kind;
+            Ok(format!(in alloc; "{kind:?}")?)
+        }
+        Err(fault) => in_words(alloc, Err::<(), TextFault>(fault)),
     }
+}
+
+/// Compares the kind of the only timing group of a library, or its refusal, for each row with the direction of the pin
+/// and the content of the group. The content begins on line 2.
+fn compare_timings(rt: &impl Abort, alloc: Global, rows: &str) -> Result<(), Fail> {
+    for row in rows.lines() {
+        let (want, rest) = at_bar(row)?;
+        let (direction, content) = at_bar(rest)?;
+        let content = with_lines(alloc, content)?;
+        let words = kind_in_words(rt, alloc, direction, content.as_str())?;
+        assert!(rt; words.as_str() == want, "{words} at {row}");
+    }
+    Ok(())
 }
 
 /// The first timing group of the first pin of the first cell.
@@ -261,202 +198,76 @@ fn only_timing<'a>(rt: &impl Abort, library: &'a Library) -> &'a Timing {
     }
 }
 
-#[test]
-fn timing_groups_have_their_kinds(rt: HostRuntime) {
-    let rows = [
-        ("output", "related_pin : A;", Ok(TimingKind::Combinational)),
-        ("input", "related_pin : A;", Ok(TimingKind::Unsupported)),
-        (
-            "inout",
-            "timing_type : rising_edge;",
-            Ok(TimingKind::Unsupported),
-        ),
-        (
-            "output",
-            "related_pin : A; timing_type : \"rising_edge\";",
-            Ok(TimingKind::RisingEdge),
-        ),
-        (
-            "input",
-            "related_pin : A; timing_type : setup_rising;",
-            Ok(TimingKind::SetupRising),
-        ),
-        (
-            "input",
-            "related_pin : A; timing_type : hold_rising;",
-            Ok(TimingKind::HoldRising),
-        ),
-        (
-            "output",
-            "timing_type : hold_rising;",
-            Ok(TimingKind::Unsupported),
-        ),
-        (
-            "output",
-            "timing_type : falling_edge;",
-            Ok(TimingKind::Unsupported),
-        ),
-        (
-            "output",
-            "timing_type : clear rising_edge;",
-            Ok(TimingKind::Unsupported),
-        ),
-        (
-            "output",
-            "timing_type : combinational_rise;",
-            Ok(TimingKind::Unsupported),
-        ),
-        (
-            "output",
-            "timing_type : clear; cell_rise (u) { }",
-            Ok(TimingKind::Skipped),
-        ),
-        (
-            "output",
-            "related_pin : A; rise_constraint (u) { }",
-            Ok(TimingKind::Combinational),
-        ),
-    ];
-    compare_timings(&rt, rt.alloc(), &rows);
-}
+/// Kinds of timing groups, by the direction of the pin and what the group has.
+const KINDS: &str = "\
+Combinational | output | related_pin : A;
+Unsupported | input | related_pin : A;
+Unsupported | inout | timing_type : rising_edge;
+RisingEdge | output | related_pin : A; timing_type : \"rising_edge\";
+SetupRising | input | related_pin : A; timing_type : setup_rising;
+HoldRising | input | related_pin : A; timing_type : hold_rising;
+Unsupported | output | timing_type : hold_rising;
+Unsupported | output | timing_type : falling_edge;
+Unsupported | output | timing_type : clear rising_edge;
+Unsupported | output | timing_type : combinational_rise;
+Skipped | output | timing_type : clear; cell_rise (u) { }
+Combinational | output | related_pin : A; rise_constraint (u) { }
+";
 
 #[test]
-fn types_without_a_use_are_skipped(rt: HostRuntime) {
-    let types = [
-        "clear",
-        "preset",
-        "recovery_rising",
-        "recovery_falling",
-        "removal_rising",
-        "removal_falling",
-        "three_state_enable",
-        "three_state_disable",
-        "three_state_enable_rise",
-        "three_state_enable_fall",
-        "three_state_disable_rise",
-        "three_state_disable_fall",
-        "min_pulse_width",
-        "minimum_period",
-    ];
-    for kind in types {
+fn timing_groups_have_their_kinds(rt: HostRuntime) -> Result<(), Fail> {
+    compare_timings(&rt, rt.alloc(), KINDS)
+}
+
+/// Types of timing groups that have no use.
+const UNUSED: &str = "\
+clear
+preset
+recovery_rising
+recovery_falling
+removal_rising
+removal_falling
+three_state_enable
+three_state_disable
+three_state_enable_rise
+three_state_enable_fall
+three_state_disable_rise
+three_state_disable_fall
+min_pulse_width
+minimum_period
+";
+
+#[test]
+fn types_without_a_use_are_skipped(rt: HostRuntime) -> Result<(), Fail> {
+    let alloc = rt.alloc();
+    for kind in UNUSED.lines() {
+        let content = format!(in alloc; "timing_type : {kind};")?;
         for direction in ["input", "output"] {
-            let pieces = [
-                "library (x) { cell (A) { pin (Z) { direction : ",
-                direction,
-                "; timing () { timing_type : ",
-                kind,
-                "; } } } }",
-            ];
-            let text = joined(&rt, rt.alloc(), &pieces);
-            match read(&rt, rt.alloc(), text.as_slice()) {
-                Ok(library) => {
-                    assert_eq!(rt;
-                        only_timing(&rt, &library).kind,
-                        TimingKind::Skipped,
-                        "at {kind}"
-                    );
-                }
-                Err(_) => panic!(rt; "refused at {kind}"),
-            }
+            let words = kind_in_words(&rt, alloc, direction, content.as_str())?;
+            assert_eq!(rt; words.as_str(), "Skipped", "at {kind}");
         }
     }
+    Ok(())
 }
+
+/// Timing groups that are refused.
+const TIMINGS: &str = "\
+L4 1 | output |
+L4 1 | input | timing_type : setup_rising;
+L1 2 | output | timing_type : clear; related_pin : \" \";
+L1 2 | output | related_pin (); cell_rise (scalar) { }
+L1 2 | output | related_pin : A B;
+L4 1 | output | related_pin : A; cell_rise (u) { }
+L4 1 | output | related_pin : A; rise_transition (u) { }
+L4 1 | output | related_pin : A; cell_fall (u) { }
+L4 1 | output | related_pin : A; fall_transition (u) { }
+L6 2 | output | related_pin : A; cell_rise (u) { }⏎rise_transition (v) { }
+L6 2 | input | related_pin : A; timing_type : hold_rising; fall_constraint (u) { }
+";
 
 #[test]
-fn timing_groups_are_refused(rt: HostRuntime) {
-    let rows = [
-        ("output", "", Err((1, Code::L4))),
-        ("input", "timing_type : setup_rising;", Err((1, Code::L4))),
-        (
-            "output",
-            "timing_type : clear; related_pin : \" \";",
-            Err((2, Code::L1)),
-        ),
-        (
-            "output",
-            "related_pin (); cell_rise (scalar) { }",
-            Err((2, Code::L1)),
-        ),
-        ("output", "related_pin : A B;", Err((2, Code::L1))),
-        (
-            "output",
-            "related_pin : A; cell_rise (u) { }",
-            Err((1, Code::L4)),
-        ),
-        (
-            "output",
-            "related_pin : A; rise_transition (u) { }",
-            Err((1, Code::L4)),
-        ),
-        (
-            "output",
-            "related_pin : A; cell_fall (u) { }",
-            Err((1, Code::L4)),
-        ),
-        (
-            "output",
-            "related_pin : A; fall_transition (u) { }",
-            Err((1, Code::L4)),
-        ),
-        (
-            "output",
-            "related_pin : A; cell_rise (u) { }\nrise_transition (v) { }",
-            Err((2, Code::L6)),
-        ),
-        (
-            "input",
-            "related_pin : A; timing_type : hold_rising; fall_constraint (u) { }",
-            Err((2, Code::L6)),
-        ),
-    ];
-    compare_timings(&rt, rt.alloc(), &rows);
-}
-
-/// The slews, the loads and the values of a table.
-type TableWant = (&'static [i64], &'static [i64], &'static [i64]);
-
-/// A library of a template, which begins on line 2, and of a table, whose arguments begin on the line behind it.
-fn table_text(rt: &impl Abort, alloc: Global, template: &str, table: &str) -> Vec<u8> {
-    joined(
-        rt,
-        alloc,
-        &[
-            "library (x) {\n",
-            template,
-            "\ncell (A) { pin (Z) { direction : output; timing () { related_pin : B; cell_rise ",
-            table,
-            "rise_transition (scalar) { values (1); } } } } }",
-        ],
-    )
-}
-
-fn compare_table(rt: &impl Abort, table: &Table, want: TableWant, at: &str) {
-    assert_eq!(rt; table.slews(), want.0, "at {at}");
-    assert_eq!(rt; table.loads(), want.1, "at {at}");
-    assert_eq!(rt; table.values(), want.2, "at {at}");
-}
-
-/// Compares the first of the two tables of each library.
-fn compare_tables(
-    rt: &impl Abort,
-    alloc: Global,
-    rows: &[(&'static str, &'static str, TableWant)],
-) {
-    for (template, table, want) in rows {
-        let text = table_text(rt, alloc, template, table);
-        match read(rt, alloc, text.as_slice()) {
-            Err(_) => panic!(rt; "refused at {table}"),
-            Ok(library) => {
-                assert_eq!(rt; library.tables.len(), 2, "at {table}");
-                assert_eq!(rt; only_timing(rt, &library).rise, Some(0), "at {table}");
-                assert_eq!(rt; only_timing(rt, &library).rise_slew, Some(1), "at {table}");
-                match library.tables.as_slice().first() {
-                    Some(first) => compare_table(rt, first, *want, table),
-                    None => panic!(rt; "no table"),
-                }
-            }
-        }
-    }
+fn timing_groups_are_refused(rt: HostRuntime) -> Result<(), Fail> {
+    compare_timings(&rt, rt.alloc(), TIMINGS)
 }
 
 /// Slews in rows on lines 3 and 5, loads in columns on lines 4 and 6; the cell is on line 7.
@@ -467,143 +278,132 @@ const SLEWS_FIRST: &str = "lu_table_template (t) {\nvariable_1 : input_net_trans
 const LOADS_FIRST: &str = "lu_table_template (t) {\nvariable_1 : total_output_net_capacitance;\n\
     variable_2 : input_net_transition;\nindex_1 (\"1 2 3\");\nindex_2 (\"0.1,0.2\"); }";
 
-#[test]
-fn tables_stand_row_by_row(rt: HostRuntime) {
-    let rows: [(&'static str, &'static str, TableWant); 6] = [
-        (
-            "",
-            "(scalar) { values (\"0.5\"); }",
-            (&[0], &[0], &[500_000]),
-        ),
-        (
-            SLEWS_FIRST,
-            "(t) { values (\"1,2,3\", \"4,5,6\"); }",
-            (
-                &[100_000, 200_000],
-                &[1_000_000, 2_000_000, 3_000_000],
-                &[
-                    1_000_000, 2_000_000, 3_000_000, 4_000_000, 5_000_000, 6_000_000,
-                ],
-            ),
-        ),
-        (
-            LOADS_FIRST,
-            "(t) { values (\"1,2\", \"3,4\", \"5,6\"); }",
-            (
-                &[100_000, 200_000],
-                &[1_000_000, 2_000_000, 3_000_000],
-                &[
-                    1_000_000, 3_000_000, 5_000_000, 2_000_000, 4_000_000, 6_000_000,
-                ],
-            ),
-        ),
-        (
-            SLEWS_FIRST,
-            "(t) { index_1 (0.3); index_2 (\"4\"); values (7); values (8); }",
-            (&[300_000], &[4_000_000], &[8_000_000]),
-        ),
-        (
-            SLEWS_FIRST,
-            "(t) { index_1 (\" ,0.3,,0.4 \"); index_2 (\"-1\", \"\\5\"); values (\"1,\\\n2\", 3, \".4e1\"); }",
-            (
-                &[300_000, 400_000],
-                &[-1_000_000, 5_000_000],
-                &[1_000_000, 2_000_000, 3_000_000, 4_000_000],
-            ),
-        ),
-        (
-            "time_unit : 10ps; capacitive_load_unit (1, ff); lu_table_template (t) {\
-            variable_1 : total_output_net_capacitance; variable_2 : input_net_transition;\
-            index_1 (1, 2, 3); index_2 (9); }",
-            "(t) { index_2 (4, 5); values (\"1,2\", \"3,4\", \"5,6\"); }",
-            (
-                &[40_000, 50_000],
-                &[1_000, 2_000, 3_000],
-                &[10_000, 30_000, 50_000, 20_000, 40_000, 60_000],
-            ),
-        ),
-    ];
-    compare_tables(&rt, rt.alloc(), &rows);
-}
-
-#[test]
-fn a_missing_axis_is_zero_alone(rt: HostRuntime) {
-    let rows: [(&'static str, &'static str, TableWant); 4] = [
-        (
-            "lu_table_template (t) { variable_1 : total_output_net_capacitance; index_1 (1, 2); }",
-            "(t) { values (3, 4); }",
-            (&[0], &[1_000_000, 2_000_000], &[3_000_000, 4_000_000]),
-        ),
-        (
-            "lu_table_template (t) { variable_2 : input_net_transition; index_2 (1, 2); }",
-            "(t) { values (3, 4); }",
-            (&[1_000_000, 2_000_000], &[0], &[3_000_000, 4_000_000]),
-        ),
-        (
-            "lu_table_template (t) { variable_1 : x; } lu_table_template (t) { }",
-            "(\"t\") { values (3); }",
-            (&[0], &[0], &[3_000_000]),
-        ),
-        (
-            "lu_table_template (scalar) { variable_1 : x; }",
-            "(scalar) { values (3); }",
-            (&[0], &[0], &[3_000_000]),
-        ),
-    ];
-    compare_tables(&rt, rt.alloc(), &rows);
-}
-
-/// Compares the refusals of tables.
-fn compare_table_refusals(
-    rt: &impl Abort,
-    alloc: Global,
-    rows: &[(&'static str, &'static str, Refusal)],
-) {
-    for (template, table, want) in rows {
-        let text = table_text(rt, alloc, template, table);
-        let fault = read(rt, alloc, text.as_slice()).err();
-        assert_eq!(rt; fault, Some(*want), "at {template} {table}");
+/// A template, by its text or by what it has first.
+fn template_of(words: &str) -> &str {
+    match words {
+        "slews first" => SLEWS_FIRST,
+        "loads first" => LOADS_FIRST,
+        text => text,
     }
 }
 
+/// Appends numbers, each behind a space.
+fn push_numbers(alloc: Global, out: &mut String, numbers: &[i64]) -> Result<(), AllocError> {
+    for number in numbers {
+        let text = format!(in alloc; " {number}")?;
+        out.push_str(text.as_str())?;
+    }
+    Ok(())
+}
+
+/// A table: its slews, its loads and its values.
+fn table_in_words(alloc: Global, table: &Table) -> Result<String, AllocError> {
+    let mut out = String::from_str(alloc, "slews")?;
+    push_numbers(alloc, &mut out, table.slews())?;
+    out.push_str("; loads")?;
+    push_numbers(alloc, &mut out, table.loads())?;
+    out.push_str("; values")?;
+    push_numbers(alloc, &mut out, table.values())?;
+    Ok(out)
+}
+
+/// What a library of a template, which begins on line 2, and of two tables means, the arguments of the first of which
+/// begin on the line behind the template: that table, or the refusal.
+fn tables_in_words(
+    rt: &impl Abort,
+    alloc: Global,
+    template: &str,
+    table: &str,
+) -> Result<String, Fail> {
+    let text = format!(in alloc;
+        "library (x) {{\n{template}\ncell (A) {{ pin (Z) {{ direction : output; timing () {{ related_pin : B; \
+        cell_rise {table}rise_transition (scalar) {{ values (1); }} }} }} }} }}"
+    )?;
+    match read(rt, alloc, text.as_bytes()) {
+        Ok(library) => {
+            let timing = only_timing(rt, &library);
+            assert_eq!(rt; (timing.rise, timing.rise_slew), (Some(0), Some(1)));
+            let [first, _] = library.tables.as_slice() else {
+                panic!(rt; "not two tables");
+            };
+            Ok(table_in_words(alloc, first)?)
+        }
+        Err(fault) => in_words(alloc, Err::<(), TextFault>(fault)),
+    }
+}
+
+/// Compares what becomes of the template and the first table of each row.
+fn compare_tables(rt: &impl Abort, alloc: Global, rows: &str) -> Result<(), Fail> {
+    for row in rows.lines() {
+        let (want, rest) = at_bar(row)?;
+        let (template, table) = at_bar(rest)?;
+        let template = with_lines(alloc, template_of(template))?;
+        let table = with_lines(alloc, table)?;
+        let words = tables_in_words(rt, alloc, template.as_str(), table.as_str())?;
+        assert!(rt; words.as_str() == want, "{words} at {row}");
+    }
+    Ok(())
+}
+
+/// Tables with templates.
+const TABLES: &str = "\
+slews 0; loads 0; values 500000 |  | (scalar) { values (\"0.5\"); }
+slews 100000 200000; loads 1000000 2000000 3000000; values 1000000 2000000 3000000 4000000 5000000 6000000 \
+    | slews first | (t) { values (\"1,2,3\", \"4,5,6\"); }
+slews 100000 200000; loads 1000000 2000000 3000000; values 1000000 3000000 5000000 2000000 4000000 6000000 \
+    | loads first | (t) { values (\"1,2\", \"3,4\", \"5,6\"); }
+slews 300000; loads 4000000; values 8000000 | slews first \
+    | (t) { index_1 (0.3); index_2 (\"4\"); values (7); values (8); }
+slews 300000 400000; loads -1000000 5000000; values 1000000 2000000 3000000 4000000 | slews first \
+    | (t) { index_1 (\" ,0.3,,0.4 \"); index_2 (\"-1\", \"\\5\"); values (\"1,\\⏎2\", 3, \".4e1\"); }
+slews 40000 50000; loads 1000 2000 3000; values 10000 30000 50000 20000 40000 60000 \
+    | time_unit : 10ps; capacitive_load_unit (1, ff); lu_table_template (t) {variable_1 : \
+    total_output_net_capacitance; variable_2 : input_net_transition;index_1 (1, 2, 3); index_2 (9); } | (t) \
+    { index_2 (4, 5); values (\"1,2\", \"3,4\", \"5,6\"); }
+";
+
 #[test]
-fn tables_are_refused_at_their_lines(rt: HostRuntime) {
-    let rows = [
-        ("", "(t) { values (x); }", (3, Code::L6)),
-        ("", "() { values (1); }", (3, Code::L6)),
-        ("", "(scalar, scalar) { values (1); }", (3, Code::L6)),
-        ("", "(scalar) {\nvalues (1.); }", (4, Code::L3)),
-        ("", "(scalar) {\nvalues (1, 2); }", (4, Code::L4)),
-        ("", "(scalar) {\n}", (3, Code::L4)),
-        ("", "(scalar) {\nindex_1 (0); values (1); }", (4, Code::L4)),
-        (SLEWS_FIRST, "(t) {\nvalues (1, 2); }", (8, Code::L4)),
-        (
-            SLEWS_FIRST,
-            "(t) { index_1 (0.2, 0.1);\nvalues (1, x); }",
-            (8, Code::L3),
-        ),
-        (
-            SLEWS_FIRST,
-            "(t) { values (1);\nindex_2 (2, 2); }",
-            (8, Code::L5),
-        ),
-        (
-            SLEWS_FIRST,
-            "(t) { values (1);\nindex_2 (2, y); }",
-            (8, Code::L3),
-        ),
-        (
-            SLEWS_FIRST,
-            "(t) {\nvalues (1);\nindex_2 (); }",
-            (8, Code::L4),
-        ),
-        (
-            SLEWS_FIRST,
-            "(t) {\nvalues ();\nindex_2 (); }",
-            (9, Code::L4),
-        ),
-    ];
-    compare_table_refusals(&rt, rt.alloc(), &rows);
+fn tables_stand_row_by_row(rt: HostRuntime) -> Result<(), Fail> {
+    compare_tables(&rt, rt.alloc(), TABLES)
+}
+
+/// Tables with templates of one axis or none.
+const AXES: &str = "\
+slews 0; loads 1000000 2000000; values 3000000 4000000 \
+    | lu_table_template (t) { variable_1 : total_output_net_capacitance; index_1 (1, 2); } | (t) { values \
+    (3, 4); }
+slews 1000000 2000000; loads 0; values 3000000 4000000 \
+    | lu_table_template (t) { variable_2 : input_net_transition; index_2 (1, 2); } | (t) { values (3, 4); }
+slews 0; loads 0; values 3000000 | lu_table_template (t) { variable_1 : x; } lu_table_template (t) { } \
+    | (\"t\") { values (3); }
+slews 0; loads 0; values 3000000 | lu_table_template (scalar) { variable_1 : x; } | (scalar) { values (3); }
+";
+
+#[test]
+fn a_missing_axis_is_zero_alone(rt: HostRuntime) -> Result<(), Fail> {
+    compare_tables(&rt, rt.alloc(), AXES)
+}
+
+/// Tables that are refused.
+const REFUSED_TABLES: &str = "\
+L6 3 |  | (t) { values (x); }
+L6 3 |  | () { values (1); }
+L6 3 |  | (scalar, scalar) { values (1); }
+L3 4 |  | (scalar) {⏎values (1.); }
+L4 4 |  | (scalar) {⏎values (1, 2); }
+L4 3 |  | (scalar) {⏎}
+L4 4 |  | (scalar) {⏎index_1 (0); values (1); }
+L4 8 | slews first | (t) {⏎values (1, 2); }
+L3 8 | slews first | (t) { index_1 (0.2, 0.1);⏎values (1, x); }
+L5 8 | slews first | (t) { values (1);⏎index_2 (2, 2); }
+L3 8 | slews first | (t) { values (1);⏎index_2 (2, y); }
+L4 8 | slews first | (t) {⏎values (1);⏎index_2 (); }
+L4 9 | slews first | (t) {⏎values ();⏎index_2 (); }
+";
+
+#[test]
+fn tables_are_refused_at_their_lines(rt: HostRuntime) -> Result<(), Fail> {
+    compare_tables(&rt, rt.alloc(), REFUSED_TABLES)
 }
 
 /// The numbers from 0 to 63.
@@ -612,78 +412,41 @@ const SIXTY_FOUR: &str =
     32 33 34 35 36 37 38 39 40 41 42 43 44 45 46 47 48 49 50 51 52 53 54 55 56 57 58 59 60 61 62 63";
 
 #[test]
-fn an_index_has_at_most_64_numbers(rt: HostRuntime) {
-    for (more, want) in [("", None), (" 64", Some((7, Code::L4)))] {
+fn an_index_has_at_most_64_numbers(rt: HostRuntime) -> Result<(), Fail> {
+    let alloc = rt.alloc();
+    for (more, want) in [("", "read"), (" 64", "L4 7")] {
         for (long, short) in [("index_1", "index_2"), ("index_2", "index_1")] {
-            let pieces = [
-                "library (x) {\n",
-                SLEWS_FIRST,
-                "cell (A) { pin (Z) { direction : output; timing () { related_pin : B;\
-                rise_transition (scalar) { values (1); } cell_rise (t) { values (\"",
-                SIXTY_FOUR,
-                more,
-                "\"); ",
-                short,
-                " (0);\n",
-                long,
-                " (\"",
-                SIXTY_FOUR,
-                more,
-                "\"); } } } } }",
-            ];
-            let text = joined(&rt, rt.alloc(), &pieces);
-            let fault = read(&rt, rt.alloc(), text.as_slice()).err();
-            assert_eq!(rt; fault, want, "at {long}");
+            let text = format!(in alloc;
+                "library (x) {{\n{SLEWS_FIRST}cell (A) {{ pin (Z) {{ direction : output; timing () {{ related_pin : B; \
+                rise_transition (scalar) {{ values (1); }} cell_rise (t) {{ values (\"{SIXTY_FOUR}{more}\"); \
+                {short} (0);\n{long} (\"{SIXTY_FOUR}{more}\"); }} }} }} }} }}"
+            )?;
+            let words = in_words(alloc, read(&rt, alloc, text.as_bytes()))?;
+            assert_eq!(rt; words.as_str(), want, "at {long}");
         }
     }
+    Ok(())
 }
 
+/// Templates that are refused.
+const REFUSED_TEMPLATES: &str = "\
+L4 3 | lu_table_template (t) {⏎variable_1 : input_net_transition; } | (t) { values (1); }
+L4 3 | lu_table_template (t) {⏎index_2 (1); } | (t) { values (1); }
+L4 3 | lu_table_template (t) {⏎variable_1 : related_pin_transition; index_1 (1); } | (t) { values (1); }
+L4 3 | lu_table_template (t) { variable_1 : input_net_transition; index_1 (1); index_2 (1);⏎variable_2 : \
+    input_net_transition; } | (t) { values (1); }
+L5 3 | lu_table_template (t) { variable_1 : input_net_transition; values (1);⏎index_1 (1, 0); } \
+    | (t) { values (1); }
+L3 3 | lu_table_template (t) { variable_1 : input_net_transition;⏎index_1 (1, z); } \
+    | (t) { index_2 (1);⏎values (z); }
+L4 3 | time_unit : 1ps; lu_table_template (t) {⏎variable_1 : x; index_1 (1.2e6); } | (t) { values (1); }
+L3 3 | capacitive_load_unit (1, ff); lu_table_template (t) {⏎variable_1 : x; index_1 (1.2e6); } \
+    | (t) { values (1); }
+";
+
 #[test]
-fn templates_are_refused_where_a_table_uses_them(rt: HostRuntime) {
-    let rows = [
-        (
-            "lu_table_template (t) {\nvariable_1 : input_net_transition; }",
-            "(t) { values (1); }",
-            (3, Code::L4),
-        ),
-        (
-            "lu_table_template (t) {\nindex_2 (1); }",
-            "(t) { values (1); }",
-            (3, Code::L4),
-        ),
-        (
-            "lu_table_template (t) {\nvariable_1 : related_pin_transition; index_1 (1); }",
-            "(t) { values (1); }",
-            (3, Code::L4),
-        ),
-        (
-            "lu_table_template (t) { variable_1 : input_net_transition; index_1 (1); index_2 (1);\n\
-            variable_2 : input_net_transition; }",
-            "(t) { values (1); }",
-            (3, Code::L4),
-        ),
-        (
-            "lu_table_template (t) { variable_1 : input_net_transition; values (1);\nindex_1 (1, 0); }",
-            "(t) { values (1); }",
-            (3, Code::L5),
-        ),
-        (
-            "lu_table_template (t) { variable_1 : input_net_transition;\nindex_1 (1, z); }",
-            "(t) { index_2 (1);\nvalues (z); }",
-            (3, Code::L3),
-        ),
-        (
-            "time_unit : 1ps; lu_table_template (t) {\nvariable_1 : x; index_1 (1.2e6); }",
-            "(t) { values (1); }",
-            (3, Code::L4),
-        ),
-        (
-            "capacitive_load_unit (1, ff); lu_table_template (t) {\nvariable_1 : x; index_1 (1.2e6); }",
-            "(t) { values (1); }",
-            (3, Code::L3),
-        ),
-    ];
-    compare_table_refusals(&rt, rt.alloc(), &rows);
+fn templates_are_refused_where_a_table_uses_them(rt: HostRuntime) -> Result<(), Fail> {
+    compare_tables(&rt, rt.alloc(), REFUSED_TEMPLATES)
 }
 
 /// A check on an input pin, its template with the constrained pin first.
@@ -731,8 +494,31 @@ fn compare_check(rt: &impl Abort, timing: &Timing) {
     compare_name(rt, second, "CL");
 }
 
+/// Compares the tables of a library with a list of lines.
+fn compare_all_tables(
+    rt: &impl Abort,
+    alloc: Global,
+    tables: &Row<Table>,
+    want: &str,
+) -> Result<(), Fail> {
+    let mut words = String::new(alloc);
+    for table in tables.as_slice() {
+        let line = table_in_words(alloc, table)?;
+        words.push_str(line.as_str())?;
+        words.push('\n')?;
+    }
+    assert!(rt; words.as_str() == want, "{words}");
+    Ok(())
+}
+
+/// Its tables.
+const CHECK_TABLES: &str = "\
+slews 4000 5000; loads 1000 2000 3000; values 1000 3000 5000 2000 4000 6000
+slews 0; loads 0; values 7000
+";
+
 #[test]
-fn a_check_has_the_related_pin_in_its_rows(rt: HostRuntime) {
+fn a_check_has_the_related_pin_in_its_rows(rt: HostRuntime) -> Result<(), Fail> {
     let Ok(library) = read(&rt, rt.alloc(), CHECK.as_bytes()) else {
         panic!(rt; "refused");
     };
@@ -741,18 +527,5 @@ fn a_check_has_the_related_pin_in_its_rows(rt: HostRuntime) {
     };
     compare_checked_cell(&rt, cell);
     compare_check(&rt, only_timing(&rt, &library));
-    let [first, second] = library.tables.as_slice() else {
-        panic!(rt; "not two tables");
-    };
-    compare_table(
-        &rt,
-        first,
-        (
-            &[4_000, 5_000],
-            &[1_000, 2_000, 3_000],
-            &[1_000, 3_000, 5_000, 2_000, 4_000, 6_000],
-        ),
-        "c",
-    );
-    compare_table(&rt, second, (&[0], &[0], &[7_000]), "scalar");
+    compare_all_tables(&rt, rt.alloc(), &library.tables, CHECK_TABLES)
 }

@@ -1,5 +1,6 @@
 //! Constraints: small texts and one whole example, with what they mean worked out by hand.
 
+use crate::rows::{at_bar, with_lines};
 use sdc_read::{Constraints, PortSet, Sides, read_sdc};
 use std::alloc::{AllocError, Global};
 use std::process::Abort;
@@ -124,7 +125,7 @@ fn meaning(
     cap: i32,
 ) -> Result<String, AllocError> {
     if text.len() > MOST_BYTES || !(-12 <= time && time <= 12 && -12 <= cap && cap <= 12) {
-        return format!(in alloc; "no text");
+        return format!(in alloc; "; no text");
     }
     match read_sdc(alloc, text.as_bytes(), netlist, time, cap) {
         Ok(constraints) => in_words(alloc, &constraints),
@@ -136,59 +137,49 @@ fn meaning(
     }
 }
 
-/// Compares what a text means for the small netlist.
-fn compare(
-    rt: &impl Abort,
-    alloc: Global,
-    text: &'static str,
-    time: i32,
-    cap: i32,
-    want: &'static str,
-) {
+/// Compares what the text of each row means for the small netlist, at these scales.
+fn compare(rt: &impl Abort, alloc: Global, time: i32, cap: i32, rows: &str) -> Result<(), Fail> {
     let netlist = netlist(rt, alloc, NETLIST);
-    match meaning(alloc, &netlist, text, time, cap) {
-        Ok(words) => {
-            let words = words.as_str();
-            let words = words.strip_prefix("; ").unwrap_or("");
-            assert!(rt; words == want, "{words} at {text}");
-        }
-        Err(_) => panic!(rt; "out of memory"),
+    for row in rows.lines() {
+        let (want, text) = at_bar(row)?;
+        let text = with_lines(alloc, text)?;
+        let words = meaning(alloc, &netlist, text.as_str(), time, cap)?;
+        let words = words.as_str().strip_prefix("; ").unwrap_or("nothing");
+        assert!(rt; words == want, "{words} at {row}");
     }
+    Ok(())
 }
 
 #[test]
-fn scales_reach_from_12_below_to_12_above(rt: HostRuntime) {
+fn scales_reach_from_12_below_to_12_above(rt: HostRuntime) -> Result<(), Fail> {
     let rows = [
         (
-            "set_load 1e12 y; set_load 4e11 z[0]; set_load 5e11 z[1]",
             6,
             -12,
-            "3.0 load 1; 4.1 load 1",
+            "3.0 load 1; 4.1 load 1 | set_load 1e12 y; set_load 4e11 z[0]; set_load 5e11 z[1]",
         ),
         (
-            "set_load 1 y; set_load 1.099511627776 z[0]",
             6,
             12,
-            "3.0 load 1000000000000; 4.0 load 1099511627776",
+            "3.0 load 1000000000000; 4.0 load 1099511627776 | set_load 1 y; set_load 1.099511627776 z[0]",
         ),
-        ("create_clock -period 1e12 ck", -12, 6, "clock ck 0 0 1 0"),
+        (-12, 6, "clock ck 0 0 1 0 | create_clock -period 1e12 ck"),
         (
-            "create_clock -period 1 ck",
             12,
             6,
-            "clock ck 0 0 1000000000000 500000000000",
+            "clock ck 0 0 1000000000000 500000000000 | create_clock -period 1 ck",
         ),
         (
-            "create_clock -period 1.0995116277764 ck",
             12,
             6,
-            "clock ck 0 0 1099511627776 549755813888",
+            "clock ck 0 0 1099511627776 549755813888 | create_clock -period 1.0995116277764 ck",
         ),
-        ("create_clock -period 1.0995116277765 ck", 12, 6, "C4 1"),
+        (12, 6, "C4 1 | create_clock -period 1.0995116277765 ck"),
     ];
-    for (text, time, cap, want) in rows {
-        compare(&rt, rt.alloc(), text, time, cap, want);
+    for (time, cap, row) in rows {
+        compare(&rt, rt.alloc(), time, cap, row)?;
     }
+    Ok(())
 }
 
 #[test]
@@ -217,450 +208,231 @@ fn the_example_sets_a_clock_and_two_ports(rt: HostRuntime) {
     }
 }
 
-#[test]
-fn words_are_bare_braced_quoted_or_bracketed(rt: HostRuntime) {
-    let rows = [
-        ("", 6, ""),
-        (
-            "\"create_clock\" -period {1} {ck}",
-            6,
-            "clock ck 0 0 1000000 500000",
-        ),
-        (
-            "{create_clock} -period \"1\" [get_ports ck]",
-            6,
-            "clock ck 0 0 1000000 500000",
-        ),
-        ("create_clock {-period} 1 ck", 6, "C3 1"),
-        ("[create_clock] -period 1 ck", 6, "C1 1"),
-        (
-            "create_clock \\\n -period 1\\\n ck",
-            6,
-            "clock ck 0 0 1000000 500000",
-        ),
-        ("create_clock \\\n -period 1 \\\n ck; foo", 6, "C2 3"),
-        ("set_load 5 \\\n no", 6, "C6 1"),
-        ("# foo \\\n bar\nset_load 1 y", 6, "3.0 load 1000000"),
-        ("set_load 1 y # c", 6, "C3 1"),
-        ("set_load 1 y; # c ; foo", 6, "3.0 load 1000000"),
-        (
-            "set_load 1 {y\n z}",
-            6,
-            "3.0 load 1000000; 4.0 load 1000000; 4.1 load 1000000",
-        ),
-        ("set_load 1 {y ;z}", 6, "C6 1"),
-        ("set_load 1 \"y\"", 6, "C1 1"),
-        ("set_load 1 y\nset_load 1 {y\n\n", 6, "C1 4"),
-        ("foo\n\u{e9}", 6, "C1 2"),
-        ("set_load 1 z[1]", 6, "4.1 load 1000000"),
-        ("set_load 1 z[1", 6, "C1 1"),
-        ("set_load 1 z[;1]", 6, "C1 1"),
-        ("foo z[ 1]", 6, "C1 1"),
-        ("set_max_area ]", 6, "C1 1"),
-        ("set_max_area [a [b]] {c} \"d\"", 6, ""),
-        ("set_load 1 {y}z", 6, "C1 1"),
-        ("set_load 1 {y};set_load 2 {y}", 6, "3.0 load 2000000"),
-        ("set_load 1 [get_ports {y}]", 6, "3.0 load 1000000"),
-        ("set_load 1 [get_ports y]z", 6, "C1 1"),
-        ("set_load 1 [get_ports y\n]", 6, "C1 1"),
-        ("foo\nset_load 1 [get_ports y", 6, "C2 1"),
-        ("set_load 1 [get_ports \"y\"]", 6, "C1 1"),
-        (
-            "set_load 1 [ get_ports {y z[0]} ]",
-            6,
-            "3.0 load 1000000; 4.0 load 1000000",
-        ),
-        (";; \n ;\t;", 6, ""),
-    ];
-    for (text, scale, want) in rows {
-        compare(&rt, rt.alloc(), text, scale, 6, want);
-    }
-}
+/// Words of commands.
+const WORDS: &str = "\
+nothing |
+clock ck 0 0 1000000 500000 | \"create_clock\" -period {1} {ck}
+clock ck 0 0 1000000 500000 | {create_clock} -period \"1\" [get_ports ck]
+C3 1 | create_clock {-period} 1 ck
+C1 1 | [create_clock] -period 1 ck
+clock ck 0 0 1000000 500000 | create_clock \\⏎ -period 1\\⏎ ck
+C2 3 | create_clock \\⏎ -period 1 \\⏎ ck; foo
+C6 1 | set_load 5 \\⏎ no
+3.0 load 1000000 | # foo \\⏎ bar⏎set_load 1 y
+C3 1 | set_load 1 y # c
+3.0 load 1000000 | set_load 1 y; # c ; foo
+3.0 load 1000000; 4.0 load 1000000; 4.1 load 1000000 | set_load 1 {y⏎ z}
+C6 1 | set_load 1 {y ;z}
+C1 1 | set_load 1 \"y\"
+C1 4 | set_load 1 y⏎set_load 1 {y⏎⏎
+C1 2 | foo⏎é
+4.1 load 1000000 | set_load 1 z[1]
+C1 1 | set_load 1 z[1
+C1 1 | set_load 1 z[;1]
+C1 1 | foo z[ 1]
+C1 1 | set_max_area ]
+nothing | set_max_area [a [b]] {c} \"d\"
+C1 1 | set_load 1 {y}z
+3.0 load 2000000 | set_load 1 {y};set_load 2 {y}
+3.0 load 1000000 | set_load 1 [get_ports {y}]
+C1 1 | set_load 1 [get_ports y]z
+C1 1 | set_load 1 [get_ports y⏎]
+C2 1 | foo⏎set_load 1 [get_ports y
+C1 1 | set_load 1 [get_ports \"y\"]
+3.0 load 1000000; 4.0 load 1000000 | set_load 1 [ get_ports {y z[0]} ]
+nothing | ;; ⏎ ;\t;
+";
 
 #[test]
-fn lists_stand_for_bits_of_ports(rt: HostRuntime) {
-    let rows = [
-        (
-            "set_load 1 [all_outputs]",
-            6,
-            "3.0 load 1000000; 4.0 load 1000000; 4.1 load 1000000",
-        ),
-        ("set_load 1 [all_inputs]", 6, "C6 1"),
-        ("set_load 1 [get_clocks y]", 6, "C6 1"),
-        ("set_load 1 {}", 6, ""),
-        ("set_load 1 a", 6, "C6 1"),
-        ("set_load 1 n", 6, "C6 1"),
-        ("set_load 1 z[2]", 6, "C6 1"),
-        ("set_load 1 z[01]", 6, "C6 1"),
-        ("set_load 1 y[0]", 6, "C6 1"),
-        (
-            "set_load 1 {z z[0]}; set_load 2 z[0]",
-            6,
-            "4.0 load 2000000; 4.1 load 1000000",
-        ),
-        ("set_load 1 [all_clocks]", 6, "C1 1"),
-        (
-            "set_load 1 {y \\\n z[0]}",
-            6,
-            "3.0 load 1000000; 4.0 load 1000000",
-        ),
-    ];
-    for (text, scale, want) in rows {
-        compare(&rt, rt.alloc(), text, scale, 6, want);
-    }
+fn words_are_bare_braced_quoted_or_bracketed(rt: HostRuntime) -> Result<(), Fail> {
+    compare(&rt, rt.alloc(), 6, 6, WORDS)
 }
 
-#[test]
-fn units_hold_for_what_follows(rt: HostRuntime) {
-    let rows = [
-        ("set sdc_version 2.0", 6, ""),
-        ("set sdc_version [x]", 6, ""),
-        ("set sdc_version", 6, "C3 1"),
-        ("set sdc_version 1 2", 6, "C3 1"),
-        ("set", 6, "C3 1"),
-        ("set x 1", 6, "C2 1"),
-        ("set [x] 1", 6, "C1 1"),
-        (
-            "set_units -time ps; create_clock -period 7 ck",
-            6,
-            "clock ck 0 0 7000 3500",
-        ),
-        (
-            "set_units -time 10PS; create_clock -period 7 ck",
-            6,
-            "clock ck 0 0 70000 35000",
-        ),
-        (
-            "set_units -time 0.1nS; create_clock -period 7 ck",
-            3,
-            "clock ck 0 0 700000 350000",
-        ),
-        (
-            "set_units -time \"100ps\"; create_clock -period 7 ck",
-            6,
-            "clock ck 0 0 700000 350000",
-        ),
-        ("set_units -time 2ns", 6, "C3 1"),
-        ("set_units -time pf", 6, "C3 1"),
-        ("set_units -time {1 ns}", 6, "C3 1"),
-        (
-            "set_units -capacitance 1fF; set_load 5 y",
-            6,
-            "3.0 load 5000",
-        ),
-        (
-            "set_units -capacitance 1000.0PF; set_load 5 y",
-            6,
-            "3.0 load 5000000000",
-        ),
-        (
-            "set_units -capacitance 0.001pf; set_load 5 y",
-            6,
-            "3.0 load 5000",
-        ),
-        (
-            "set_load 5 y; set_units -capacitance ff; set_load 3 z",
-            6,
-            "3.0 load 5000000; 4.0 load 3000; 4.1 load 3000",
-        ),
-        (
-            "set_units -capacitance ff; set_units -time ps; set_load 3 y",
-            6,
-            "3.0 load 3000",
-        ),
-        (
-            "set_units -resistance \"k O\" -voltage [v] -current {m A} -power -time",
-            6,
-            "",
-        ),
-        ("set_units -time", 6, "C3 1"),
-        ("set_units -time [x]", 6, "C1 1"),
-        ("set_units ns", 6, "C3 1"),
-        ("set_units -mass kg", 6, "C3 1"),
-        ("set_units -time ns -time ns", 6, "C3 1"),
-    ];
-    for (text, scale, want) in rows {
-        compare(&rt, rt.alloc(), text, scale, 6, want);
-    }
-}
+/// Lists of objects.
+const LISTS: &str = "\
+3.0 load 1000000; 4.0 load 1000000; 4.1 load 1000000 | set_load 1 [all_outputs]
+C6 1 | set_load 1 [all_inputs]
+C6 1 | set_load 1 [get_clocks y]
+nothing | set_load 1 {}
+C6 1 | set_load 1 a
+C6 1 | set_load 1 n
+C6 1 | set_load 1 z[2]
+C6 1 | set_load 1 z[01]
+C6 1 | set_load 1 y[0]
+4.0 load 2000000; 4.1 load 1000000 | set_load 1 {z z[0]}; set_load 2 z[0]
+C1 1 | set_load 1 [all_clocks]
+3.0 load 1000000; 4.0 load 1000000 | set_load 1 {y \\⏎ z[0]}
+";
 
 #[test]
-fn a_clock_has_a_name_a_period_and_a_fall(rt: HostRuntime) {
-    let rows = [
-        ("create_clock -period 0.000003 ck", 6, "clock ck 0 0 3 1"),
-        ("create_clock -period 0.0000005 ck", 6, "clock ck 0 0 1 0"),
-        ("create_clock -period 0.00000049 ck", 6, "C4 1"),
-        (
-            "create_clock -period 0.000003 -waveform {0 0.0000024} ck",
-            6,
-            "clock ck 0 0 3 2",
-        ),
-        (
-            "create_clock -period 0.000003 -waveform {0 0.0000025} ck",
-            6,
-            "C4 1",
-        ),
-        (
-            "create_clock -period 0.000003 -waveform {0 0.0000004} ck",
-            6,
-            "C4 1",
-        ),
-        (
-            "create_clock -period 0.000003 -waveform {-0.0000001 0.000001} ck",
-            6,
-            "clock ck 0 0 3 1",
-        ),
-        ("create_clock -period 3 -waveform {1 2} ck", 6, "C4 1"),
-        ("create_clock -period 3 -waveform {0} ck", 6, "C4 1"),
-        (
-            "create_clock -waveform { 0\n 1 } ck -period 3",
-            6,
-            "clock ck 0 0 3000000 1000000",
-        ),
-        (
-            "create_clock -name k -period 1 ck",
-            6,
-            "clock k 0 0 1000000 500000",
-        ),
-        ("create_clock -name \"\" -period 1 ck", 6, "C1 1"),
-        ("create_clock -name {a b} -period 1 ck", 6, "C1 1"),
-        (
-            "create_clock -name -period -period 1 ck",
-            6,
-            "clock -period 0 0 1000000 500000",
-        ),
-        ("create_clock -period 1 b", 6, "C6 1"),
-        (
-            "create_clock -period 1 b[0]",
-            6,
-            "clock b[0] 2 0 1000000 500000",
-        ),
-        ("create_clock -period 1 {ck ck}", 6, "C6 1"),
-        ("create_clock -period 1 {}", 6, "C6 1"),
-        ("create_clock -period 1 y", 6, "C6 1"),
-        ("create_clock -period 1 [get_clocks ck]", 6, "C6 1"),
-        ("create_clock ck", 6, "C3 1"),
-        ("create_clock -period ck", 6, "C3 1"),
-        ("create_clock -period -name ck", 6, "C4 1"),
-        ("create_clock -period 1 ck -add", 6, "C3 1"),
-    ];
-    for (text, scale, want) in rows {
-        compare(&rt, rt.alloc(), text, scale, 6, want);
-    }
+fn lists_stand_for_bits_of_ports(rt: HostRuntime) -> Result<(), Fail> {
+    compare(&rt, rt.alloc(), 6, 6, LISTS)
 }
 
-#[test]
-fn delays_are_set_by_edge_and_side(rt: HostRuntime) {
-    let rows = [
-        (
-            "create_clock -period 1 ck\nset_input_delay 2 -clock ck a",
-            6,
-            "clock ck 0 0 1000000 500000; 1.0 input 2000000 2000000 2000000 2000000",
-        ),
-        (
-            "create_clock -period 1 ck\nset_input_delay 2 -min -clock ck a",
-            6,
-            "clock ck 0 0 1000000 500000; 1.0 input 2000000 2000000 2000000 2000000",
-        ),
-        (
-            "create_clock -period 1 ck\nset_input_delay 2 a -max -rise -clock ck",
-            6,
-            "clock ck 0 0 1000000 500000; 1.0 input 2000000 2000000 - -",
-        ),
-        (
-            "create_clock -period 1 ck\nset_input_delay -min -max 2 -fall a -clock [get_clocks {ck}]",
-            6,
-            "clock ck 0 0 1000000 500000; 1.0 input - - 2000000 2000000",
-        ),
-        (
-            "create_clock -period 1 ck\nset_input_delay 2 -clock ck a -rise -fall; \
-                set_input_delay -3 -clock ck -fall -max a",
-            6,
-            "clock ck 0 0 1000000 500000; 1.0 input 2000000 2000000 2000000 -3000000",
-        ),
-        ("create_clock -period 1 ck\nset_input_delay 2 a", 6, "C3 2"),
-        (
-            "create_clock -period 1 ck\nset_input_delay 2 -clock k a",
-            6,
-            "C6 2",
-        ),
-        (
-            "create_clock -period 1 ck\nset_input_delay 2 -clock {} a",
-            6,
-            "C6 2",
-        ),
-        (
-            "create_clock -period 1 ck\nset_input_delay 2 -clock {ck ck} {a a}",
-            6,
-            "clock ck 0 0 1000000 500000; 1.0 input 2000000 2000000 2000000 2000000",
-        ),
-        (
-            "create_clock -period 1 ck\nset_input_delay 2 -clock {ck k} a",
-            6,
-            "C6 2",
-        ),
-        (
-            "create_clock -period 1 ck\nset_input_delay 2 -clock \"ck\" a",
-            6,
-            "C1 2",
-        ),
-        (
-            "create_clock -period 1 ck\nset_input_delay 2 -clock [all_inputs] a",
-            6,
-            "C6 2",
-        ),
-        (
-            "create_clock -period 1 ck\nset_input_delay -.5 -clock ck a",
-            6,
-            "clock ck 0 0 1000000 500000; 1.0 input -500000 -500000 -500000 -500000",
-        ),
-        (
-            "create_clock -period 1 ck\nset_input_delay 1 -clock ck a -add_delay",
-            6,
-            "C3 2",
-        ),
-        (
-            "create_clock -period 1 ck\nset_input_delay 1. -clock ck a",
-            6,
-            "C4 2",
-        ),
-        (
-            "create_clock -period 1 ck\nset_input_delay 1.1e6 -clock ck a",
-            6,
-            "C4 2",
-        ),
-        (
-            "create_clock -period 1 ck\nset_input_delay 1 -clock ck y",
-            6,
-            "C6 2",
-        ),
-        (
-            "create_clock -period 1 ck\nset_input_delay 1 -clock ck -min -min a",
-            6,
-            "C3 2",
-        ),
-        (
-            "create_clock -period 1 ck\nset_output_delay 1 -clock ck -max y",
-            6,
-            "clock ck 0 0 1000000 500000; 3.0 output - 1000000 - 1000000",
-        ),
-        (
-            "create_clock -period 1 ck\nset_output_delay 1 -clock ck -fall -min y; \
-                set_output_delay -2 -clock ck y -rise",
-            6,
-            "clock ck 0 0 1000000 500000; 3.0 output -2000000 -2000000 1000000 -",
-        ),
-        (
-            "create_clock -period 1 ck\nset_output_delay 1 -clock ck a",
-            6,
-            "C6 2",
-        ),
-        (
-            "create_clock -period 1 ck\nset_input_delay 2 -clock ck {ck a}",
-            6,
-            "clock ck 0 0 1000000 500000; 1.0 input 2000000 2000000 2000000 2000000",
-        ),
-        (
-            "create_clock -period 1 ck\nset_input_delay 0 -clock ck -rise -max a",
-            6,
-            "clock ck 0 0 1000000 500000; 1.0 input 0 0 - -",
-        ),
-    ];
-    for (text, scale, want) in rows {
-        compare(&rt, rt.alloc(), text, scale, 6, want);
-    }
-}
+/// Units.
+const UNITS: &str = "\
+nothing | set sdc_version 2.0
+nothing | set sdc_version [x]
+C3 1 | set sdc_version
+C3 1 | set sdc_version 1 2
+C3 1 | set
+C2 1 | set x 1
+C1 1 | set [x] 1
+clock ck 0 0 7000 3500 | set_units -time ps; create_clock -period 7 ck
+clock ck 0 0 70000 35000 | set_units -time 10PS; create_clock -period 7 ck
+clock ck 0 0 700000 350000 | set_units -time \"100ps\"; create_clock -period 7 ck
+C3 1 | set_units -time 2ns
+C3 1 | set_units -time pf
+C3 1 | set_units -time {1 ns}
+3.0 load 5000 | set_units -capacitance 1fF; set_load 5 y
+3.0 load 5000000000 | set_units -capacitance 1000.0PF; set_load 5 y
+3.0 load 5000 | set_units -capacitance 0.001pf; set_load 5 y
+3.0 load 5000000; 4.0 load 3000; 4.1 load 3000 | set_load 5 y; set_units -capacitance ff; set_load 3 z
+3.0 load 3000 | set_units -capacitance ff; set_units -time ps; set_load 3 y
+nothing | set_units -resistance \"k O\" -voltage [v] -current {m A} -power -time
+C3 1 | set_units -time
+C1 1 | set_units -time [x]
+C3 1 | set_units ns
+C3 1 | set_units -mass kg
+C3 1 | set_units -time ns -time ns
+";
 
 #[test]
-fn slews_and_loads_are_from_0_on(rt: HostRuntime) {
-    let rows = [
-        (
-            "set_input_delay 2 -clock ck a\ncreate_clock -period 1 ck",
-            6,
-            "C6 1",
-        ),
-        (
-            "create_clock -name k -period 1 ck\nset_input_delay 2 -clock ck a",
-            6,
-            "C6 2",
-        ),
-        (
-            "set_input_transition 1 -min -rise b",
-            6,
-            "2.0 slew 1000000 1000000 0 0; 2.1 slew 1000000 1000000 0 0",
-        ),
-        (
-            "set_input_transition 1 -max -fall a",
-            6,
-            "1.0 slew 0 0 1000000 1000000",
-        ),
-        ("set_input_transition -0.0000001 a", 6, ""),
-        ("set_input_transition -0.000001 a", 6, "C4 1"),
-        ("set_input_transition 1 -clock ck a", 6, "C3 1"),
-        ("set_load -pin_load 0.002 y", 6, "3.0 load 2000"),
-        ("set_load -pin_load -1 y", 6, "C4 1"),
-        ("set_load -max 1 y", 6, "C3 1"),
-        (
-            "set_load 0000000000000000000000000000000001 y",
-            6,
-            "3.0 load 1000000",
-        ),
-        ("set_load 1.000000000000000000000000000000 y", 6, "C4 1"),
-    ];
-    for (text, scale, want) in rows {
-        compare(&rt, rt.alloc(), text, scale, 6, want);
-    }
+fn units_hold_for_what_follows(rt: HostRuntime) -> Result<(), Fail> {
+    compare(
+        &rt,
+        rt.alloc(),
+        3,
+        6,
+        "clock ck 0 0 700000 350000 | set_units -time 0.1nS; create_clock -period 7 ck",
+    )?;
+    compare(&rt, rt.alloc(), 6, 6, UNITS)
 }
 
+/// Clocks.
+const CLOCKS: &str = "\
+clock ck 0 0 3 1 | create_clock -period 0.000003 ck
+clock ck 0 0 1 0 | create_clock -period 0.0000005 ck
+C4 1 | create_clock -period 0.00000049 ck
+clock ck 0 0 3 2 | create_clock -period 0.000003 -waveform {0 0.0000024} ck
+C4 1 | create_clock -period 0.000003 -waveform {0 0.0000025} ck
+C4 1 | create_clock -period 0.000003 -waveform {0 0.0000004} ck
+clock ck 0 0 3 1 | create_clock -period 0.000003 -waveform {-0.0000001 0.000001} ck
+C4 1 | create_clock -period 3 -waveform {1 2} ck
+C4 1 | create_clock -period 3 -waveform {0} ck
+clock ck 0 0 3000000 1000000 | create_clock -waveform { 0⏎ 1 } ck -period 3
+clock k 0 0 1000000 500000 | create_clock -name k -period 1 ck
+C1 1 | create_clock -name \"\" -period 1 ck
+C1 1 | create_clock -name {a b} -period 1 ck
+clock -period 0 0 1000000 500000 | create_clock -name -period -period 1 ck
+C6 1 | create_clock -period 1 b
+clock b[0] 2 0 1000000 500000 | create_clock -period 1 b[0]
+C6 1 | create_clock -period 1 {ck ck}
+C6 1 | create_clock -period 1 {}
+C6 1 | create_clock -period 1 y
+C6 1 | create_clock -period 1 [get_clocks ck]
+C3 1 | create_clock ck
+C3 1 | create_clock -period ck
+C4 1 | create_clock -period -name ck
+C3 1 | create_clock -period 1 ck -add
+";
+
 #[test]
-fn of_several_refusals_the_first_counts(rt: HostRuntime) {
-    let rows = [
-        ("set_load -zz 1 \"y\"", 6, "C1 1"),
-        ("set_load [get_ports y]", 6, "C1 1"),
-        ("set_load x", 6, "C3 1"),
-        ("set_load 1 no -zz", 6, "C3 1"),
-        ("set_load x no", 6, "C4 1"),
-        (
-            "create_clock -period 1 ck\ncreate_clock -period 1 a",
-            6,
-            "C5 2",
-        ),
-        (
-            "create_clock -period 1 ck\ncreate_clock -period 1 no",
-            6,
-            "C6 2",
-        ),
-        (
-            "create_clock -period 1 ck\ncreate_clock -period 0 no",
-            6,
-            "C4 2",
-        ),
-        (
-            "create_clock -period 1 ck\ncreate_clock -period 1 ck -period x",
-            6,
-            "C3 2",
-        ),
-        (
-            "create_clock -period 1 ck\ncreate_clock -period 1 ck \"x\"",
-            6,
-            "C1 2",
-        ),
-        ("set_false_path", 6, "C2 1"),
-        (
-            "current_design [x {y}] -q\nset_driving_cell [x {y}] -q\nset_propagated_clock [x {y}] -q\n\
-                set_operating_conditions [x {y}] -q\nset_max_fanout [x {y}] -q\nset_max_transition [x {y}] -q\n\
-                set_max_capacitance [x {y}] -q\nset_min_capacitance [x {y}] -q\nset_max_area [x {y}] -q\n\
-                set_wire_load_mode [x {y}] -q\nset_wire_load_model [x {y}] -q\n\
-                set_wire_load_selection_group [x {y}] -q\nfoo",
-            6,
-            "C2 13",
-        ),
-        ("set_driving_cell -lib_cell [x", 6, "C1 1"),
-        ("set_input_delay x -clock no no", 6, "C4 1"),
-    ];
-    for (text, scale, want) in rows {
-        compare(&rt, rt.alloc(), text, scale, 6, want);
-    }
+fn a_clock_has_a_name_a_period_and_a_fall(rt: HostRuntime) -> Result<(), Fail> {
+    compare(&rt, rt.alloc(), 6, 6, CLOCKS)
+}
+
+/// Delays at ports.
+const DELAYS: &str = "\
+clock ck 0 0 1000000 500000; 1.0 input 2000000 2000000 2000000 2000000 \
+    | create_clock -period 1 ck⏎set_input_delay 2 -clock ck a
+clock ck 0 0 1000000 500000; 1.0 input 2000000 2000000 2000000 2000000 \
+    | create_clock -period 1 ck⏎set_input_delay 2 -min -clock ck a
+clock ck 0 0 1000000 500000; 1.0 input 2000000 2000000 - - \
+    | create_clock -period 1 ck⏎set_input_delay 2 a -max -rise -clock ck
+clock ck 0 0 1000000 500000; 1.0 input - - 2000000 2000000 \
+    | create_clock -period 1 ck⏎set_input_delay -min -max 2 -fall a -clock [get_clocks {ck}]
+clock ck 0 0 1000000 500000; 1.0 input 2000000 2000000 2000000 -3000000 \
+    | create_clock -period 1 ck⏎set_input_delay 2 -clock ck a -rise -fall; set_input_delay -3 -clock ck \
+    -fall -max a
+C3 2 | create_clock -period 1 ck⏎set_input_delay 2 a
+C6 2 | create_clock -period 1 ck⏎set_input_delay 2 -clock k a
+C6 2 | create_clock -period 1 ck⏎set_input_delay 2 -clock {} a
+clock ck 0 0 1000000 500000; 1.0 input 2000000 2000000 2000000 2000000 \
+    | create_clock -period 1 ck⏎set_input_delay 2 -clock {ck ck} {a a}
+C6 2 | create_clock -period 1 ck⏎set_input_delay 2 -clock {ck k} a
+C1 2 | create_clock -period 1 ck⏎set_input_delay 2 -clock \"ck\" a
+C6 2 | create_clock -period 1 ck⏎set_input_delay 2 -clock [all_inputs] a
+clock ck 0 0 1000000 500000; 1.0 input -500000 -500000 -500000 -500000 \
+    | create_clock -period 1 ck⏎set_input_delay -.5 -clock ck a
+C3 2 | create_clock -period 1 ck⏎set_input_delay 1 -clock ck a -add_delay
+C4 2 | create_clock -period 1 ck⏎set_input_delay 1. -clock ck a
+C4 2 | create_clock -period 1 ck⏎set_input_delay 1.1e6 -clock ck a
+C6 2 | create_clock -period 1 ck⏎set_input_delay 1 -clock ck y
+C3 2 | create_clock -period 1 ck⏎set_input_delay 1 -clock ck -min -min a
+clock ck 0 0 1000000 500000; 3.0 output - 1000000 - 1000000 \
+    | create_clock -period 1 ck⏎set_output_delay 1 -clock ck -max y
+clock ck 0 0 1000000 500000; 3.0 output -2000000 -2000000 1000000 - \
+    | create_clock -period 1 ck⏎set_output_delay 1 -clock ck -fall -min y; set_output_delay -2 -clock ck y \
+    -rise
+C6 2 | create_clock -period 1 ck⏎set_output_delay 1 -clock ck a
+clock ck 0 0 1000000 500000; 1.0 input 2000000 2000000 2000000 2000000 \
+    | create_clock -period 1 ck⏎set_input_delay 2 -clock ck {ck a}
+clock ck 0 0 1000000 500000; 1.0 input 0 0 - - \
+    | create_clock -period 1 ck⏎set_input_delay 0 -clock ck -rise -max a
+";
+
+#[test]
+fn delays_are_set_by_edge_and_side(rt: HostRuntime) -> Result<(), Fail> {
+    compare(&rt, rt.alloc(), 6, 6, DELAYS)
+}
+
+/// Slews and loads of ports.
+const SLEWS: &str = "\
+C6 1 | set_input_delay 2 -clock ck a⏎create_clock -period 1 ck
+C6 2 | create_clock -name k -period 1 ck⏎set_input_delay 2 -clock ck a
+2.0 slew 1000000 1000000 0 0; 2.1 slew 1000000 1000000 0 0 | set_input_transition 1 -min -rise b
+1.0 slew 0 0 1000000 1000000 | set_input_transition 1 -max -fall a
+nothing | set_input_transition -0.0000001 a
+C4 1 | set_input_transition -0.000001 a
+C3 1 | set_input_transition 1 -clock ck a
+3.0 load 2000 | set_load -pin_load 0.002 y
+C4 1 | set_load -pin_load -1 y
+C3 1 | set_load -max 1 y
+3.0 load 1000000 | set_load 0000000000000000000000000000000001 y
+C4 1 | set_load 1.000000000000000000000000000000 y
+";
+
+#[test]
+fn slews_and_loads_are_from_0_on(rt: HostRuntime) -> Result<(), Fail> {
+    compare(&rt, rt.alloc(), 6, 6, SLEWS)
+}
+
+/// Texts with several faults.
+const ORDER: &str = "\
+C1 1 | set_load -zz 1 \"y\"
+C1 1 | set_load [get_ports y]
+C3 1 | set_load x
+C3 1 | set_load 1 no -zz
+C4 1 | set_load x no
+C5 2 | create_clock -period 1 ck⏎create_clock -period 1 a
+C6 2 | create_clock -period 1 ck⏎create_clock -period 1 no
+C4 2 | create_clock -period 1 ck⏎create_clock -period 0 no
+C3 2 | create_clock -period 1 ck⏎create_clock -period 1 ck -period x
+C1 2 | create_clock -period 1 ck⏎create_clock -period 1 ck \"x\"
+C2 1 | set_false_path
+C2 13 | current_design [x {y}] -q⏎set_driving_cell [x {y}] -q⏎set_propagated_clock [x {y}] \
+    -q⏎set_operating_conditions [x {y}] -q⏎set_max_fanout [x {y}] -q⏎set_max_transition [x {y}] \
+    -q⏎set_max_capacitance [x {y}] -q⏎set_min_capacitance [x {y}] -q⏎set_max_area [x {y}] \
+    -q⏎set_wire_load_mode [x {y}] -q⏎set_wire_load_model [x {y}] -q⏎set_wire_load_selection_group [x {y}] \
+    -q⏎foo
+C1 1 | set_driving_cell -lib_cell [x
+C4 1 | set_input_delay x -clock no no
+";
+
+#[test]
+fn of_several_refusals_the_first_counts(rt: HostRuntime) -> Result<(), Fail> {
+    compare(&rt, rt.alloc(), 6, 6, ORDER)
 }
 
 /// A command with a name of so many bytes, and an option that it does not have.

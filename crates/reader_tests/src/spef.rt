@@ -1,13 +1,11 @@
 //! Parasitics: short texts and one whole example, with what they mean worked out by hand.
 
+use crate::rows::{at_bar, in_words, with_lines};
 use spef_read::{Name, Parasitics, read_spef};
-use std::alloc::Global;
+use std::alloc::{AllocError, Global};
 use std::process::Abort;
 use std::test::*;
-use xt_lex::{Code, MOST_BYTES, TextFault};
-
-/// A text and its refusal, `None` where it is accepted.
-type Judged = (&'static str, Option<(u32, Code)>);
+use xt_lex::MOST_BYTES;
 
 /// The first lines of a text, as far as a net wants them.
 const HEAD: &str = "*SPEF \"x\"\n*C_UNIT 1 PF\n*R_UNIT 1 OHM\n";
@@ -15,391 +13,355 @@ const HEAD: &str = "*SPEF \"x\"\n*C_UNIT 1 PF\n*R_UNIT 1 OHM\n";
 /// The same with the beginning of a net behind it, in line 4.
 const NET: &str = "*SPEF \"x\"\n*C_UNIT 1 PF\n*R_UNIT 1 OHM\n*D_NET a 1 ";
 
-/// What a text means; `None` for want of memory and for a text that is too long.
-fn read(alloc: Global, text: &[u8]) -> Option<Result<Parasitics, (u32, Code)>> {
-    if text.len() > MOST_BYTES {
-        return None;
+/// What becomes of a text: `read`, or its refusal.
+fn answer(alloc: Global, text: &str) -> Result<String, Fail> {
+    if MOST_BYTES < text.len() {
+        return Err(Fail::from("too long"));
     }
-    match read_spef(alloc, text) {
-        Ok(parasitics) => Some(Ok(parasitics)),
-        Err(TextFault::Refused { line, code }) => Some(Err((line, code))),
-        Err(TextFault::NoMemory) => None,
+    in_words(alloc, read_spef(alloc, text.as_bytes()))
+}
+
+/// Compares what becomes of the text of each row, behind these first lines.
+fn compare(rt: &impl Abort, alloc: Global, head: &str, rows: &str) -> Result<(), Fail> {
+    for row in rows.lines() {
+        let (want, rest) = at_bar(row)?;
+        let rest = with_lines(alloc, rest)?;
+        let rest = rest.as_str();
+        let text = format!(in alloc; "{head}{rest}")?;
+        let words = answer(alloc, text.as_str())?;
+        assert!(rt; words.as_str() == want, "{words} at {row}");
     }
+    Ok(())
 }
 
-/// The refusal of a text, `None` where it is accepted.
-fn refused(rt: &impl Abort, alloc: Global, text: &[u8]) -> Option<(u32, Code)> {
-    match read(alloc, text) {
-        Some(Ok(_)) => None,
-        Some(Err(refusal)) => Some(refusal),
-        None => panic!(rt; "out of memory"),
-    }
-}
-
-/// Compares the refusal of each text, behind these first lines.
-fn compare(rt: &impl Abort, alloc: Global, head: &str, rows: &[Judged]) {
-    for (rest, want) in rows {
-        let mut text = String::new(alloc);
-        if text.push_str(head).is_err() || text.push_str(rest).is_err() {
-            panic!(rt; "out of memory");
-        }
-        assert_eq!(rt; refused(rt, alloc, text.as_bytes()), *want, "at {rest}");
-    }
-}
-
-#[test]
-fn a_header_is_refused_at_its_token(rt: HostRuntime) {
-    let rows: [Judged; 16] = [
-        ("", Some((1, Code::S2))),
-        ("\n\n", Some((3, Code::S2))),
-        ("*SPEF\n", Some((2, Code::S2))),
-        ("\n*SPEF x", Some((2, Code::S1))),
-        ("*DESIGN \"x\"", Some((1, Code::S1))),
-        ("*SPEF \"x\"\n", Some((2, Code::S4))),
-        ("*SPEF \"x\" *DESIGN\n", Some((2, Code::S2))),
-        ("*SPEF \"x\" *DESIGN\ntop", Some((2, Code::S1))),
-        ("*SPEF \"x\" *DESIGN \"a\"\n\"b\"", Some((2, Code::S1))),
-        ("*SPEF \"x\" *DESIGN_FLOW \"a\"\n\"b\"", Some((2, Code::S4))),
-        ("*SPEF \"x\" *DESIGN_FLOW\n*DATE \"d\"", Some((2, Code::S1))),
-        ("*SPEF \"x\"\n*SPEF \"x\"", Some((2, Code::S1))),
-        ("*SPEF \"x\" *INDUC", Some((1, Code::S1))),
-        ("*SPEF \"x\"\né", Some((2, Code::S1))),
-        ("*SPEF \"é", Some((1, Code::S2))),
-        ("*SPEF \"x\" /*\né ", Some((2, Code::S2))),
-    ];
-    compare(&rt, rt.alloc(), "", &rows);
-}
+/// Beginnings of a text.
+const HEADERS: &str = "\
+S2 1 |
+S2 3 | ⏎⏎
+S2 2 | *SPEF⏎
+S1 2 | ⏎*SPEF x
+S1 1 | *DESIGN \"x\"
+S4 2 | *SPEF \"x\"⏎
+S2 2 | *SPEF \"x\" *DESIGN⏎
+S1 2 | *SPEF \"x\" *DESIGN⏎top
+S1 2 | *SPEF \"x\" *DESIGN \"a\"⏎\"b\"
+S4 2 | *SPEF \"x\" *DESIGN_FLOW \"a\"⏎\"b\"
+S1 2 | *SPEF \"x\" *DESIGN_FLOW⏎*DATE \"d\"
+S1 2 | *SPEF \"x\"⏎*SPEF \"x\"
+S1 1 | *SPEF \"x\" *INDUC
+S1 2 | *SPEF \"x\"⏎é
+S2 1 | *SPEF \"é
+S2 2 | *SPEF \"x\" /*⏎é\u{20}
+";
 
 #[test]
-fn units_have_a_power_of_ten_and_a_word(rt: HostRuntime) {
-    let rows: [Judged; 14] = [
-        ("*T_UNIT 1\nUS", Some((2, Code::S4))),
-        ("*T_UNIT 2\nNS", Some((1, Code::S1))),
-        ("*T_UNIT\nNS 1", Some((2, Code::S1))),
-        ("*C_UNIT 1\n", Some((2, Code::S2))),
-        ("*C_UNIT 10000 PF", Some((1, Code::S1))),
-        (
-            "*C_UNIT 1.0 pf *R_UNIT 1e-1 kOhm *L_UNIT 1 any *T_UNIT 1000.0 Ps",
-            None,
-        ),
-        ("*C_UNIT 1 PF\n", Some((2, Code::S4))),
-        ("*R_UNIT 1 OHM *C_UNIT 1\nOHM", Some((2, Code::S4))),
-        ("*R_UNIT 1 OHM\n*D_NET a", Some((2, Code::S4))),
-        (
-            "*R_UNIT 1 OHM *NAME_MAP *1 a\n*PORTS\n*D_NET a",
-            Some((3, Code::S4)),
-        ),
-        ("*R_UNIT 1 OHM\n*R_NET a", Some((2, Code::S7))),
-        (
-            "*C_UNIT 1 FF *R_UNIT 1 OHM *L_UNIT\nx HENRY",
-            Some((2, Code::S1)),
-        ),
-        ("*C_UNIT \"1\" PF", Some((1, Code::S1))),
-        ("*C_UNIT 1 \"PF\"", Some((1, Code::S1))),
-    ];
-    compare(&rt, rt.alloc(), "*SPEF \"x\" ", &rows);
+fn a_header_is_refused_at_its_token(rt: HostRuntime) -> Result<(), Fail> {
+    compare(&rt, rt.alloc(), "", HEADERS)
 }
+
+/// Units, behind the first word.
+const UNITS: &str = "\
+S4 2 | *T_UNIT 1⏎US
+S1 1 | *T_UNIT 2⏎NS
+S1 2 | *T_UNIT⏎NS 1
+S2 2 | *C_UNIT 1⏎
+S1 1 | *C_UNIT 10000 PF
+read | *C_UNIT 1.0 pf *R_UNIT 1e-1 kOhm *L_UNIT 1 any *T_UNIT 1000.0 Ps
+S4 2 | *C_UNIT 1 PF⏎
+S4 2 | *R_UNIT 1 OHM *C_UNIT 1⏎OHM
+S4 2 | *R_UNIT 1 OHM⏎*D_NET a
+S4 3 | *R_UNIT 1 OHM *NAME_MAP *1 a⏎*PORTS⏎*D_NET a
+S7 2 | *R_UNIT 1 OHM⏎*R_NET a
+S1 2 | *C_UNIT 1 FF *R_UNIT 1 OHM *L_UNIT⏎x HENRY
+S1 1 | *C_UNIT \"1\" PF
+S1 1 | *C_UNIT 1 \"PF\"
+";
 
 #[test]
-fn marks_are_single_bytes_and_brackets_are_pairs(rt: HostRuntime) {
-    let rows: [Judged; 16] = [
-        ("*DIVIDER .", None),
-        ("*DIVIDER\n::", Some((5, Code::S1))),
-        ("*DIVIDER\n", Some((5, Code::S2))),
-        ("*DELIMITER \".\"", Some((4, Code::S1))),
-        ("*DELIMITER 7 *DELIMITER *", None),
-        (
-            "*BUS_DELIMITER <> *BUS_DELIMITER ( ) *BUS_DELIMITER []",
-            None,
-        ),
-        ("*BUS_DELIMITER\n{ }", Some((5, Code::S1))),
-        ("*BUS_DELIMITER\n{}", Some((5, Code::S1))),
-        ("*BUS_DELIMITER [\n>", Some((5, Code::S1))),
-        ("*BUS_DELIMITER\n[>", Some((5, Code::S1))),
-        ("*BUS_DELIMITER [\n", Some((5, Code::S2))),
-        ("*BUS_DELIMITER [\n*DATE \"d\"", Some((5, Code::S1))),
-        ("*BUS_DELIMITER\n] [", Some((5, Code::S1))),
-        ("*C_UNIT 1 FF *DESIGN \"a\" *DESIGN \"b\"", None),
-        ("*NAME_MAP\n*DESIGN \"x\"", Some((5, Code::S1))),
-        ("*END", Some((4, Code::S1))),
-    ];
-    compare(&rt, rt.alloc(), HEAD, &rows);
+fn units_have_a_power_of_ten_and_a_word(rt: HostRuntime) -> Result<(), Fail> {
+    compare(&rt, rt.alloc(), "*SPEF \"x\" ", UNITS)
 }
+
+/// Marks and brackets, behind the first lines.
+const MARKS: &str = "\
+read | *DIVIDER .
+S1 5 | *DIVIDER⏎::
+S2 5 | *DIVIDER⏎
+S1 4 | *DELIMITER \".\"
+read | *DELIMITER 7 *DELIMITER *
+read | *BUS_DELIMITER <> *BUS_DELIMITER ( ) *BUS_DELIMITER []
+S1 5 | *BUS_DELIMITER⏎{ }
+S1 5 | *BUS_DELIMITER⏎{}
+S1 5 | *BUS_DELIMITER [⏎>
+S1 5 | *BUS_DELIMITER⏎[>
+S2 5 | *BUS_DELIMITER [⏎
+S1 5 | *BUS_DELIMITER [⏎*DATE \"d\"
+S1 5 | *BUS_DELIMITER⏎] [
+read | *C_UNIT 1 FF *DESIGN \"a\" *DESIGN \"b\"
+S1 5 | *NAME_MAP⏎*DESIGN \"x\"
+S1 4 | *END
+";
 
 #[test]
-fn pairs_of_the_name_map_are_a_number_and_a_name(rt: HostRuntime) {
-    let rows: [Judged; 16] = [
-        ("*NAME_MAP *1\n", Some((5, Code::S2))),
-        ("*NAME_MAP *1 a\n*1 b", Some((5, Code::S5))),
-        ("*NAME_MAP *1 a\n*001 b", Some((5, Code::S5))),
-        ("*NAME_MAP *0 a *1 b\n*00 c", Some((5, Code::S5))),
-        ("*NAME_MAP *1 a\n*2 *1", Some((5, Code::S1))),
-        ("*NAME_MAP *1 \\*1 *10 b *01x", Some((4, Code::S1))),
-        ("*NAME_MAP *a b", Some((4, Code::S1))),
-        ("*NAME_MAP 1 b", Some((4, Code::S1))),
-        ("*NAME_MAP *1:2 b", Some((4, Code::S1))),
-        ("*NAME_MAP *1 \\\\", Some((4, Code::S1))),
-        ("*NAME_MAP *1 \"a\"", Some((4, Code::S1))),
-        ("*NAME_MAP *1 a *DEFINE x", Some((4, Code::S7))),
-        ("*NAME_MAP *1 *DEFINE", Some((4, Code::S1))),
-        ("*NAME_MAP *1 a *INDUC", Some((4, Code::S1))),
-        (
-            "*NAME_MAP *1 a *PORTS x \"y\" *1 *END *NAME_MAP *2 b *GROUND_NETS *INDUC *NAME_MAP",
-            None,
-        ),
-        ("*POWER_NETS x\n*D_PNET", Some((5, Code::S7))),
-    ];
-    compare(&rt, rt.alloc(), HEAD, &rows);
+fn marks_are_single_bytes_and_brackets_are_pairs(rt: HostRuntime) -> Result<(), Fail> {
+    compare(&rt, rt.alloc(), HEAD, MARKS)
 }
+
+/// Maps of names, behind the first lines.
+const PAIRS: &str = "\
+S2 5 | *NAME_MAP *1⏎
+S5 5 | *NAME_MAP *1 a⏎*1 b
+S5 5 | *NAME_MAP *1 a⏎*001 b
+S5 5 | *NAME_MAP *0 a *1 b⏎*00 c
+S1 5 | *NAME_MAP *1 a⏎*2 *1
+S1 4 | *NAME_MAP *1 \\*1 *10 b *01x
+S1 4 | *NAME_MAP *a b
+S1 4 | *NAME_MAP 1 b
+S1 4 | *NAME_MAP *1:2 b
+S1 4 | *NAME_MAP *1 \\\\
+S1 4 | *NAME_MAP *1 \"a\"
+S7 4 | *NAME_MAP *1 a *DEFINE x
+S1 4 | *NAME_MAP *1 *DEFINE
+S1 4 | *NAME_MAP *1 a *INDUC
+read | *NAME_MAP *1 a *PORTS x \"y\" *1 *END *NAME_MAP *2 b *GROUND_NETS *INDUC *NAME_MAP
+S7 5 | *POWER_NETS x⏎*D_PNET
+";
 
 #[test]
-fn a_net_has_a_name_and_a_total(rt: HostRuntime) {
-    let rows: [Judged; 16] = [
-        ("*D_NET\n", Some((5, Code::S2))),
-        ("*D_NET a\n", Some((5, Code::S2))),
-        ("*D_NET a 1\n", Some((5, Code::S2))),
-        (
-            "*D_NET a 1 *END *D_NET 7 1 *V 3 *END *D_NET b 1 *V \"x\" *CONN *CAP *RES *END",
-            None,
-        ),
-        ("*D_NET a 1 *V\n", Some((5, Code::S2))),
-        ("*D_NET \"a\" 1", Some((4, Code::S1))),
-        ("*D_NET\n*1 1 *END", Some((5, Code::S5))),
-        ("*D_NET\n*x 1", Some((5, Code::S1))),
-        ("*D_NET\n*1x:y 1", Some((5, Code::S1))),
-        ("*D_NET\n*DEFINE 1", Some((5, Code::S1))),
-        ("*D_NET a 1 *END\n*D_NET\na", Some((6, Code::S6))),
-        (
-            "*NAME_MAP *1 a *D_NET a 1 *END\n*D_NET\n*01 x",
-            Some((6, Code::S6)),
-        ),
-        ("*D_NET a/b 1 *END\n*D_NET a\\/b 1", Some((5, Code::S6))),
-        ("*D_NET a 1 *END a", Some((4, Code::S1))),
-        ("*D_NET a 1 *END *INDUC", Some((4, Code::S1))),
-        ("*D_NET a 1 *DEFINE", Some((4, Code::S7))),
-    ];
-    compare(&rt, rt.alloc(), HEAD, &rows);
+fn pairs_of_the_name_map_are_a_number_and_a_name(rt: HostRuntime) -> Result<(), Fail> {
+    compare(&rt, rt.alloc(), HEAD, PAIRS)
 }
+
+/// Nets, behind the first lines.
+const NETS: &str = "\
+S2 5 | *D_NET⏎
+S2 5 | *D_NET a⏎
+S2 5 | *D_NET a 1⏎
+read | *D_NET a 1 *END *D_NET 7 1 *V 3 *END *D_NET b 1 *V \"x\" *CONN *CAP *RES *END
+S2 5 | *D_NET a 1 *V⏎
+S1 4 | *D_NET \"a\" 1
+S5 5 | *D_NET⏎*1 1 *END
+S1 5 | *D_NET⏎*x 1
+S1 5 | *D_NET⏎*1x:y 1
+S1 5 | *D_NET⏎*DEFINE 1
+S6 6 | *D_NET a 1 *END⏎*D_NET⏎a
+S6 6 | *NAME_MAP *1 a *D_NET a 1 *END⏎*D_NET⏎*01 x
+S6 5 | *D_NET a/b 1 *END⏎*D_NET a\\/b 1
+S1 4 | *D_NET a 1 *END a
+S1 4 | *D_NET a 1 *END *INDUC
+S7 4 | *D_NET a 1 *DEFINE
+";
 
 #[test]
-fn values_are_numbers_from_zero_on_or_three_of_them(rt: HostRuntime) {
-    let rows: [Judged; 16] = [
-        ("*D_NET a\nx", Some((5, Code::S1))),
-        ("*D_NET a\n*1", Some((5, Code::S1))),
-        ("*D_NET a\n-1", Some((5, Code::S3))),
-        ("*D_NET a -0 *END", None),
-        ("*D_NET a -4e-7 *END", None),
-        ("*D_NET a -5e-7", Some((4, Code::S3))),
-        ("*D_NET a 1:2", Some((4, Code::S1))),
-        ("*D_NET a 1:2:3:4", Some((4, Code::S1))),
-        ("*D_NET a x:2:3", Some((4, Code::S1))),
-        ("*D_NET a 1:2:", Some((4, Code::S1))),
-        ("*D_NET a -9:1:1e99 *END", None),
-        ("*D_NET a 1:-2:3", Some((4, Code::S3))),
-        ("*D_NET a 1:1e99:3", Some((4, Code::S3))),
-        ("*D_NET a 1099511.627776 *END", None),
-        ("*D_NET a 1099511.627777", Some((4, Code::S3))),
-        (
-            "*D_NET a 0.1111111111111111111111111111111",
-            Some((4, Code::S3)),
-        ),
-    ];
-    compare(&rt, rt.alloc(), HEAD, &rows);
+fn a_net_has_a_name_and_a_total(rt: HostRuntime) -> Result<(), Fail> {
+    compare(&rt, rt.alloc(), HEAD, NETS)
 }
+
+/// Totals, behind the first lines.
+const VALUES: &str = "\
+S1 5 | *D_NET a⏎x
+S1 5 | *D_NET a⏎*1
+S3 5 | *D_NET a⏎-1
+read | *D_NET a -0 *END
+read | *D_NET a -4e-7 *END
+S3 4 | *D_NET a -5e-7
+S1 4 | *D_NET a 1:2
+S1 4 | *D_NET a 1:2:3:4
+S1 4 | *D_NET a x:2:3
+S1 4 | *D_NET a 1:2:
+read | *D_NET a -9:1:1e99 *END
+S3 4 | *D_NET a 1:-2:3
+S3 4 | *D_NET a 1:1e99:3
+read | *D_NET a 1099511.627776 *END
+S3 4 | *D_NET a 1099511.627777
+S3 4 | *D_NET a 0.1111111111111111111111111111111
+";
 
 #[test]
-fn lists_of_a_net_come_in_order(rt: HostRuntime) {
-    let rows: [Judged; 15] = [
-        ("*CONN\n*CONN", Some((5, Code::S1))),
-        ("*CONN *I *CONN \"x\" *V *SPEF *END", None),
-        ("*CONN *P x\n*NAME_MAP", Some((5, Code::S1))),
-        ("*CONN *N x\n*D_NET", Some((5, Code::S1))),
-        ("*CONN *N x\n*R_NET", Some((5, Code::S7))),
-        ("*CONN *N x\n*INDUC", Some((5, Code::S7))),
-        ("*CONN *N\n", Some((5, Code::S2))),
-        ("*CONN x", Some((4, Code::S1))),
-        ("*CAP *CONN", Some((4, Code::S1))),
-        ("*CAP *CAP", Some((4, Code::S1))),
-        ("*RES *CAP", Some((4, Code::S1))),
-        ("*RES *INDUC", Some((4, Code::S7))),
-        ("*INDUC", Some((4, Code::S7))),
-        ("*PDEFINE", Some((4, Code::S7))),
-        ("*RES 1 b c 5 *END *D_NET b 1", Some((4, Code::S2))),
-    ];
-    compare(&rt, rt.alloc(), NET, &rows);
+fn values_are_numbers_from_zero_on_or_three_of_them(rt: HostRuntime) -> Result<(), Fail> {
+    compare(&rt, rt.alloc(), HEAD, VALUES)
 }
+
+/// Lists of a net, behind its beginning.
+const LISTS: &str = "\
+S1 5 | *CONN⏎*CONN
+read | *CONN *I *CONN \"x\" *V *SPEF *END
+S1 5 | *CONN *P x⏎*NAME_MAP
+S1 5 | *CONN *N x⏎*D_NET
+S7 5 | *CONN *N x⏎*R_NET
+S7 5 | *CONN *N x⏎*INDUC
+S2 5 | *CONN *N⏎
+S1 4 | *CONN x
+S1 4 | *CAP *CONN
+S1 4 | *CAP *CAP
+S1 4 | *RES *CAP
+S7 4 | *RES *INDUC
+S7 4 | *INDUC
+S7 4 | *PDEFINE
+S2 4 | *RES 1 b c 5 *END *D_NET b 1
+";
 
 #[test]
-fn capacitors_and_resistors_are_digits_nodes_and_a_value(rt: HostRuntime) {
-    let rows: [Judged; 17] = [
-        ("*CAP x", Some((4, Code::S1))),
-        ("*CAP +1 b 1", Some((4, Code::S1))),
-        ("*CAP 1.0 b 1", Some((4, Code::S1))),
-        ("*CAP 1 b 2 *END", None),
-        ("*CAP 1 2 b 2:3:4 2 b 0 *RES *END", None),
-        ("*CAP 1 b\n*END", Some((5, Code::S1))),
-        ("*CAP 1 b c\n*END", Some((5, Code::S1))),
-        ("*CAP 1\n*INDUC", Some((5, Code::S1))),
-        ("*CAP 1 *3:a\nx", Some((4, Code::S5))),
-        ("*CAP 1 b\n-1", Some((5, Code::S3))),
-        ("*CAP 1 b c\nd", Some((5, Code::S1))),
-        ("*CAP 1 b\n\"c\" 1", Some((5, Code::S1))),
-        ("*RES 1 b 2 3 *END", None),
-        ("*RES 1 b 2\n", Some((5, Code::S2))),
-        ("*RES 1 b c\nd", Some((5, Code::S1))),
-        ("*RES 1 b c\n-1", Some((5, Code::S3))),
-        ("*RES 1 b c 1099511627.777", Some((4, Code::S3))),
-    ];
-    compare(&rt, rt.alloc(), NET, &rows);
+fn lists_of_a_net_come_in_order(rt: HostRuntime) -> Result<(), Fail> {
+    compare(&rt, rt.alloc(), NET, LISTS)
 }
 
-/// An example, line by line.
-fn example() -> [&'static str; 45] {
-    [
-        "*SPEF \"IEEE 1481-1998\"",
-        "*DESIGN \"top\"",
-        "*DATE \"today\"",
-        "*VENDOR \"none\"",
-        "*PROGRAM \"hand\"",
-        "*VERSION \"1\"",
-        "*DESIGN_FLOW \"NETLIST_TYPE_VERILOG\"",
-        "*DIVIDER /",
-        "*DELIMITER :",
-        "*BUS_DELIMITER [ ]",
-        "*T_UNIT 1 NS",
-        "*C_UNIT 1 PF",
-        "*R_UNIT 1 OHM",
-        "*L_UNIT 1 HENRY",
-        "*NAME_MAP",
-        "*1 n1",
-        "*2 bus\\[0\\]",
-        "*3 g1",
-        "*4 g2",
-        "*5 f1",
-        "*6 f2",
-        "*PORTS",
-        "ck I",
-        "d I",
-        "y O",
-        "*D_NET *1 0.003",
-        "*CONN",
-        "*I *3:Y O *D INV",
-        "*I *6:D I *L 0.001",
-        "*N *1:1 *C 0 0",
-        "*CAP",
-        "1 *1:1 0.0019:0.002:0.0021",
-        "2 *1:1 *2:1 0.001",
-        "*RES",
-        "1 *3:Y *1:1 50",
-        "2 *1:1 *6:D 50",
-        "*END",
-        "*D_NET *2 0.003",
-        "*CAP",
-        "1 *2:1 0.002",
-        "2 *2:1 *1:1 0.001",
-        "*RES",
-        "1 *4:Y *2:1 100",
-        "2 *2:1 *5:D 100",
-        "*END",
-    ]
+/// Capacitors and resistors, behind the beginning of a net.
+const ENTRIES: &str = "\
+S1 4 | *CAP x
+S1 4 | *CAP +1 b 1
+S1 4 | *CAP 1.0 b 1
+read | *CAP 1 b 2 *END
+read | *CAP 1 2 b 2:3:4 2 b 0 *RES *END
+S1 5 | *CAP 1 b⏎*END
+S1 5 | *CAP 1 b c⏎*END
+S1 5 | *CAP 1⏎*INDUC
+S5 4 | *CAP 1 *3:a⏎x
+S3 5 | *CAP 1 b⏎-1
+S1 5 | *CAP 1 b c⏎d
+S1 5 | *CAP 1 b⏎\"c\" 1
+read | *RES 1 b 2 3 *END
+S2 5 | *RES 1 b 2⏎
+S1 5 | *RES 1 b c⏎d
+S3 5 | *RES 1 b c⏎-1
+S3 4 | *RES 1 b c 1099511627.777
+";
+
+#[test]
+fn capacitors_and_resistors_are_digits_nodes_and_a_value(rt: HostRuntime) -> Result<(), Fail> {
+    compare(&rt, rt.alloc(), NET, ENTRIES)
 }
+
+/// An example.
+const EXAMPLE: &str = "\
+*SPEF \"IEEE 1481-1998\"
+*DESIGN \"top\"
+*DATE \"today\"
+*VENDOR \"none\"
+*PROGRAM \"hand\"
+*VERSION \"1\"
+*DESIGN_FLOW \"NETLIST_TYPE_VERILOG\"
+*DIVIDER /
+*DELIMITER :
+*BUS_DELIMITER [ ]
+*T_UNIT 1 NS
+*C_UNIT 1 PF
+*R_UNIT 1 OHM
+*L_UNIT 1 HENRY
+*NAME_MAP
+*1 n1
+*2 bus\\[0\\]
+*3 g1
+*4 g2
+*5 f1
+*6 f2
+*PORTS
+ck I
+d I
+y O
+*D_NET *1 0.003
+*CONN
+*I *3:Y O *D INV
+*I *6:D I *L 0.001
+*N *1:1 *C 0 0
+*CAP
+1 *1:1 0.0019:0.002:0.0021
+2 *1:1 *2:1 0.001
+*RES
+1 *3:Y *1:1 50
+2 *1:1 *6:D 50
+*END
+*D_NET *2 0.003
+*CAP
+1 *2:1 0.002
+2 *2:1 *1:1 0.001
+*RES
+1 *4:Y *2:1 100
+2 *2:1 *5:D 100
+*END
+";
 
 /// Lines that stand in place of those of the example, each with its number from 1 on.
 type Changes<'a> = &'a [(usize, &'static str)];
 
 /// The first lines of the example, some of them changed.
-fn changed(alloc: Global, cut: usize, changes: Changes<'_>) -> Option<String> {
+fn changed(alloc: Global, count: usize, changes: Changes<'_>) -> Result<String, AllocError> {
     let mut text = String::new(alloc);
-    let mut at: usize = 0;
-    for own in example() {
-        if at < cut {
-            let mut shown = own;
-            for (number, line) in changes {
-                if *number == at + 1 {
-                    shown = *line;
-                }
+    for (at, own) in EXAMPLE.lines().take(count).enumerate() {
+        let mut shown = own;
+        for (number, line) in changes {
+            if *number == at + 1 {
+                shown = *line;
             }
-            text.push_str(shown).ok()?;
-            text.push('\n').ok()?;
         }
-        at = at.saturating_add(1);
+        text.push_str(shown)?;
+        text.push('\n')?;
     }
-    Some(text)
-}
-
-/// The refusal of the example, cut and changed.
-fn refused_example(
-    rt: &impl Abort,
-    alloc: Global,
-    cut: usize,
-    changes: Changes<'_>,
-) -> Option<(u32, Code)> {
-    match changed(alloc, cut, changes) {
-        Some(text) => refused(rt, alloc, text.as_bytes()),
-        None => panic!(rt; "out of memory"),
-    }
+    Ok(text)
 }
 
 #[test]
-fn the_example_is_refused_where_it_is_cut(rt: HostRuntime) {
+fn the_example_is_refused_where_it_is_cut(rt: HostRuntime) -> Result<(), Fail> {
     let alloc = rt.alloc();
-    for cut in 0..46u32 {
-        let line = cut + 1;
-        let want = if cut == 0 {
-            Some((line, Code::S2))
-        } else if cut <= 12 {
-            Some((line, Code::S4))
-        } else if cut <= 25 || cut == 37 || cut == 45 {
-            None
+    for count in 0..46u32 {
+        let text = changed(alloc, count as usize, &[])?;
+        let words = answer(alloc, text.as_str())?;
+        let line = count + 1;
+        let want = if count == 0 {
+            format!(in alloc; "S2 {line}")?
+        } else if count <= 12 {
+            format!(in alloc; "S4 {line}")?
+        } else if count <= 25 || count == 37 || count == 45 {
+            format!(in alloc; "read")?
         } else {
-            Some((line, Code::S2))
+            format!(in alloc; "S2 {line}")?
         };
-        assert_eq!(rt;
-            refused_example(&rt, alloc, cut as usize, &[]),
-            want,
-            "{cut}"
-        );
+        assert_eq!(rt; words.as_str(), want.as_str(), "{count} lines");
     }
+    Ok(())
 }
 
 #[test]
-fn the_example_is_refused_at_a_changed_line(rt: HostRuntime) {
+fn the_example_is_refused_at_a_changed_line(rt: HostRuntime) -> Result<(), Fail> {
     let alloc = rt.alloc();
-    let rows: [(usize, &str, Code); 5] = [
-        (40, "1 *2:1 -0.002", Code::S3),
-        (38, "*D_NET *1 0.003", Code::S6),
-        (38, "*D_NET *9 0.003", Code::S5),
-        (17, "*01 x", Code::S5),
-        (36, "2 *1:1 *6:D *INDUC", Code::S1),
-    ];
-    for (number, line, code) in rows {
-        assert_eq!(rt;
-            refused_example(&rt, alloc, 45, &[(number, line)]),
-            Some((number as u32, code))
-        );
+    for (number, line, want) in [
+        (40, "1 *2:1 -0.002", "S3 40"),
+        (38, "*D_NET *1 0.003", "S6 38"),
+        (38, "*D_NET *9 0.003", "S5 38"),
+        (17, "*01 x", "S5 17"),
+        (36, "2 *1:1 *6:D *INDUC", "S1 36"),
+    ] {
+        let text = changed(alloc, 45, &[(number, line)])?;
+        let words = answer(alloc, text.as_str())?;
+        assert_eq!(rt; words.as_str(), want, "{line}");
     }
+    Ok(())
 }
 
 /// Appends a name.
-fn push_name(parasitics: &Parasitics, name: Name, out: &mut Vec<u8>) -> Option<()> {
-    out.extend_from_slice(parasitics.bytes(name)?).ok()?;
-    out.push(b' ').ok()
+fn push_name(parasitics: &Parasitics, name: Name, out: &mut Vec<u8>) -> Result<(), Fail> {
+    let Some(bytes) = parasitics.bytes(name) else {
+        return Err(Fail::from("no name"));
+    };
+    out.extend_from_slice(bytes)?;
+    out.push(b' ')?;
+    Ok(())
 }
 
 /// Appends a value and the end of a line.
-fn push_value(alloc: Global, value: i64, out: &mut Vec<u8>) -> Option<()> {
-    let text = format!(in alloc; "{value}\n").ok()?;
-    out.extend_from_slice(text.as_bytes()).ok()
+fn push_value(alloc: Global, value: i64, out: &mut Vec<u8>) -> Result<(), AllocError> {
+    let text = format!(in alloc; "{value}\n")?;
+    out.extend_from_slice(text.as_bytes())
 }
 
 /// The nets with their totals, each with its capacitors and its resistors behind it, a line each.
-fn shown(alloc: Global, parasitics: &Parasitics) -> Option<Vec<u8>> {
+fn shown(alloc: Global, parasitics: &Parasitics) -> Result<Vec<u8>, Fail> {
     let mut out = Vec::new(alloc);
     for net in parasitics.nets.as_slice() {
         push_name(parasitics, net.name, &mut out)?;
         push_value(alloc, net.total, &mut out)?;
         for cap in net.caps.as_slice() {
-            out.extend_from_slice(b"C ").ok()?;
+            out.extend_from_slice(b"C ")?;
             push_name(parasitics, cap.a, &mut out)?;
             if let Some(b) = cap.b {
                 push_name(parasitics, b, &mut out)?;
@@ -407,108 +369,116 @@ fn shown(alloc: Global, parasitics: &Parasitics) -> Option<Vec<u8>> {
             push_value(alloc, cap.value, &mut out)?;
         }
         for resistor in net.resistors.as_slice() {
-            out.extend_from_slice(b"R ").ok()?;
+            out.extend_from_slice(b"R ")?;
             push_name(parasitics, resistor.a, &mut out)?;
             push_name(parasitics, resistor.b, &mut out)?;
             push_value(alloc, resistor.value, &mut out)?;
         }
     }
-    Some(out)
+    Ok(out)
 }
 
 /// Compares what a text means with a list of lines.
-fn compare_value(rt: &impl Abort, alloc: Global, text: &[u8], want: &str) {
-    let Some(Ok(parasitics)) = read(alloc, text) else {
+fn compare_value(rt: &impl Abort, alloc: Global, text: &str, want: &str) -> Result<(), Fail> {
+    if MOST_BYTES < text.len() {
+        return Err(Fail::from("too long"));
+    }
+    let Ok(parasitics) = read_spef(alloc, text.as_bytes()) else {
         panic!(rt; "refused");
     };
-    let Some(shown) = shown(alloc, &parasitics) else {
-        panic!(rt; "out of memory");
-    };
+    let shown = shown(alloc, &parasitics)?;
     assert!(rt; shown.as_slice() == want.as_bytes());
+    Ok(())
 }
 
 /// What the example means.
-const EXAMPLE: &str =
-    "n1 3000\nC n1:1 2000\nC n1:1 bus[0]:1 1000\nR g1:Y n1:1 50000\nR n1:1 f2:D 50000\n\
-     bus[0] 3000\nC bus[0]:1 2000\nC bus[0]:1 n1:1 1000\nR g2:Y bus[0]:1 100000\nR bus[0]:1 f1:D 100000\n";
+const MEANT: &str = "\
+n1 3000
+C n1:1 2000
+C n1:1 bus[0]:1 1000
+R g1:Y n1:1 50000
+R n1:1 f2:D 50000
+bus[0] 3000
+C bus[0]:1 2000
+C bus[0]:1 n1:1 1000
+R g2:Y bus[0]:1 100000
+R bus[0]:1 f1:D 100000
+";
 
-/// Compares what the example means with some lines changed.
-fn compare_example(rt: &impl Abort, alloc: Global, changes: Changes<'_>) {
-    match changed(alloc, 45, changes) {
-        Some(text) => compare_value(rt, alloc, text.as_bytes(), EXAMPLE),
-        None => panic!(rt; "out of memory"),
+#[test]
+fn the_example_means_two_nets(rt: HostRuntime) -> Result<(), Fail> {
+    let alloc = rt.alloc();
+    let changes: [Changes<'static>; 6] = [
+        &[],
+        &[(16, "*0001 n1")],
+        &[(10, "*BUS_DELIMITER ( )")],
+        &[(10, "*BUS_DELIMITER < >"), (17, "*2 bus<0>")],
+        &[(45, "*END *PORTS *END")],
+        &[(8, "*DIVIDER |")],
+    ];
+    for changes in changes {
+        let text = changed(alloc, 45, changes)?;
+        compare_value(&rt, alloc, text.as_str(), MEANT)?;
     }
+    Ok(())
 }
 
-#[test]
-fn the_example_means_two_nets(rt: HostRuntime) {
-    let alloc = rt.alloc();
-    compare_example(&rt, alloc, &[]);
-    compare_example(&rt, alloc, &[(16, "*0001 n1")]);
-    compare_example(&rt, alloc, &[(10, "*BUS_DELIMITER ( )")]);
-    compare_example(&rt, alloc, &[(10, "*BUS_DELIMITER < >"), (17, "*2 bus<0>")]);
-    compare_example(&rt, alloc, &[(45, "*END *PORTS *END")]);
-    compare_example(&rt, alloc, &[(8, "*DIVIDER |")]);
-}
+/// Names with marks of their own, and values in other units.
+const MARKED: &str = "\
+*SPEF \"x\" *DIVIDER . *DELIMITER | *BUS_DELIMITER < > *C_UNIT 10 FF *R_UNIT 0.1 KOHM
+*NAME_MAP *1 a.b\\.c<1>\\<2\\> *D_NET *1 1.5 *CAP 1 *01|p.q 0.0005 2 *1|p.q *1 9:2:9
+*RES 1 x.y|z *001|a\\|b[0] 3 *END";
+
+/// What it means.
+const MARKED_MEANT: &str = "\
+a/b.c[1]<2> 15000
+C a/b.c[1]<2>|p/q 5
+C a/b.c[1]<2>|p/q a/b.c[1]<2> 20000
+R x/y|z a/b.c[1]<2>|a|b[0] 300000
+";
+
+/// A delimiter that is a digit, and values that are rounded.
+const ROUNDED: &str = "\
+*SPEF \"x\" *DELIMITER : *DELIMITER 7 *C_UNIT 1 PF *C_UNIT 1 FF *R_UNIT 1 OHM
+*NAME_MAP *2 n *D_NET *27x 1 *END *D_NET *2 0.0004:0.0005:0 *END *D_NET \\*2 0.00049 *END";
 
 #[test]
-fn names_are_whole_and_values_are_in_base_units(rt: HostRuntime) {
+fn names_are_whole_and_values_are_in_base_units(rt: HostRuntime) -> Result<(), Fail> {
     let alloc = rt.alloc();
-    compare_value(
-        &rt,
-        alloc,
-        b"*SPEF \"x\" *DIVIDER . *DELIMITER | *BUS_DELIMITER < > *C_UNIT 10 FF *R_UNIT 0.1 KOHM\n\
-          *NAME_MAP *1 a.b\\.c<1>\\<2\\> *D_NET *1 1.5 *CAP 1 *01|p.q 0.0005 2 *1|p.q *1 9:2:9\n\
-          *RES 1 x.y|z *001|a\\|b[0] 3 *END",
-        "a/b.c[1]<2> 15000\nC a/b.c[1]<2>|p/q 5\nC a/b.c[1]<2>|p/q a/b.c[1]<2> 20000\n\
-         R x/y|z a/b.c[1]<2>|a|b[0] 300000\n",
-    );
-    compare_value(
-        &rt,
-        alloc,
-        b"*SPEF \"x\" *DELIMITER : *DELIMITER 7 *C_UNIT 1 PF *C_UNIT 1 FF *R_UNIT 1 OHM\n\
-          *NAME_MAP *2 n *D_NET *27x 1 *END *D_NET *2 0.0004:0.0005:0 *END *D_NET \\*2 0.00049 *END",
-        "n7x 1000\nn 1\n*2 0\n",
-    );
+    compare_value(&rt, alloc, MARKED, MARKED_MEANT)?;
+    compare_value(&rt, alloc, ROUNDED, "n7x 1000\nn 1\n*2 0\n")
 }
 
 /// A net's section with a name of so many bytes, each behind a backslash.
-fn with_long_name(alloc: Global, size: usize) -> Option<String> {
-    let mut text = String::new(alloc);
-    text.push_str(HEAD).ok()?;
-    text.push_str("*D_NET ").ok()?;
+fn with_long_name(alloc: Global, size: usize) -> Result<String, AllocError> {
+    let mut text = String::from_str(alloc, HEAD)?;
+    text.push_str("*D_NET ")?;
     for _ in 0..size {
-        text.push_str("\\a").ok()?;
+        text.push_str("\\a")?;
     }
-    text.push_str(" 1 *END").ok()?;
-    Some(text)
+    text.push_str(" 1 *END")?;
+    Ok(text)
 }
 
 /// A name map whose one number has so many zeros in front, and a net with the name of this number.
-fn with_long_number(alloc: Global, zeros: usize) -> Option<String> {
-    let mut text = String::new(alloc);
-    text.push_str(HEAD).ok()?;
-    text.push_str("*NAME_MAP *").ok()?;
+fn with_long_number(alloc: Global, zeros: usize) -> Result<String, AllocError> {
+    let mut text = String::from_str(alloc, HEAD)?;
+    text.push_str("*NAME_MAP *")?;
     for _ in 0..zeros {
-        text.push('0').ok()?;
+        text.push('0')?;
     }
-    text.push_str("31 n *D_NET *31 1 *END").ok()?;
-    Some(text)
+    text.push_str("31 n *D_NET *31 1 *END")?;
+    Ok(text)
 }
 
 #[test]
-fn names_and_numbers_may_be_long(rt: HostRuntime) {
+fn names_and_numbers_may_be_long(rt: HostRuntime) -> Result<(), Fail> {
     let alloc = rt.alloc();
-    match with_long_name(alloc, 2049) {
-        Some(text) => assert_eq!(rt; refused(&rt, alloc, text.as_bytes()), None),
-        None => panic!(rt; "out of memory"),
+    for (size, want) in [(2049, "read"), (2050, "S1 4")] {
+        let text = with_long_name(alloc, size)?;
+        let words = answer(alloc, text.as_str())?;
+        assert_eq!(rt; words.as_str(), want, "{size}");
     }
-    match with_long_name(alloc, 2050) {
-        Some(text) => assert_eq!(rt; refused(&rt, alloc, text.as_bytes()), Some((4, Code::S1))),
-        None => panic!(rt; "out of memory"),
-    }
-    match with_long_number(alloc, 10000) {
-        Some(text) => compare_value(&rt, alloc, text.as_bytes(), "n 1000000\n"),
-        None => panic!(rt; "out of memory"),
-    }
+    let text = with_long_number(alloc, 10_000)?;
+    compare_value(&rt, alloc, text.as_str(), "n 1000000\n")
 }

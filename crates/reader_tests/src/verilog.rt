@@ -1,46 +1,28 @@
 //! Netlists: short texts, worked out by hand.
 
+use crate::rows::{at_bar, in_words, with_lines};
 use std::alloc::Global;
 use std::process::Abort;
 use std::test::*;
 use verilog_net::{Instance, Netlist, PortFound, PortRole, Wire, read_modules, read_netlist};
 use xt_lex::{Code, MOST_BYTES, TextFault};
 
-/// A text and the line and code of its refusal, if it has one.
-type Refusal = (&'static str, Option<(u32, Code)>);
-
-/// The line and code of the refusal of a text of one module, if it has one.
-fn refusal(rt: &impl Abort, alloc: Global, text: &str) -> Option<(u32, Code)> {
-    if text.len() > MOST_BYTES {
-        return None;
-    }
-    match read_netlist(alloc, text.as_bytes()) {
-        Ok(_) => None,
-        Err(TextFault::NoMemory) => panic!(rt; "out of memory at {text}"),
-        Err(TextFault::Refused { line, code }) => Some((line, code)),
-    }
-}
-
-/// Compares the refusal of each text of one module.
-fn compare(rt: &impl Abort, alloc: Global, texts: &[Refusal]) {
-    for (text, want) in texts {
-        assert_eq!(rt; refusal(rt, alloc, text), *want, "at {text}");
-    }
-}
-
-/// Compares the refusal of each text of modules.
-fn compare_modules(rt: &impl Abort, alloc: Global, texts: &[Refusal]) {
-    for (text, want) in texts {
-        if text.len() <= MOST_BYTES {
-            match read_modules(alloc, text.as_bytes()) {
-                Ok(_) => assert_eq!(rt; *want, None, "at {text}"),
-                Err(TextFault::NoMemory) => panic!(rt; "out of memory at {text}"),
-                Err(TextFault::Refused { line, code }) => {
-                    assert_eq!(rt; *want, Some((line, code)), "at {text}");
-                }
-            }
+/// Compares what becomes of the text of each row, where several modules are read or one alone.
+fn compare(rt: &impl Abort, alloc: Global, several: bool, rows: &str) -> Result<(), Fail> {
+    for row in rows.lines() {
+        let (want, text) = at_bar(row)?;
+        let text = with_lines(alloc, text)?;
+        if MOST_BYTES < text.len() {
+            return Err(Fail::from("too long"));
         }
+        let words = if several {
+            in_words(alloc, read_modules(alloc, text.as_bytes()))?
+        } else {
+            in_words(alloc, read_netlist(alloc, text.as_bytes()))?
+        };
+        assert!(rt; words.as_str() == want, "{words} at {row}");
     }
+    Ok(())
 }
 
 /// The one module of a text.
@@ -90,220 +72,151 @@ fn compare_instance(
     }
 }
 
-#[test]
-fn a_token_that_does_not_fit_is_refused(rt: HostRuntime) {
-    let texts: [Refusal; 16] = [
-        ("module m; endmodule", None),
-        ("module m (a); input a; endmodule // end", None),
-        ("", Some((1, Code::V2))),
-        ("\n\n", Some((3, Code::V2))),
-        ("module m;\n", Some((2, Code::V2))),
-        ("module m; INV u (.A(", Some((1, Code::V2))),
-        ("module m; /* \n", Some((2, Code::V2))),
-        ("module m; (* \n", Some((2, Code::V2))),
-        ("module m (a);\n\u{1} /*", Some((2, Code::V1))),
-        ("assign", Some((1, Code::V1))),
-        ("wire a;", Some((1, Code::V1))),
-        ("module m ();\nendmodule", Some((1, Code::V1))),
-        ("module m (a,); input a; endmodule", Some((1, Code::V1))),
-        ("module wire; endmodule", Some((1, Code::V1))),
-        ("module m; endmodule\nassign", Some((2, Code::V1))),
-        ("module m; endmodule\nendmodule", Some((2, Code::V1))),
-    ];
-    compare(&rt, rt.alloc(), &texts);
-}
+/// Texts with a token that does not fit, and texts that end too early.
+const TOKENS: &str = "\
+read | module m; endmodule
+read | module m (a); input a; endmodule // end
+V2 1 |
+V2 3 | ⏎⏎
+V2 2 | module m;⏎
+V2 1 | module m; INV u (.A(
+V2 2 | module m; /* ⏎
+V2 2 | module m; (* ⏎
+V1 2 | module m (a);⏎\u{1} /*
+V1 1 | assign
+V1 1 | wire a;
+V1 1 | module m ();⏎endmodule
+V1 1 | module m (a,); input a; endmodule
+V1 1 | module wire; endmodule
+V1 2 | module m; endmodule⏎assign
+V1 2 | module m; endmodule⏎endmodule
+";
 
 #[test]
-fn a_statement_is_refused_where_it_goes_wrong(rt: HostRuntime) {
-    let texts: [Refusal; 16] = [
-        ("module m; input wire a; endmodule", Some((1, Code::V1))),
-        ("module m; wire a\nb; endmodule", Some((2, Code::V1))),
-        ("module m; wire [3] a; endmodule", Some((1, Code::V1))),
-        (
-            "module m; wire [3:0] a, [3:0] b; endmodule",
-            Some((1, Code::V1)),
-        ),
-        ("module m; INV (.A(a)); endmodule", Some((1, Code::V1))),
-        ("module m; INV u; endmodule", Some((1, Code::V1))),
-        ("module m; INV u (.A(a),); endmodule", Some((1, Code::V1))),
-        ("module m; INV u (.A(0)); endmodule", Some((1, Code::V1))),
-        ("module m; INV u (.A(2'b0)); endmodule", Some((1, Code::V1))),
-        ("module m; INV u (.A(a b)); endmodule", Some((1, Code::V1))),
-        ("module m; INV u (0); endmodule", Some((1, Code::V1))),
-        ("module m; wire \\ ; endmodule", Some((1, Code::V1))),
-        ("module m; = endmodule", Some((1, Code::V1))),
-        ("module m; module n; endmodule", Some((1, Code::V1))),
-        ("module m; wire tri; endmodule", Some((1, Code::V1))),
-        (
-            "module m; wire \\tri ; begin \\wire (.or(not)); endmodule",
-            None,
-        ),
-    ];
-    compare(&rt, rt.alloc(), &texts);
+fn a_token_that_does_not_fit_is_refused(rt: HostRuntime) -> Result<(), Fail> {
+    compare(&rt, rt.alloc(), false, TOKENS)
 }
 
-#[test]
-fn what_is_not_read_is_refused_as_such(rt: HostRuntime) {
-    let texts: [Refusal; 20] = [
-        ("module m; assign a = b; endmodule", Some((1, Code::V3))),
-        ("module m;\ninout a; endmodule", Some((2, Code::V3))),
-        ("module m #(1); endmodule", Some((1, Code::V3))),
-        ("module m; INV\n#(2) u (.A(a));", Some((2, Code::V3))),
-        ("module m; wire a,\nreg;", Some((2, Code::V3))),
-        ("module m (a,\ninput b);", Some((2, Code::V3))),
-        ("module m\noutput a;", Some((2, Code::V3))),
-        ("module m (wire a);", Some((1, Code::V1))),
-        ("module m; INV u\n[3:0] (.A(a));", Some((2, Code::V3))),
-        ("module m; INV u (\na, b);", Some((2, Code::V3))),
-        ("module m; INV u (.A(a),\n1'b0);", Some((2, Code::V3))),
-        ("module m; INV u (.A(\n{a, b}));", Some((2, Code::V3))),
-        ("module m; wire {a, b};", Some((1, Code::V1))),
-        (
-            "module m; wire [3:0] b; INV u (.A(b[1\n:0]));",
-            Some((2, Code::V3)),
-        ),
-        (
-            "module m; wire [3:0] b; INV u (.A(b\n));",
-            Some((2, Code::V3)),
-        ),
-        (
-            "module m; wire [3:0] b; INV u (.A(b\n.",
-            Some((2, Code::V1)),
-        ),
-        ("module m; INV u (.A(b[1\n:", Some((2, Code::V3))),
-        ("module m; INV u (.A(b[1\n.", Some((2, Code::V1))),
-        (
-            "module m; endmodule\nmodule n; endmodule",
-            Some((2, Code::V3)),
-        ),
-        ("module m; \\assign u (.\\inout (a)); endmodule", None),
-    ];
-    compare(&rt, rt.alloc(), &texts);
-}
+/// Statements that go wrong.
+const STATEMENTS: &str = "\
+V1 1 | module m; input wire a; endmodule
+V1 2 | module m; wire a⏎b; endmodule
+V1 1 | module m; wire [3] a; endmodule
+V1 1 | module m; wire [3:0] a, [3:0] b; endmodule
+V1 1 | module m; INV (.A(a)); endmodule
+V1 1 | module m; INV u; endmodule
+V1 1 | module m; INV u (.A(a),); endmodule
+V1 1 | module m; INV u (.A(0)); endmodule
+V1 1 | module m; INV u (.A(2'b0)); endmodule
+V1 1 | module m; INV u (.A(a b)); endmodule
+V1 1 | module m; INV u (0); endmodule
+V1 1 | module m; wire \\ ; endmodule
+V1 1 | module m; = endmodule
+V1 1 | module m; module n; endmodule
+V1 1 | module m; wire tri; endmodule
+read | module m; wire \\tri ; begin \\wire (.or(not)); endmodule
+";
 
 #[test]
-fn names_and_bits_are_refused_at_their_last_token(rt: HostRuntime) {
-    let texts: [Refusal; 20] = [
-        ("module m (a); endmodule", Some((1, Code::V4))),
-        ("module m (a); wire a;\nendmodule", Some((2, Code::V4))),
-        ("module m; INV u (.A(b[0\n]));", Some((2, Code::V4))),
-        ("module m; INV u (.A(b[0\n[", Some((2, Code::V1))),
-        ("module m; INV u (.A(b), .Y(b[0]));", Some((1, Code::V4))),
-        (
-            "module m; INV u (.A(b[0])); wire [1:0] b;",
-            Some((1, Code::V4)),
-        ),
-        (
-            "module m; wire [3:0] b; INV u (.A(b[4\n]));",
-            Some((2, Code::V6)),
-        ),
-        (
-            "module m; wire [0:3] b; INV u (.A(b[4\n]));",
-            Some((2, Code::V6)),
-        ),
-        (
-            "module m; wire [3:0] b; INV u (.A(b[4\n;",
-            Some((2, Code::V1)),
-        ),
-        ("module m; wire b; INV u (.A(b[0\n]));", Some((2, Code::V6))),
-        ("module m; wire [\n1048576:0] b;", Some((2, Code::V6))),
-        ("module m; wire [0:\n1048576\n]", Some((2, Code::V6))),
-        ("module m; wire [1048575:01048575] b; endmodule", None),
-        ("module m; INV u (.A(x), .A\n(y));", Some((1, Code::V5))),
-        (
-            "module m; INV u (.A(x), .B(y),\n.A(y));",
-            Some((2, Code::V5)),
-        ),
-        ("module m; INV u (.A(x)),\nu (.A(y));", Some((2, Code::V5))),
-        (
-            "module m; INV u (); INV v ();\nBUF u [",
-            Some((2, Code::V5)),
-        ),
-        (
-            "module m; INV u (); INV v ();\nBUF w [",
-            Some((2, Code::V3)),
-        ),
-        (
-            "module m (b[0]); input [1:0] b; endmodule",
-            Some((1, Code::V1)),
-        ),
-        ("module m (\\b[0] ); input [1:0] b; endmodule", None),
-    ];
-    compare(&rt, rt.alloc(), &texts);
+fn a_statement_is_refused_where_it_goes_wrong(rt: HostRuntime) -> Result<(), Fail> {
+    compare(&rt, rt.alloc(), false, STATEMENTS)
 }
 
-#[test]
-fn two_declarations_of_a_name_agree(rt: HostRuntime) {
-    let texts: [Refusal; 13] = [
-        ("module m; input a; output\na;", Some((2, Code::V3))),
-        (
-            "module m; wire [1:0] a; wire [0:1]\na;",
-            Some((2, Code::V3)),
-        ),
-        ("module m; wire [1:0] a; input\na;", Some((2, Code::V3))),
-        (
-            "module m; INV u (.A(a)); wire [1:0]\na;",
-            Some((2, Code::V3)),
-        ),
-        ("module m; INV u (.A(a)); wire a; input a; endmodule", None),
-        ("module m (a); wire a; input a; supply0 a; endmodule", None),
-        ("module m; wire [1:0] a; output [01:00] a; endmodule", None),
-        (
-            "module m; wire [1:0] a; wire\n\\a[0] ;",
-            Some((2, Code::V3)),
-        ),
-        (
-            "module m; wire [1:0] a; wire \\a[2] , \\a[00] ; endmodule",
-            None,
-        ),
-        (
-            "module m; wire \\a[0] ; wire [1:0]\na\n;",
-            Some((2, Code::V3)),
-        ),
-        (
-            "module m; INV u (.A(\\a[0] )); wire [1:0]\na\n;",
-            Some((2, Code::V3)),
-        ),
-        (
-            "module m; INV u (.A(\\a[2] )); wire [1:0] a; endmodule",
-            None,
-        ),
-        (
-            "module m; INV u (.A(\\a[2] ), .B(\\a[0] )); wire [1:0]\na\n;",
-            Some((2, Code::V3)),
-        ),
-    ];
-    compare(&rt, rt.alloc(), &texts);
-}
+/// Statements that are not read.
+const NOT_READ: &str = "\
+V3 1 | module m; assign a = b; endmodule
+V3 2 | module m;⏎inout a; endmodule
+V3 1 | module m #(1); endmodule
+V3 2 | module m; INV⏎#(2) u (.A(a));
+V3 2 | module m; wire a,⏎reg;
+V3 2 | module m (a,⏎input b);
+V3 2 | module m⏎output a;
+V1 1 | module m (wire a);
+V3 2 | module m; INV u⏎[3:0] (.A(a));
+V3 2 | module m; INV u (⏎a, b);
+V3 2 | module m; INV u (.A(a),⏎1'b0);
+V3 2 | module m; INV u (.A(⏎{a, b}));
+V1 1 | module m; wire {a, b};
+V3 2 | module m; wire [3:0] b; INV u (.A(b[1⏎:0]));
+V3 2 | module m; wire [3:0] b; INV u (.A(b⏎));
+V1 2 | module m; wire [3:0] b; INV u (.A(b⏎.
+V3 2 | module m; INV u (.A(b[1⏎:
+V1 2 | module m; INV u (.A(b[1⏎.
+V3 2 | module m; endmodule⏎module n; endmodule
+read | module m; \\assign u (.\\inout (a)); endmodule
+";
 
 #[test]
-fn several_modules_are_read_apart(rt: HostRuntime) {
-    let texts: [Refusal; 8] = [
-        (
-            "module a; wire x; endmodule module b; wire [1:0] x; endmodule",
-            None,
-        ),
-        (
-            "module a; INV u (); endmodule module b; INV u (); endmodule",
-            None,
-        ),
-        ("module a; wire [1:0] x; b u (.x(x)); endmodule", None),
-        (
-            "module a; endmodule module\na; endmodule",
-            Some((2, Code::V5)),
-        ),
-        ("module a; endmodule\nassign", Some((2, Code::V1))),
-        (
-            "module a; input x; endmodule module b (x);\nendmodule",
-            Some((2, Code::V4)),
-        ),
-        (
-            "module a; wire [1:0] x; b u (.x(x[1\n:0]));",
-            Some((2, Code::V3)),
-        ),
-        ("", Some((1, Code::V2))),
-    ];
-    compare_modules(&rt, rt.alloc(), &texts);
+fn what_is_not_read_is_refused_as_such(rt: HostRuntime) -> Result<(), Fail> {
+    compare(&rt, rt.alloc(), false, NOT_READ)
+}
+
+/// Names and bits.
+const NAMES: &str = "\
+V4 1 | module m (a); endmodule
+V4 2 | module m (a); wire a;⏎endmodule
+V4 2 | module m; INV u (.A(b[0⏎]));
+V1 2 | module m; INV u (.A(b[0⏎[
+V4 1 | module m; INV u (.A(b), .Y(b[0]));
+V4 1 | module m; INV u (.A(b[0])); wire [1:0] b;
+V6 2 | module m; wire [3:0] b; INV u (.A(b[4⏎]));
+V6 2 | module m; wire [0:3] b; INV u (.A(b[4⏎]));
+V1 2 | module m; wire [3:0] b; INV u (.A(b[4⏎;
+V6 2 | module m; wire b; INV u (.A(b[0⏎]));
+V6 2 | module m; wire [⏎1048576:0] b;
+V6 2 | module m; wire [0:⏎1048576⏎]
+read | module m; wire [1048575:01048575] b; endmodule
+V5 1 | module m; INV u (.A(x), .A⏎(y));
+V5 2 | module m; INV u (.A(x), .B(y),⏎.A(y));
+V5 2 | module m; INV u (.A(x)),⏎u (.A(y));
+V5 2 | module m; INV u (); INV v ();⏎BUF u [
+V3 2 | module m; INV u (); INV v ();⏎BUF w [
+V1 1 | module m (b[0]); input [1:0] b; endmodule
+read | module m (\\b[0] ); input [1:0] b; endmodule
+";
+
+#[test]
+fn names_and_bits_are_refused_at_their_last_token(rt: HostRuntime) -> Result<(), Fail> {
+    compare(&rt, rt.alloc(), false, NAMES)
+}
+
+/// Two declarations of a name.
+const DECLARATIONS: &str = "\
+V3 2 | module m; input a; output⏎a;
+V3 2 | module m; wire [1:0] a; wire [0:1]⏎a;
+V3 2 | module m; wire [1:0] a; input⏎a;
+V3 2 | module m; INV u (.A(a)); wire [1:0]⏎a;
+read | module m; INV u (.A(a)); wire a; input a; endmodule
+read | module m (a); wire a; input a; supply0 a; endmodule
+read | module m; wire [1:0] a; output [01:00] a; endmodule
+V3 2 | module m; wire [1:0] a; wire⏎\\a[0] ;
+read | module m; wire [1:0] a; wire \\a[2] , \\a[00] ; endmodule
+V3 2 | module m; wire \\a[0] ; wire [1:0]⏎a⏎;
+V3 2 | module m; INV u (.A(\\a[0] )); wire [1:0]⏎a⏎;
+read | module m; INV u (.A(\\a[2] )); wire [1:0] a; endmodule
+V3 2 | module m; INV u (.A(\\a[2] ), .B(\\a[0] )); wire [1:0]⏎a⏎;
+";
+
+#[test]
+fn two_declarations_of_a_name_agree(rt: HostRuntime) -> Result<(), Fail> {
+    compare(&rt, rt.alloc(), false, DECLARATIONS)
+}
+
+/// Several modules.
+const MODULES: &str = "\
+read | module a; wire x; endmodule module b; wire [1:0] x; endmodule
+read | module a; INV u (); endmodule module b; INV u (); endmodule
+read | module a; wire [1:0] x; b u (.x(x)); endmodule
+V5 2 | module a; endmodule module⏎a; endmodule
+V1 2 | module a; endmodule⏎assign
+V4 2 | module a; input x; endmodule module b (x);⏎endmodule
+V3 2 | module a; wire [1:0] x; b u (.x(x[1⏎:0]));
+V2 1 |
+";
+
+#[test]
+fn several_modules_are_read_apart(rt: HostRuntime) -> Result<(), Fail> {
+    compare(&rt, rt.alloc(), true, MODULES)
 }
 
 #[test]

@@ -1,6 +1,6 @@
 //! A library with an inverter and a flip-flop, worked out by hand.
 
-use super::{compare_name, compare_pin, compare_table, read};
+use super::{compare_all_tables, compare_name, compare_pin, read};
 use liberty_cells::{Cell, Pin, Role, Sense, Timing, TimingKind};
 use std::process::Abort;
 use std::test::*;
@@ -145,32 +145,26 @@ fn an_inverter_and_a_flip_flop_are_read(rt: HostRuntime) {
     compare_flip_flop(&rt, flip_flop);
 }
 
+/// The tables: delays and slews of the inverter, setup and hold of the data pin, delays and slews of the flip-flop.
+const TABLES: &str = "\
+slews 0 100000; loads 0 10000; values 10000 30000 10000 30000
+slews 0 100000; loads 0 10000; values 10000 30000 10000 30000
+slews 0; loads 0; values 20000
+slews 0; loads 0; values 20000
+slews 0; loads 0; values 30000
+slews 0; loads 0; values 30000
+slews 0; loads 0; values 10000
+slews 0; loads 0; values 10000
+slews 0 100000; loads 0 10000; values 50000 70000 50000 70000
+slews 0 100000; loads 0 10000; values 50000 70000 50000 70000
+slews 0; loads 0; values 20000
+slews 0; loads 0; values 20000
+";
+
 #[test]
-fn an_inverter_and_a_flip_flop_have_their_tables(rt: HostRuntime) {
+fn an_inverter_and_a_flip_flop_have_their_tables(rt: HostRuntime) -> Result<(), Fail> {
     let Ok(library) = read(&rt, rt.alloc(), TEXT.as_bytes()) else {
         panic!(rt; "refused");
     };
-    let slews: &'static [i64] = &[0, 100_000];
-    let loads: &'static [i64] = &[0, 10_000];
-    let inverter: &'static [i64] = &[10_000, 30_000, 10_000, 30_000];
-    let flip_flop: &'static [i64] = &[50_000, 70_000, 50_000, 70_000];
-    let zero: &'static [i64] = &[0];
-    let wants: [(&'static [i64], &'static [i64], &'static [i64]); 12] = [
-        (slews, loads, inverter),
-        (slews, loads, inverter),
-        (zero, zero, &[20_000]),
-        (zero, zero, &[20_000]),
-        (zero, zero, &[30_000]),
-        (zero, zero, &[30_000]),
-        (zero, zero, &[10_000]),
-        (zero, zero, &[10_000]),
-        (slews, loads, flip_flop),
-        (slews, loads, flip_flop),
-        (zero, zero, &[20_000]),
-        (zero, zero, &[20_000]),
-    ];
-    assert_eq!(rt; library.tables.len(), wants.len());
-    for (table, want) in library.tables.as_slice().iter().zip(wants.iter()) {
-        compare_table(&rt, table, *want, "TEXT");
-    }
+    compare_all_tables(&rt, rt.alloc(), &library.tables, TABLES)
 }
