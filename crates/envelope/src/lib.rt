@@ -10,6 +10,3 @@ mod start;
 pub use fault::{EnvelopeFault, What};
 pub use pass::envelope;
 pub use start::quiet;
-
-#[cfg(test)]
-mod tests;

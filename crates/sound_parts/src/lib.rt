@@ -10,8 +10,6 @@ mod names;
 mod net;
 mod range;
 mod sound;
-#[cfg(test)]
-mod tests;
 
 pub use limits::reads_in_all;
 pub use sound::is_sound;

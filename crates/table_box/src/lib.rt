@@ -5,8 +5,6 @@ mod lines;
 mod place;
 mod ranges;
 mod stretch;
-#[cfg(test)]
-mod tests;
 mod values;
 
 pub use ranges::{both_ranges, range};

@@ -32,6 +32,3 @@ pub use recorded_files::RecordedFiles;
 pub use sink::Sink;
 pub use stream::Stream;
 pub use writing::write_whole;
-
-#[cfg(test)]
-mod tests;

@@ -1,20 +1,14 @@
-use crate::directory::Directory;
-use crate::directory_files::{DirectoryFiles, HostFiles};
-use crate::failed::Failed;
-use crate::files::Files;
-use crate::host_stream::{HostErr, HostOut, HostStream};
-use crate::memory_files::MemoryFiles;
-use crate::memory_sink::MemorySink;
-use crate::read_fail::ReadFail;
-use crate::reading::read_whole;
-use crate::recorded_files::RecordedFiles;
-use crate::stream::Stream;
-use crate::writing::write_whole;
+//! Files and sinks: in memory, over the system, and with faults.
+
 use std::alloc::{AllocError, Global};
 use std::fs::File;
 use std::io::{ErrorKind, Read, Write};
 use std::test::Fail;
 use std::{fs, io, process};
+use xt_io::{
+    Directory, DirectoryFiles, Failed, Files, HostErr, HostFiles, HostOut, HostStream, MemoryFiles,
+    MemorySink, ReadFail, RecordedFiles, Stream, read_whole, write_whole,
+};
 
 // Bytes of which no two nearby are alike.
 fn sample(alloc: Global, length: usize) -> Result<Vec<u8>, AllocError> {

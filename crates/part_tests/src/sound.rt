@@ -1,7 +1,9 @@
+//! Parts that are a sound design, and parts that are none.
+
 ghost use Rattle.std.specs.Prelude.{◌≤◌};
 ghost use Rattle.xt_model.specs.Tables.{IsTableNumber};
 
-use crate::is_sound;
+use sound_parts::is_sound;
 use std::alloc::{AllocError, Global};
 use std::test::Fail;
 use xt_model::{

@@ -1,6 +1,8 @@
+//! The envelope of designs.
+
 ghost use Rattle.std.specs.Prelude.{◌≤◌};
 
-use crate::{EnvelopeFault, What, envelope, quiet};
+use envelope::{EnvelopeFault, What, envelope, quiet};
 use sound_parts::is_sound;
 use std::alloc::{AllocError, Global};
 use std::process::Abort;

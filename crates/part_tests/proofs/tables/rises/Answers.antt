@@ -2,8 +2,7 @@
 use Rattle.std.proofs.Common.{◌≡◌, ℕ, ◌+◌, ◌-◌, ◌<◌, ◌≤◌, inl, inr, subst, get_or, arith, rules, false, int_le, to_z, of_z, to_z-of_z, w64, SFits, ℤ, pos, ◌<ℤ◌}
 use Rattle.std.proofs.lemmas.Bool.{cases_lt}
 use Rattle.std.proofs.lemmas.Int.{ints}
-use Rattle.table_box.proofs.Cells.{gt_from}
-use Rattle.table_box.proofs.tests.rises.Goals as goal
+use Rattle.part_tests.proofs.tables.rises.Goals as goal
 
 turn : (f : ℕ → ℤ) (n : ℕ) → 1 ≤ n → ((i j : ℕ) → i < j → j < n → f i <ℤ f j) → f (n - 1) <ℤ f n → (i j : ℕ) → i < j → j < n + 1 → f i <ℤ f j
 turn f n some below step i j h k = elim (cases_lt j n) [
@@ -14,8 +13,11 @@ turn f n some below step i j h k = elim (cases_lt j n) [
   ])
 ]
 
+greater : (a b : ℤ) → int_le a b ≡ false → b <ℤ a
+greater a b h = grind (arith, ints)
+
 above : (a b : ℤ) → SFits w64 a → SFits w64 b → int_le (to_z w64 (of_z w64 a)) (to_z w64 (of_z w64 b)) ≡ false → b <ℤ a
-above a b p q h = gt_from a b (subst (λ (n : ℤ). int_le n b ≡ false) (to_z-of_z p) (subst (λ (n : ℤ). int_le (to_z w64 (of_z w64 a)) n ≡ false) (to_z-of_z q) h))
+above a b p q h = greater a b (subst (λ (n : ℤ). int_le n b ≡ false) (to_z-of_z p) (subst (λ (n : ℤ). int_le (to_z w64 (of_z w64 a)) n ≡ false) (to_z-of_z q) h))
 
 pub loop-line-preserved : goal.loop-line-preserved
 loop-line-preserved c =

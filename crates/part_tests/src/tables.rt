@@ -1,11 +1,13 @@
+//! Values of tables, and their ranges.
+
 ghost use Rattle.std.specs.Prelude.{IsTrue};
 ghost use Rattle.std.specs.List.{All};
 ghost use Rattle.xt_model.specs.Tables.{IsIndex, IsRising, IsTableNumber};
 
-use crate::{at, range};
 use std::alloc::Global;
 use std::process::Abort;
 use std::test::Fail;
+use table_box::{at, range};
 use xt_model::{Row, Table};
 
 const LARGEST: i64 = 1 << 40;
