@@ -5,7 +5,7 @@ use crate::small::told_of;
 use std::test::Fail;
 
 /// A netlist behind `module m`, parasitics behind their units, constraints, and what is said.
-const REFUSED: [(&str, &str, &str, &str); 30] = [
+const REFUSED: [(&str, &str, &str, &str); 31] = [
     // No such cell.
     (
         "(a); input a; NOPE u (.A(a));",
@@ -97,6 +97,13 @@ const REFUSED: [(&str, &str, &str, &str); 30] = [
         "",
         "",
         "4 link: K4 q\n",
+    ),
+    // Two inverters in a loop.
+    (
+        "(a); input a; wire b, c; INV u1 (.A(b), .Y(c)); INV u2 (.A(c), .Y(b));",
+        "",
+        "",
+        "4 link: K4 b\n",
     ),
     // A loop through the second related pin; the first input ends.
     (

@@ -30,8 +30,13 @@ plain_nets (p ∷ ps) (w ∷ ws) = plain_net p w ∷ plain_nets ps ws
 
 -- the parts of a design that its sizes count
 abbrev pub plain_parts : Library → Circuit → List NetWire → Parts
-plain_parts library c ws =
-    record { period = None; tables = library.tables; nets = plain_nets c.nets ws; checks = c.checks; miller = classical }
+plain_parts library c ws = record {
+  period = None;
+  tables = library.tables;
+  nets = plain_nets c.nets ws;
+  checks = c.checks;
+  miller = classical;
+}
 
 -- how many couplings wires have in all, and how many arcs nets have in all
 abbrev pub couplings_sum : List NetWire → ℕ

@@ -112,7 +112,8 @@ fn net<'a>(
 
 /// Takes out the first head. The room of the heads shrinks with them.
 fn next_head(heads: &mut VecDeque<NetHead>) -> Option<NetHead>
-    ensures { MatchOption result ((heads.old.items ≡ []) × (heads.new.items ≡ [])) (λ h. heads.old.items ≡ h ∷ heads.new.items) }
+    ensures { MatchOption result ((heads.old.items ≡ []) × (heads.new.items ≡ []))
+        (λ h. heads.old.items ≡ h ∷ heads.new.items) }
 {
     let head = heads.pop_front()?;
     if heads.len() <= heads.capacity() / 2 {
