@@ -79,7 +79,7 @@ lower_end p q w h a r s e = ap (λ n. int_div_euclid n (w *ℤ h)) (only_first p
 swapped_area : (n w h : ℤ) → int_div_euclid n (w *ℤ h) ≡ int_div_euclid n (h *ℤ w)
 swapped_area n w h = ap (int_div_euclid n) (*ℤ_comm w h)
 
-mul_assoc : (a b c : ℤ) → (a *ℤ b) *ℤ c ≡ a *ℤ (c *ℤ b)
+pub mul_assoc : (a b c : ℤ) → (a *ℤ b) *ℤ c ≡ a *ℤ (c *ℤ b)
 mul_assoc a b c = ap (λ n. n *ℤ c) (*ℤ_comm a b) ∙ (mul_swap b a c ∙ (ap (λ n. n *ℤ a) (*ℤ_comm b c) ∙ *ℤ_comm (c *ℤ b) a))
 
 -- ---- a table

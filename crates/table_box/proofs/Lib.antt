@@ -6,3 +6,4 @@ mod Bilinear
 mod Widths
 mod Places
 mod Sweeps
+mod Small

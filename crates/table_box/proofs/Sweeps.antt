@@ -1,5 +1,5 @@
 -- The ranges that the loops over grid lines find are those over all whole points.
-use Rattle.std.proofs.Common.{◌≡◌, ℕ, ◌+◌, ◌<◌, ◌≤◌, inl, inr, subst, List, length, get_or, ◌^◌, ℤ, pos, neg_ℤ, ◌≤ℤ◌, arith}
+use Rattle.std.proofs.Common.{◌≡◌, ℕ, ◌+◌, ◌<◌, ◌≤◌, inl, inr, sym, subst, List, length, get_or, ◌^◌, ℤ, pos, neg_ℤ, ◌≤ℤ◌, arith}
 use Rattle.std.specs.Int.{int_min, int_max}
 use Rattle.std.proofs.lemmas.Bool.{cases_lt}
 use Rattle.std.proofs.lemmas.Int.{ints, clamps}
@@ -8,6 +8,7 @@ use Rattle.xt_meaning.specs.Lookup.{Box, Span, span_of, value_in, table_value, l
 use Rattle.xt_meaning.proofs.Ranges.{IsBox, IsInBox, least_over_below, least_over_most, greatest_over_above, greatest_over_least, least_along_below, least_along_most, greatest_along_above, greatest_along_least}
 use Rattle.table_box.specs.Spans.{IsSpan, ReachUpTo, LieBelow}
 use Rattle.table_box.specs.Rows.{row_least, row_greatest}
+use Rattle.table_box.specs.Ranges.{IsRange}
 use Rattle.table_box.proofs.Axis.{same_number, IsConvexAlong, holds_along}
 use Rattle.table_box.proofs.Bilinear.{IsBetween, loads_convex, rows_convex, table_value_number}
 
@@ -215,4 +216,27 @@ module _ (t : TableParts) (ok : IsTable t) (b : Box) (box : IsBox b) where
       record {
         low = omega (arith, ints, here, value.low);
         high = greatest_over_least (table_value t) b (pos (2 ^ 40)) box (λ s c i. (table_value_number t ok s c).high);
+      }
+
+-- ---- where no line lies between the ends
+module _ (t : TableParts) (ok : IsTable t) (s : Span) (sound : IsSpan (length t.slews) s) (c0 c1 : ℤ) (ordered : c0 ≤ℤ c1) where
+  pub row_of_ends : (first last : ℕ) (start end l h : ℤ) → ReachUpTo t.loads c0 first → LieBelow t.loads c1 last → last ≤ first
+      → start ≡ value_in t s (span_of t.loads c0) → end ≡ value_in t s (span_of t.loads c1) → l ≡ int_min start end → h ≡ int_max start end
+      → (l ≡ row_least t s c0 c1) × (h ≡ row_greatest t s c0 c1)
+  row_of_ends first last start end l h below above none e f p q =
+      row_done t ok s sound c0 c1 ordered first last first l h below above none (row_begins t ok s sound c0 c1 ordered first start end l h e f p q)
+
+module _ (t : TableParts) (ok : IsTable t) (s0 s1 c0 c1 : ℤ) (slews : s0 ≤ℤ s1) (loads : c0 ≤ℤ c1) where
+  pub box_of_ends : (first last : ℕ) (a b a' b' l h : ℤ) → ReachUpTo t.slews s0 first → LieBelow t.slews s1 last → last ≤ first
+      → a ≡ row_least t (span_of t.slews s0) c0 c1 → b ≡ row_greatest t (span_of t.slews s0) c0 c1
+      → a' ≡ row_least t (span_of t.slews s1) c0 c1 → b' ≡ row_greatest t (span_of t.slews s1) c0 c1
+      → l ≡ int_min a a' → h ≡ int_max b b' → IsRange t (record { s0 = s0; s1 = s1; c0 = c0; c1 = c1 }) (l, h)
+  box_of_ends first last a b a' b' l h below above none e f e' f' p q =
+      let both = box_done t ok s0 s1 c0 c1 slews loads first last first l h below above none (box_begins t ok s0 s1 c0 c1 slews loads first a b a' b' l h e f e' f' p q) in
+      let box : IsBox (record { s0 = s0; s1 = s1; c0 = c0; c1 = c1 }) = record { slews = slews; loads = loads } in
+      record {
+        least = both.0;
+        greatest = both.1;
+        least_number = subst IsTableNumber (sym both.0) (least_number t ok _ box);
+        greatest_number = subst IsTableNumber (sym both.1) (greatest_number t ok _ box);
       }

@@ -3,3 +3,4 @@ pub mod Rows
 pub mod Stretches
 pub mod Mixes
 pub mod Ranges
+pub mod Cells

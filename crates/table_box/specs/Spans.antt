@@ -29,3 +29,12 @@ pub record LieBelow (xs : List ℤ) (x : ℤ) (n : ℕ) : Type 0 where
   pub within : n ≤ length xs
   pub reached : (j : ℕ) → j < n → slice_index_or xs j (pos 0) <ℤ x
   pub beyond : (j : ℕ) → n ≤ j → j < length xs → x ≤ℤ slice_index_or xs j (pos 0)
+
+-- two places in one cell, the second sound: between the same two lines
+pub record AreAlike (s r : Span) : Type 0 where
+  pub first : s.first ≡ r.first
+  pub second : s.second ≡ r.second
+  pub width : s.width ≡ r.width
+  pub above : pos 0 ≤ℤ r.above
+  pub below : pos 0 ≤ℤ r.below
+  pub whole : r.below +ℤ r.above ≡ r.width

@@ -1,6 +1,7 @@
 //! Values of look-up tables, and their exact ranges over boxes of slews and loads.
 #![tactic(auto)]
 
+mod cell;
 mod lines;
 mod place;
 mod ranges;

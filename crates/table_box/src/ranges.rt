@@ -5,38 +5,36 @@ ghost use Rattle.xt_meaning.specs.Lookup.{greatest_over, least_over, span_of, ta
 ghost use Rattle.table_box.specs.Spans.{IsSpan, span_in};
 ghost use Rattle.table_box.specs.Stretches.{IsStretch, box_of};
 ghost use Rattle.table_box.specs.Rows.{row_least, row_greatest};
-ghost use Rattle.table_box.specs.Mixes.{AreBeside};
 ghost use Rattle.table_box.specs.Ranges.{IsRange};
 
+use crate::cell::cell_range;
 use crate::place::Place;
 use crate::stretch::Stretch;
-use crate::values::{Columns, value_on_line};
+use crate::values::{value_at, value_on_line};
 use xt_model::Table;
 
 /// The least and the greatest number of two ranges.
-fn joined(a: (i64, i64), b: (i64, i64)) -> (i64, i64)
+pub(crate) fn joined(a: (i64, i64), b: (i64, i64)) -> (i64, i64)
     ensures least { result.0 ≡ int_min a.0 b.0 }
     ensures greatest { result.1 ≡ int_max a.1 b.1 }
 {
     (a.0.min(b.0), a.1.max(b.1))
 }
 
-/// The value at one slew and the greatest of several loads, by the columns beside the least of them, at which it is
-/// `start`.
-fn end_value(columns: &Columns, loads: &Stretch, start: i64) -> i64
-    requires loads { IsStretch columns.now.table.now.loads loads.now }
-    requires beside { AreBeside (span_of columns.now.table.now.loads loads.now.from) columns.now }
-    requires start { start ≡ value_in columns.now.table.now (span_in columns.now.slew.now)
-        (span_of columns.now.table.now.loads loads.now.from) }
+/// The value at one slew and the greatest of several loads, where that at the least of them is `start`.
+fn end_value(table: &Table, slew: &Place, loads: &Stretch, start: i64) -> i64
+    requires table { IsTable table.now }
+    requires slew { IsSpan (length table.now.slews) (span_in slew.now) }
+    requires loads { IsStretch table.now.loads loads.now }
+    requires start { start ≡ value_in table.now (span_in slew.now) (span_of table.now.loads loads.now.from) }
     requires number { IsTableNumber start }
-    ensures value { result ≡ value_in columns.now.table.now (span_in columns.now.slew.now)
-        (span_of columns.now.table.now.loads loads.now.to) }
+    ensures value { result ≡ value_in table.now (span_in slew.now) (span_of table.now.loads loads.now.to) }
     ensures number { IsTableNumber result }
 {
     if loads.single {
         return start;
     }
-    columns.moved(&loads.end).value(&loads.end)
+    value_at(table, slew, &loads.end)
 }
 
 /// The least and the greatest value at one slew, over several loads. Between neighbouring grid lines the values go one
@@ -48,9 +46,8 @@ fn row_range(table: &Table, slew: &Place, loads: &Stretch) -> (i64, i64)
     ensures least { result.0 ≡ row_least table.now (span_in slew.now) loads.now.from loads.now.to }
     ensures greatest { result.1 ≡ row_greatest table.now (span_in slew.now) loads.now.from loads.now.to }
 {
-    let columns = Columns::beside(table, slew, &loads.start);
-    let start = columns.value(&loads.start);
-    let end = end_value(&columns, loads, start);
+    let start = value_at(table, slew, &loads.start);
+    let end = end_value(table, slew, loads, start);
     let mut range = joined((start, start), (end, end));
     for line in loads.first..loads.last {
         let value = value_on_line(table, slew, line);
@@ -81,7 +78,7 @@ fn end_range(table: &Table, slews: &Stretch, loads: &Stretch, start: (i64, i64))
 
 /// The least and the greatest value over several slews and several loads, which looks at the ends and at the grid lines
 /// between them.
-fn box_range(table: &Table, slews: &Stretch, loads: &Stretch) -> (i64, i64)
+fn swept_range(table: &Table, slews: &Stretch, loads: &Stretch) -> (i64, i64)
     requires table { IsTable table.now }
     requires slews { IsStretch table.now.slews slews.now }
     requires loads { IsStretch table.now.loads loads.now }
@@ -100,6 +97,22 @@ fn box_range(table: &Table, slews: &Stretch, loads: &Stretch) -> (i64, i64)
         );
     }
     range
+}
+
+/// The least and the greatest value over several slews and several loads.
+fn box_range(table: &Table, slews: &Stretch, loads: &Stretch) -> (i64, i64)
+    requires table { IsTable table.now }
+    requires slews { IsStretch table.now.slews slews.now }
+    requires loads { IsStretch table.now.loads loads.now }
+    ensures least { result.0 ≡ least_over (table_value table.now) (box_of slews.now loads.now) }
+    ensures greatest { result.1 ≡ greatest_over (table_value table.now) (box_of slews.now loads.now) }
+    ensures least_number { IsTableNumber result.0 }
+    ensures greatest_number { IsTableNumber result.1 }
+{
+    if let Some(range) = cell_range(table, slews, loads) {
+        return range;
+    }
+    swept_range(table, slews, loads)
 }
 
 /// Whether two axes have the same grid lines.

@@ -8,12 +8,14 @@ use crate::lines::lines_up_to;
 use crate::place::Place;
 
 /// The numbers from one to another on an axis, in its unit: the places of both ends, and the numbers of the grid lines
-/// above the one and below the other, from `first` to before `last`. A single number is both ends.
+/// above the one and below the other, from `first` to before `last`. A single number is both ends. They are inside a cell
+/// where both ends lie in it and no line between them.
 #[derive(Clone, Copy, Debug)]
 pub(crate) struct Stretch {
     pub from: i64,
     pub to: i64,
     pub single: bool,
+    pub inside: bool,
     pub start: Place,
     pub end: Place,
     pub first: usize,
@@ -78,14 +80,18 @@ impl Stretch {
     {
         let first = lines_up_to(index, from);
         let reached = lines_to(index, from, to, first);
+        let last = lines_below(index, to, reached);
+        let start = Place::among(index, from, first);
+        let end = Place::among(index, to, reached);
         Stretch {
             from,
             to,
             single: are_same(from, to),
-            start: Place::among(index, from, first),
-            end: Place::among(index, to, reached),
+            inside: last <= first && start.first == end.first,
+            start,
+            end,
             first,
-            last: lines_below(index, to, reached),
+            last,
         }
     }
 }

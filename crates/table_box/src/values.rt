@@ -1,11 +1,12 @@
-ghost use Rattle.std.specs.Prelude.{◌≡◌, ◌<◌, ◌^◌, ◌≤ℤ◌, ◌<ℤ◌, ◌*ℤ◌, pos, neg_ℤ, length, IsTrue};
+ghost use Rattle.std.specs.Prelude.{◌≡◌, ◌<◌, ◌^◌, ◌≤ℤ◌, ◌<ℤ◌, ◌*ℤ◌, pos, neg_ℤ, length};
 ghost use Rattle.std.specs.Int.{int_div_euclid};
 ghost use Rattle.xt_model.specs.Tables.{IsTable, IsTableNumber};
 ghost use Rattle.std.specs.List.{slice_index_or};
-ghost use Rattle.xt_meaning.specs.Lookup.{Span, cell_value, span_of, table_value, value_in};
+ghost use Rattle.xt_meaning.specs.Lookup.{cell_value, span_of, table_value, value_in};
 ghost use Rattle.table_box.specs.Spans.{IsSpan, span_in};
-ghost use Rattle.table_box.specs.Mixes.{AreBeside, along_slews};
+ghost use Rattle.table_box.specs.Mixes.{along_slews};
 
+use crate::cell::Cell;
 use crate::place::Place;
 use xt_model::Table;
 
@@ -34,8 +35,8 @@ fn weighed(number: i128, distance: i64) -> i128
     number * i128::from(distance)
 }
 
-/// The value of a row and a column.
-fn cell(table: &Table, row: usize, column: usize) -> i64
+/// The number of a row and a column.
+pub(crate) fn number_at(table: &Table, row: usize, column: usize) -> i64
     requires row { row < length table.now.slews }
     requires column { column < length table.now.loads }
     ensures value { result ≡ cell_value table.now row column }
@@ -52,8 +53,8 @@ fn column_at(table: &Table, slew: &Place, column: usize) -> i128
     ensures low { neg_ℤ (pos (2 ^ 82)) ≤ℤ result }
     ensures high { result ≤ℤ pos (2 ^ 82) }
 {
-    scaled(cell(table, slew.first, column), slew.below)
-        + scaled(cell(table, slew.second, column), slew.above)
+    scaled(number_at(table, slew.first, column), slew.below)
+        + scaled(number_at(table, slew.second, column), slew.above)
 }
 
 /// The area of a cell.
@@ -68,79 +69,40 @@ fn area(slew_width: i64, load_width: i64) -> i128
     i128::from(slew_width) * i128::from(load_width)
 }
 
-/// A fraction, rounded down, by 64 bits where its numbers fit.
+/// A fraction, rounded down.
 fn floor(sum: i128, area: i128) -> i128
     requires { pos 0 <ℤ area }
     ensures { result ≡ int_div_euclid sum area }
 {
-    if let (Ok(sum), Ok(area)) = (i64::try_from(sum), i64::try_from(area)) {
-        return i128::from(sum.div_euclid(area));
-    }
     sum.div_euclid(area)
 }
 
-/// A table and a slew, with the two columns beside a load and the numbers of both at the slew.
-#[derive(Clone, Copy)]
-pub(crate) struct Columns<'a> {
-    table: &'a Table,
-    slew: &'a Place,
-    first: usize,
-    second: usize,
-    at_first: i128,
-    at_second: i128,
+/// The value at a slew and a load, by 128 bits, which have room for the numbers of each table.
+fn wide_value(table: &Table, slew: &Place, load: &Place) -> i64
+    requires table { IsTable table.now }
+    requires slew { IsSpan (length table.now.slews) (span_in slew.now) }
+    requires load { IsSpan (length table.now.loads) (span_in load.now) }
+    ensures value { result ≡ value_in table.now (span_in slew.now) (span_in load.now) }
+    ensures number { IsTableNumber result }
+{
+    let first = column_at(table, slew, load.first);
+    let second = column_at(table, slew, load.second);
+    let sum = weighed(first, load.below) + weighed(second, load.above);
+    floor(sum, area(slew.width, load.width)) as i64
 }
 
-impl<'a> Columns<'a> {
-    /// The columns beside a load.
-    pub fn beside(table: &'a Table, slew: &'a Place, load: &Place) -> Columns<'a>
-        requires table { IsTable table.now }
-        requires slew { IsSpan (length table.now.slews) (span_in slew.now) }
-        requires load { IsSpan (length table.now.loads) (span_in load.now) }
-        ensures table { result.table.now ≡ table.now }
-        ensures slew { result.slew.now ≡ slew.now }
-        ensures beside { AreBeside (span_in load.now) result }
-    {
-        Columns {
-            table,
-            slew,
-            first: load.first,
-            second: load.second,
-            at_first: column_at(table, slew, load.first),
-            at_second: column_at(table, slew, load.second),
-        }
+/// The value at a slew and a load: the floor of the exact bilinear fraction.
+pub(crate) fn value_at(table: &Table, slew: &Place, load: &Place) -> i64
+    requires table { IsTable table.now }
+    requires slew { IsSpan (length table.now.slews) (span_in slew.now) }
+    requires load { IsSpan (length table.now.loads) (span_in load.now) }
+    ensures value { result ≡ value_in table.now (span_in slew.now) (span_in load.now) }
+    ensures number { IsTableNumber result }
+{
+    if let Some(cell) = Cell::of(table, slew, load) {
+        return cell.value(slew, load);
     }
-
-    /// Whether these are the columns beside a load.
-    fn are_beside(&self, load: &Place) -> bool
-        ensures { IsTrue result → (load.now.first ≡ self.now.first) × (load.now.second ≡ self.now.second) }
-    {
-        load.first == self.first && load.second == self.second
-    }
-
-    /// The columns beside another load, at the same slew: those that are at hand, where it lies between them.
-    pub fn moved(&self, load: &Place) -> Columns<'a>
-        requires load { IsSpan (length self.now.table.now.loads) (span_in load.now) }
-        requires beside { (before : Span) × AreBeside before self.now }
-        ensures table { result.table.now ≡ self.now.table.now }
-        ensures slew { result.slew.now ≡ self.now.slew.now }
-        ensures beside { AreBeside (span_in load.now) result }
-    {
-        if self.are_beside(load) {
-            return *self;
-        }
-        Columns::beside(self.table, self.slew, load)
-    }
-
-    /// The value at a load between the columns: the floor of the exact bilinear fraction.
-    pub fn value(&self, load: &Place) -> i64
-        requires load { IsSpan (length self.now.table.now.loads) (span_in load.now) }
-        requires beside { AreBeside (span_in load.now) self.now }
-        ensures value { result ≡ value_in self.now.table.now (span_in self.now.slew.now) (span_in load.now) }
-        ensures number { IsTableNumber result }
-    {
-        let sum = weighed(self.at_first, load.below) + weighed(self.at_second, load.above);
-        floor(sum, area(self.slew.width, load.width)) as i64
-    }
+    wide_value(table, slew, load)
 }
 
 /// The value at a slew and a grid line of the loads: the floor of the exact linear fraction.
@@ -164,5 +126,5 @@ pub fn at(table: &Table, slew: i64, load: i64) -> i64
 {
     let at_slew = Place::of(table.slews(), slew);
     let at_load = Place::of(table.loads(), load);
-    Columns::beside(table, &at_slew, &at_load).value(&at_load)
+    value_at(table, &at_slew, &at_load)
 }

@@ -1,33 +1,19 @@
 -- The loop looks at every line between the loads, and what holds at these and at both loads holds between.
-use Rattle.std.proofs.Common.{◌≡◌, ◌∙◌, ap, arith, subst, to_z-of_z}
+use Rattle.std.proofs.Common.{◌≡◌, ◌∙◌, ap, arith, to_z-of_z}
 use Rattle.std.specs.Int.{int_min, int_max}
-use Rattle.xt_meaning.specs.Lookup.{Span, span_of, value_in}
+use Rattle.xt_meaning.specs.Lookup.{value_in}
 use Rattle.table_box.specs.Rows.{row_least, row_greatest}
 use Rattle.table_box.specs.Spans.{span_in}
-use Rattle.table_box.specs.Mixes.{AreBeside}
 use Rattle.table_box.proofs.Places.{greatest_back, least_back, number_word, placed_sound}
 use Rattle.table_box.proofs.Sweeps.{row_begins, row_done, row_goes_on}
 use Rattle.table_box.proofs.ranges.row_range.Goals as goal
 
-pub beside-columns-requires-clause-load : goal.beside-columns-requires-clause-load
-beside-columns-requires-clause-load c = placed_sound _ _ _ c.requires.table.loads c.requires.loads.start
-
-pub value-start-requires-clause-load : goal.value-start-requires-clause-load
-value-start-requires-clause-load c = rw c.beside-columns.ensures.table (placed_sound _ _ _ c.requires.table.loads c.requires.loads.start)
-
-pub end_value-end-requires-clause-loads : goal.end_value-end-requires-clause-loads
-end_value-end-requires-clause-loads c = rw c.beside-columns.ensures.table c.requires.loads
-
-pub end_value-end-requires-clause-beside : goal.end_value-end-requires-clause-beside
-end_value-end-requires-clause-beside c =
-    let e : span_in c.args.loads.now.start ≡ span_of c.beside-columns.result.table.now.loads c.args.loads.now.from = rw c.beside-columns.ensures.table c.requires.loads.start in
-    subst (λ (p : Span). AreBeside p c.beside-columns.result) e c.beside-columns.ensures.beside
+pub value_at-start-requires-clause-load : goal.value_at-start-requires-clause-load
+value_at-start-requires-clause-load c = placed_sound _ _ _ c.requires.table.loads c.requires.loads.start
 
 pub end_value-end-requires-clause-start : goal.end_value-end-requires-clause-start
 end_value-end-requires-clause-start c =
-    let k = c.beside-columns.result in
-    let e : span_in c.args.loads.now.start ≡ span_of k.table.now.loads c.args.loads.now.from = rw c.beside-columns.ensures.table c.requires.loads.start in
-    to_z-of_z (number_word _ c.value-start.ensures.number) ∙ (c.value-start.ensures.value ∙ ap (value_in k.table.now (span_in k.slew.now)) e)
+    to_z-of_z (number_word _ c.value_at-start.ensures.number) ∙ (c.value_at-start.ensures.value ∙ ap (value_in c.args.table.now (span_in c.args.slew.now)) c.requires.loads.start)
 
 pub value_on_line-value-requires-clause-line : goal.value_on_line-value-requires-clause-line
 value_on_line-value-requires-clause-line c = let h = c.loop-line-test.true in let w = c.requires.loads.last.within in omega (arith, h, w)
@@ -36,11 +22,9 @@ pub loop-line-init : goal.loop-line-init
 loop-line-init c =
     let t = c.args.table.now in let s = span_in c.args.slew.now in let loads = c.args.loads.now in
     let range = c.joined-range.result in let e = c.joined-range.ensures in
-    let start : c.value-start.result ≡ value_in t s (span_in loads.start) = rw (c.beside-columns.ensures.table, c.beside-columns.ensures.slew) at c.value-start.ensures.value in
-    let end : c.end_value-end.result ≡ value_in t s (span_of t.loads loads.to) = rw (c.beside-columns.ensures.table, c.beside-columns.ensures.slew) at c.end_value-end.ensures.value in
-    row_begins t c.requires.table s c.requires.slew loads.from loads.to c.requires.loads.ordered loads.first c.value-start.result c.end_value-end.result range.0 range.1
-    (start ∙ ap (value_in t s) c.requires.loads.start) end
-    (e.least ∙ least_back _ _ c.value-start.ensures.number c.end_value-end.ensures.number) (e.greatest ∙ greatest_back _ _ c.value-start.ensures.number c.end_value-end.ensures.number)
+    row_begins t c.requires.table s c.requires.slew loads.from loads.to c.requires.loads.ordered loads.first c.value_at-start.result c.end_value-end.result range.0 range.1
+    (c.value_at-start.ensures.value ∙ ap (value_in t s) c.requires.loads.start) c.end_value-end.ensures.value
+    (e.least ∙ least_back _ _ c.value_at-start.ensures.number c.end_value-end.ensures.number) (e.greatest ∙ greatest_back _ _ c.value_at-start.ensures.number c.end_value-end.ensures.number)
 
 pub loop-line-preserved : goal.loop-line-preserved
 loop-line-preserved c =

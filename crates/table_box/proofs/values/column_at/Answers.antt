@@ -31,8 +31,8 @@ returns-clause-value c =
     let below = c.args.slew.now.below in let above = c.args.slew.now.above in
     let fits_below : SFits w64 below = omega (arith, ints, c.requires.slew) in
     let fits_above : SFits w64 above = omega (arith, ints, c.requires.slew) in
-    let first = product_named c.cell.result _ below c.cell.ensures.value (omega (arith, ints, c.cell.ensures.number)) fits_below in
-    let second = product_named c.cell-2.result _ above c.cell-2.ensures.value (omega (arith, ints, c.cell-2.ensures.number)) fits_above in
+    let first = product_named c.number_at.result _ below c.number_at.ensures.value (omega (arith, ints, c.number_at.ensures.number)) fits_below in
+    let second = product_named c.number_at-2.result _ above c.number_at-2.ensures.value (omega (arith, ints, c.number_at-2.ensures.number)) fits_above in
     exact c.scaled.result c.scaled-2.result e.low e.high f.low f.high
     ∙ sum_same _ _ _ _ (e.value ∙ first) (f.value ∙ second)
 

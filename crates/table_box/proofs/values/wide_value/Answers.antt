@@ -7,7 +7,7 @@ use Rattle.xt_meaning.specs.Lookup.{value_in}
 use Rattle.table_box.specs.Spans.{span_in}
 use Rattle.table_box.proofs.Bilinear.{value_number, value_by_load}
 use Rattle.table_box.proofs.Widths.{wide_sum_fits, sum_same, factors_back, fraction_back, number_fits, number_back}
-use Rattle.table_box.proofs.values.Columns.value.Goals as goal
+use Rattle.table_box.proofs.values.wide_value.Goals as goal
 
 fits : (x : ℤ) → neg_ℤ (pos (2 ^ 82)) ≤ℤ x → x ≤ℤ pos (2 ^ 82) → SFits w128 x
 fits x h k = omega (arith, ints)
@@ -29,41 +29,41 @@ both : (a b x y : ℤ) → SFits w128 a → SFits w128 b → a ≡ x → b ≡ y
 both a b x y p q e f = sum_same _ _ _ _ (to_z-of_z p ∙ e) (to_z-of_z q ∙ f)
 
 pub weighed-requires-clause-number_low : goal.weighed-requires-clause-number_low
-weighed-requires-clause-number_low c = let b = c.requires.beside in low_back _ b.low_first b.high_first
+weighed-requires-clause-number_low c = let e = c.column_at-first.ensures in low_back _ e.low e.high
 
 pub weighed-requires-clause-number_high : goal.weighed-requires-clause-number_high
-weighed-requires-clause-number_high c = let b = c.requires.beside in high_back _ b.low_first b.high_first
+weighed-requires-clause-number_high c = let e = c.column_at-first.ensures in high_back _ e.low e.high
 
 pub weighed-requires-2-clause-number_low : goal.weighed-requires-2-clause-number_low
-weighed-requires-2-clause-number_low c = let b = c.requires.beside in low_back _ b.low_second b.high_second
+weighed-requires-2-clause-number_low c = let e = c.column_at-second.ensures in low_back _ e.low e.high
 
 pub weighed-requires-2-clause-number_high : goal.weighed-requires-2-clause-number_high
-weighed-requires-2-clause-number_high c = let b = c.requires.beside in high_back _ b.low_second b.high_second
+weighed-requires-2-clause-number_high c = let e = c.column_at-second.ensures in high_back _ e.low e.high
 
 pub overflow_add-sum : goal.overflow_add-sum
 overflow_add-sum c = let e = c.weighed.ensures in let f = c.weighed-2.ensures in wide_sum_fits c.weighed.result c.weighed-2.result e.low e.high f.low f.high
 
-quotient : (c : goal.After-floor) → c.floor.result ≡ value_in c.args.self.now.table.now (span_in c.args.self.now.slew.now) (span_in c.args.load.now)
+quotient : (c : goal.After-floor) → c.floor.result ≡ value_in c.args.table.now (span_in c.args.slew.now) (span_in c.args.load.now)
 quotient c =
-    let k = c.args.self.now in let load = c.args.load.now in let b = c.requires.beside in
+    let t = c.args.table.now in let slew = c.args.slew.now in let load = c.args.load.now in
+    let x = c.column_at-first.ensures in let y = c.column_at-second.ensures in
     let e = c.weighed.ensures in let f = c.weighed-2.ensures in
-    let slew_fits : SFits w64 k.slew.now.width = omega (arith, ints, b.slew) in
+    let slew_fits : SFits w64 slew.width = omega (arith, ints, c.requires.slew) in
     let load_fits : SFits w64 load.width = omega (arith, ints, c.requires.load) in
     let below_fits : SFits w64 load.below = omega (arith, ints, c.requires.load) in
     let above_fits : SFits w64 load.above = omega (arith, ints, c.requires.load) in
     let area_fits : SFits w128 c.area.result = omega (arith, ints, c.area.type_inv) in
-    let first = part _ _ load.below _ e.value b.at_first (fits _ b.low_first b.high_first) below_fits in
-    let second = part _ _ load.above _ f.value b.at_second (fits _ b.low_second b.high_second) above_fits in
+    let first = part _ _ load.below _ e.value x.value (fits _ x.low x.high) below_fits in
+    let second = part _ _ load.above _ f.value y.value (fits _ y.low y.high) above_fits in
     c.floor.ensures
     ∙ (fraction_back _ _ _ _ (wide_sum_fits c.weighed.result c.weighed-2.result e.low e.high f.low f.high) area_fits
     (both c.weighed.result c.weighed-2.result _ _ (wide _ e.low e.high) (wide _ f.low f.high) first second)
-    (c.area.ensures.value ∙ factors_back k.slew.now.width load.width slew_fits load_fits)
-    ∙ sym (value_by_load k.table.now (span_in k.slew.now) (span_in load)))
+    (c.area.ensures.value ∙ factors_back slew.width load.width slew_fits load_fits)
+    ∙ sym (value_by_load t (span_in slew) (span_in load)))
 
 number : (c : goal.After-floor) → IsTableNumber c.floor.result
 number c =
-    let k = c.args.self.now in let b = c.requires.beside in
-    subst IsTableNumber (sym (quotient c)) (value_number k.table.now b.table (span_in k.slew.now) (span_in c.args.load.now) b.slew c.requires.load)
+    subst IsTableNumber (sym (quotient c)) (value_number c.args.table.now c.requires.table (span_in c.args.slew.now) (span_in c.args.load.now) c.requires.slew c.requires.load)
 
 pub overflow_cast-result : goal.overflow_cast-result
 overflow_cast-result c = number_fits c.floor.result (number c)

@@ -7,7 +7,7 @@ use Rattle.table_box.specs.Spans.{span_in}
 use Rattle.table_box.specs.Stretches.{box_of}
 use Rattle.table_box.proofs.Places.{line_placed, placed_sound}
 use Rattle.table_box.proofs.Sweeps.{box_begins, box_done, box_goes_on, least_number, greatest_number}
-use Rattle.table_box.proofs.ranges.box_range.Goals as goal
+use Rattle.table_box.proofs.ranges.swept_range.Goals as goal
 
 pub row_range-start-requires-clause-slew : goal.row_range-start-requires-clause-slew
 row_range-start-requires-clause-slew c = placed_sound _ _ _ c.requires.table.slews c.requires.slews.start

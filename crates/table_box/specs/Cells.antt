@@ -1,0 +1,40 @@
+-- Cells of a table whose sums fit in 64 bits.
+use Rattle.std.specs.Prelude.{◌≡◌, ◌-◌, ◌^◌, ℤ, pos, neg_ℤ, ◌+ℤ◌, ◌*ℤ◌, ◌≤ℤ◌, length}
+use Rattle.xt_model.specs.Tables.{IsTable}
+use Rattle.xt_meaning.specs.Lookup.{Span, cell_value}
+use Rattle.table_box.specs.declared.cell.Cell.{Cell}
+use Rattle.table_box.specs.Spans.{IsSpan, span_in}
+
+-- x is of at most this size
+pub record IsAtMost (most x : ℤ) : Type 0 where
+  pub low : neg_ℤ most ≤ℤ x
+  pub high : x ≤ℤ most
+
+-- two numbers of at most this size, and a span whose width, times that size, is at most 2^62
+pub record AreMixable (p q most : ℤ) (s : Span) : Type 0 where
+  pub first : IsAtMost most p
+  pub second : IsAtMost most q
+  pub below : pos 0 ≤ℤ s.below
+  pub above : pos 0 ≤ℤ s.above
+  pub whole : s.below +ℤ s.above ≡ s.width
+  pub width : s.width ≤ℤ pos (2 ^ 41)
+  pub room : (most *ℤ s.width) ≤ℤ pos (2 ^ 62)
+
+-- the numbers at the corners of a cell, of a size that times its area is at most 2^62
+pub record IsSmallCell (k : Cell) : Type 0 where
+  pub table : IsTable k.table.now
+  pub slew : IsSpan (length k.table.now.slews) (span_in k.slew.now)
+  pub load : IsSpan (length k.table.now.loads) (span_in k.load.now)
+  pub area : k.area ≡ k.slew.now.width *ℤ k.load.now.width
+  pub first_first : k.first_first ≡ cell_value k.table.now k.slew.now.first k.load.now.first
+  pub first_second : k.first_second ≡ cell_value k.table.now k.slew.now.first k.load.now.second
+  pub second_first : k.second_first ≡ cell_value k.table.now k.slew.now.second k.load.now.first
+  pub second_second : k.second_second ≡ cell_value k.table.now k.slew.now.second k.load.now.second
+  pub fits : k.area ≤ℤ pos (2 ^ 63 - 1)
+  pub most : ℤ
+  pub natural : pos 0 ≤ℤ most
+  pub room : (most *ℤ k.area) ≤ℤ pos (2 ^ 62)
+  pub first_first_small : IsAtMost most k.first_first
+  pub first_second_small : IsAtMost most k.first_second
+  pub second_first_small : IsAtMost most k.second_first
+  pub second_second_small : IsAtMost most k.second_second

@@ -1,0 +1,175 @@
+//! Ranges of values within one cell of a table, by 64 bits.
+
+ghost use Rattle.std.specs.Prelude.{◌≡◌, ◌^◌, ℤ, ◌*ℤ◌, ◌≤ℤ◌, ◌<ℤ◌, pos, length, IsTrue, IfSome};
+ghost use Rattle.std.specs.Int.{int_div_euclid};
+ghost use Rattle.xt_model.specs.Tables.{IsTable, IsTableNumber};
+ghost use Rattle.xt_meaning.specs.Lookup.{value_in};
+ghost use Rattle.table_box.specs.Spans.{IsSpan, AreAlike, span_in};
+ghost use Rattle.table_box.specs.Stretches.{IsStretch, box_of};
+ghost use Rattle.table_box.specs.Rows.{row_least, row_greatest};
+ghost use Rattle.table_box.specs.Mixes.{mixed};
+ghost use Rattle.table_box.specs.Cells.{AreMixable, IsAtMost, IsSmallCell};
+ghost use Rattle.table_box.specs.Ranges.{IsRange};
+
+use crate::place::Place;
+use crate::ranges::joined;
+use crate::stretch::Stretch;
+use crate::values::number_at;
+use xt_model::Table;
+
+/// Two numbers, the first times how far a place lies below the second line, and the second times how far it lies above
+/// the first.
+fn mixed(first: i64, second: i64, place: &Place) -> i64
+    requires { (most : ℤ) × AreMixable first second most (span_in place.now) }
+    ensures { result ≡ mixed first second place.now.below place.now.above }
+{
+    first * place.below + second * place.above
+}
+
+/// A fraction, rounded down.
+fn floor(sum: i64, area: i64) -> i64
+    requires { pos 0 <ℤ area }
+    ensures { result ≡ int_div_euclid sum area }
+{
+    sum.div_euclid(area)
+}
+
+/// The greatest size of numbers that, times this area, are at most 2^62.
+fn most_within(area: i64) -> i64
+    requires { pos 0 <ℤ area }
+    ensures natural { pos 0 ≤ℤ result }
+    ensures room { (result *ℤ area) ≤ℤ pos (2 ^ 62) }
+{
+    4_611_686_018_427_387_904 / area
+}
+
+/// Whether a number is of at most this size.
+fn is_at_most(number: i64, most: i64) -> bool
+    requires { pos 0 ≤ℤ most }
+    ensures { IsTrue result → IsAtMost most number }
+{
+    -most <= number && number <= most
+}
+
+/// Whether two numbers are of at most this size.
+fn are_at_most(a: i64, b: i64, most: i64) -> bool
+    requires { pos 0 ≤ℤ most }
+    ensures { IsTrue result → (IsAtMost most a) × (IsAtMost most b) }
+{
+    is_at_most(a, most) && is_at_most(b, most)
+}
+
+/// A cell of a table with room for its sums in 64 bits: a place in it on each axis, its area, and the numbers at its
+/// corners, the first word of each name for the line of the slews and the second for that of the loads.
+#[derive(Clone, Copy)]
+pub(crate) struct Cell<'a> {
+    table: &'a Table,
+    slew: &'a Place,
+    load: &'a Place,
+    area: i64,
+    first_first: i64,
+    first_second: i64,
+    second_first: i64,
+    second_second: i64,
+}
+
+impl<'a> Cell<'a> {
+    /// The cell of a slew and a load, where 64 bits have room for its sums.
+    pub fn of(table: &'a Table, slew: &'a Place, load: &'a Place) -> Option<Cell<'a>>
+        requires table { IsTable table.now }
+        requires slew { IsSpan (length table.now.slews) (span_in slew.now) }
+        requires load { IsSpan (length table.now.loads) (span_in load.now) }
+        ensures table { IfSome result (λ cell. cell.table.now ≡ table.now) }
+        ensures slew { IfSome result (λ cell. cell.slew.now ≡ slew.now) }
+        ensures load { IfSome result (λ cell. cell.load.now ≡ load.now) }
+        ensures small { IfSome result IsSmallCell }
+    {
+        let area = slew.width.checked_mul(load.width)?;
+        let most = most_within(area);
+        let first_first = number_at(table, slew.first, load.first);
+        let first_second = number_at(table, slew.first, load.second);
+        let second_first = number_at(table, slew.second, load.first);
+        let second_second = number_at(table, slew.second, load.second);
+        if !are_at_most(first_first, first_second, most) {
+            return None;
+        }
+        if !are_at_most(second_first, second_second, most) {
+            return None;
+        }
+        Some(Cell {
+            table,
+            slew,
+            load,
+            area,
+            first_first,
+            first_second,
+            second_first,
+            second_second,
+        })
+    }
+
+    /// The value at a slew and a load in the cell: the floor of the exact bilinear fraction.
+    pub fn value(&self, slew: &Place, load: &Place) -> i64
+        requires small { IsSmallCell self.now }
+        requires slew { AreAlike (span_in self.now.slew.now) (span_in slew.now) }
+        requires load { AreAlike (span_in self.now.load.now) (span_in load.now) }
+        ensures value { result ≡ value_in self.now.table.now (span_in slew.now) (span_in load.now) }
+        ensures number { IsTableNumber result }
+    {
+        let first = mixed(self.first_first, self.second_first, slew);
+        let second = mixed(self.first_second, self.second_second, slew);
+        floor(mixed(first, second, load), self.area)
+    }
+
+    /// The least and the greatest value at one slew, over several loads in the cell: the values go one way, so it looks at
+    /// both ends.
+    fn row_range(&self, slew: &Place, loads: &Stretch) -> (i64, i64)
+        requires small { IsSmallCell self.now }
+        requires slew { AreAlike (span_in self.now.slew.now) (span_in slew.now) }
+        requires loads { IsStretch self.now.table.now.loads loads.now }
+        requires inside { IsTrue loads.now.inside }
+        requires start { self.now.load.now ≡ loads.now.start }
+        ensures least { result.0 ≡ row_least self.now.table.now (span_in slew.now) loads.now.from loads.now.to }
+        ensures greatest { result.1 ≡ row_greatest self.now.table.now (span_in slew.now) loads.now.from loads.now.to }
+    {
+        let start = self.value(slew, &loads.start);
+        if loads.single {
+            return (start, start);
+        }
+        let end = self.value(slew, &loads.end);
+        (start.min(end), start.max(end))
+    }
+
+    /// The least and the greatest value over several slews and several loads in the cell: those at the ends.
+    fn range(&self, slews: &Stretch, loads: &Stretch) -> (i64, i64)
+        requires small { IsSmallCell self.now }
+        requires slews { IsStretch self.now.table.now.slews slews.now }
+        requires loads { IsStretch self.now.table.now.loads loads.now }
+        requires slews_inside { IsTrue slews.now.inside }
+        requires loads_inside { IsTrue loads.now.inside }
+        requires slews_start { self.now.slew.now ≡ slews.now.start }
+        requires loads_start { self.now.load.now ≡ loads.now.start }
+        ensures { IsRange self.now.table.now (box_of slews.now loads.now) result }
+    {
+        let start = self.row_range(&slews.start, loads);
+        if slews.single {
+            return start;
+        }
+        joined(start, self.row_range(&slews.end, loads))
+    }
+}
+
+/// The least and the greatest value over several slews and several loads, where they lie in one cell with room for its
+/// sums in 64 bits.
+pub(crate) fn cell_range(table: &Table, slews: &Stretch, loads: &Stretch) -> Option<(i64, i64)>
+    requires table { IsTable table.now }
+    requires slews { IsStretch table.now.slews slews.now }
+    requires loads { IsStretch table.now.loads loads.now }
+    ensures { IfSome result (λ range. IsRange table.now (box_of slews.now loads.now) range) }
+{
+    if !(slews.inside && loads.inside) {
+        return None;
+    }
+    let cell = Cell::of(table, &slews.start, &loads.start)?;
+    Some(cell.range(slews, loads))
+}
