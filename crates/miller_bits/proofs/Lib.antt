@@ -1,2 +1,3 @@
+mod Actives
 mod Periods
 pub mod Sums

@@ -1,2 +1,3 @@
 pub mod Views
 pub mod Victims
+pub mod Actives

@@ -8,10 +8,11 @@ use Rattle.xt_model.specs.Assign.{quads_of}
 use Rattle.xt_model.specs.Limits.{most_couplings}
 use Rattle.xt_model.specs.Miller.{MillerNumbers}
 use Rattle.xt_model.specs.Parts.{Parts}
-use Rattle.xt_model.specs.Quads.{IsInRange}
 use Rattle.xt_model.specs.Sound.{IsSoundNet}
 use Rattle.xt_meaning.specs.Overlap.{least_factors, greatest_factors}
 use Rattle.xt_meaning.specs.Reads.{HoldsOfEnds}
+use Rattle.miller_bits.specs.declared.active.Active.{Active}
+use Rattle.miller_bits.specs.Actives.{IsActive}
 use Rattle.miller_bits.specs.Views.{HasNet, answers_by}
 
 -- an edge of net number `number`, which is `net`, in a design of these Miller numbers: its own window, and the factors
@@ -35,12 +36,12 @@ victim_of o d f n e net = record {
   greatest = greatest_factors d.miller (answers_by o d f) n e net.couplings;
 }
 
--- net number n, which is `net`, is sound, its window at edge e is `own`, and the words of the nets at the other ends of
--- its couplings are at hand
+-- net number n, which is `net`, is sound, the window of its edge e is that of `own`, and the words of the nets at the
+-- other ends of its couplings are at hand
 pub record IsAtHand (has : ℕ → Type 0) (f : ℕ → ℤ)
-    (d : Parts) (n : ℕ) (e : Edge) (own : Quad) (net : Net) : Type 0 where
-  pub window : own ≡ quads_of f n e
-  pub range : IsInRange own
+    (d : Parts) (n : ℕ) (e : Edge) (own : Active) (net : Net) : Type 0 where
+  pub window : own.window ≡ quads_of f n e
+  pub active : IsActive own
   pub sound : IsSoundNet d n net
   pub few : length net.couplings ≤ most_couplings
   pub aggressors : HoldsOfEnds (HasNet has) net.couplings

@@ -3,17 +3,18 @@ ghost use Rattle.std.specs.Int.{int_div_euclid};
 ghost use Rattle.xt_model.specs.Quads.{IsBound, IsInRange};
 ghost use Rattle.xt_meaning.specs.Overlap.{half_up, active_from, active_to};
 ghost use Rattle.xt_meaning.specs.Overlap.{ranges_meet, overlaps, Overlap, IsRealPeriod};
+ghost use Rattle.miller_bits.specs.Actives.{IsActive};
 
 use xt_model::Quad;
 
-/// Half of a slew, rounded up.
+/// Half of a slew, rounded up: a shift rounds down.
 fn half_up(slew: i64) -> i64
     requires { IsBound slew }
     ensures value { result ≡ half_up slew }
     ensures low { neg_ℤ (pos (2 ^ 61)) ≤ℤ result }
     ensures high { result ≤ℤ pos (2 ^ 61) }
 {
-    (slew + 1).div_euclid(2)
+    (slew + 1) >> 1
 }
 
 /// From when a transition of the window can be under way.
@@ -61,7 +62,9 @@ fn meet_unmoved(a_from: i64, a_to: i64, b_from: i64, b_to: i64) -> bool
 }
 
 /// Whether they have a time in common where the second is moved by some whole number of periods: the least
-/// number that brings its end to the first range is at most the greatest that leaves its start there.
+/// number that brings its end to the first range is at most the greatest that leaves its start there. It divides twice,
+/// and stays a call so that the test of the ranges as they stand is short.
+#[inline(never)]
 fn meet_moved(a_from: i64, a_to: i64, b_from: i64, b_to: i64, period: i64) -> bool
     requires { pos 1 ≤ℤ period }
     ensures { result ≡ ranges_meet (Some period) a_from a_to b_from b_to }
@@ -86,21 +89,50 @@ fn ranges_meet(a_from: i64, a_to: i64, b_from: i64, b_to: i64, period: Option<i6
     }
 }
 
-/// Whether the active ranges of two windows meet: each runs from the earliest time less half of the greatest
-/// slew, to the latest time and half of the greatest slew.
-fn active_ranges_meet(a: &Quad, b: &Quad, period: Option<i64>) -> bool
-    requires first { IsInRange a.now }
-    requires second { IsInRange b.now }
-    requires period { IsRealPeriod period }
-    ensures { result ≡ ranges_meet period (active_from a.now) (active_to a.now) (active_from b.now) (active_to b.now) }
-{
-    ranges_meet(
-        active_from(a),
-        active_to(a),
-        active_from(b),
-        active_to(b),
-        period,
-    )
+/// A window, with whether its edge can switch, and from when and to when a transition of it can be under way: from the
+/// earliest time less half of the greatest slew, to the latest time and half of the greatest slew.
+#[derive(Clone, Copy, Debug)]
+pub(crate) struct Active {
+    pub window: Quad,
+    pub live: bool,
+    from: i64,
+    to: i64,
+}
+
+impl Active {
+    /// This window.
+    #[inline]
+    pub fn of(window: Quad) -> Active
+        requires { IsInRange window }
+        ensures window { result.window ≡ window }
+        ensures active { IsActive result }
+    {
+        Active {
+            window,
+            live: window.live(),
+            from: active_from(&window),
+            to: active_to(&window),
+        }
+    }
+
+    /// Whether it overlaps another window: both can switch, and their active ranges meet.
+    #[inline(always)]
+    pub fn overlaps(&self, other: &Quad, period: Option<i64>) -> bool
+        requires active { IsActive self.now }
+        requires second { IsInRange other.now }
+        requires period { IsRealPeriod period }
+        ensures { result ≡ overlaps period self.now.window other.now }
+    {
+        self.live
+            && other.live()
+            && ranges_meet(
+                self.from,
+                self.to,
+                active_from(other),
+                active_to(other),
+                period,
+            )
+    }
 }
 
 /// Whether two windows overlap: both can switch, and their active ranges meet, in a design with a clock period,
@@ -112,5 +144,5 @@ pub fn overlap(a: &Quad, b: &Quad, period: Option<i64>) -> bool
     ensures meaning { IsTrue result ↔ Overlap period a.now b.now }
     ensures value { result ≡ overlaps period a.now b.now }
 {
-    a.live() && b.live() && active_ranges_meet(a, b, period)
+    Active::of(*a).overlaps(b, period)
 }

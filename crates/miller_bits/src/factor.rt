@@ -4,12 +4,13 @@ ghost use Rattle.std.specs.Prelude.{◌≡◌, ◌<◌, ◌≤◌, length, IfSom
 ghost use Rattle.std.specs.List.{slice_get};
 ghost use Rattle.xt_model.specs.Assign.{quads_of};
 ghost use Rattle.xt_model.specs.Limits.{most_factor};
-ghost use Rattle.xt_model.specs.Quads.{IsInRange, other_edge};
+ghost use Rattle.xt_model.specs.Quads.{other_edge};
 ghost use Rattle.xt_meaning.specs.Overlap.{overlaps, least_factor, greatest_factor, IsRealPeriod};
+ghost use Rattle.miller_bits.specs.Actives.{IsActive};
 ghost use Rattle.miller_bits.specs.Views.{HasEdge, HasNet, answers_of, coupling_at, least_by, greatest_by};
 
-use crate::active::overlap;
-use xt_model::{Bounds, Design, Edge, Miller, NetId, Quad, window};
+use crate::active::Active;
+use xt_model::{Bounds, Design, Edge, Miller, NetId, window};
 
 /// The least factor, by whether the aggressor can switch the same way at the same time.
 fn least_factor(miller: Miller, overlaps: bool) -> u8
@@ -49,27 +50,32 @@ pub(crate) fn widest_factors(miller: Miller) -> (u8, u8)
     (least_factor(miller, true), greatest_factor(miller, true))
 }
 
-/// The factors of a coupling to an aggressor, of an edge with this window.
+/// The factors of a coupling to an aggressor, of an edge with this window. Where the edge never switches, it looks at no
+/// other window.
+#[inline(always)]
 pub(crate) fn factors_of<V: Bounds>(
     design: &Design,
-    own: &Quad,
+    own: &Active,
     edge: Edge,
     view: &V,
     aggressor: NetId,
 ) -> (u8, u8)
-    requires range { IsInRange own.now }
+    requires own { IsActive own.now }
     requires words { HasNet (V.has view.now) aggressor.0 }
     ensures least { let other = quads_of (V.bound_of view.now) aggressor.0 edge in
-        result.0 ≡ least_by design.now.miller (overlaps design.now.period own.now other) }
+        result.0 ≡ least_by design.now.miller (overlaps design.now.period own.now.window other) }
     ensures greatest { let other = quads_of (V.bound_of view.now) aggressor.0 (other_edge edge) in
-        result.1 ≡ greatest_by design.now.miller (overlaps design.now.period own.now other) }
+        result.1 ≡ greatest_by design.now.miller (overlaps design.now.period own.now.window other) }
     ensures few_least { result.0 ≤ most_factor }
     ensures few_greatest { result.1 ≤ most_factor }
 {
-    let period = period(design);
-    let same_way = overlap(own, &window(view, aggressor, edge), period);
-    let other_way = overlap(own, &window(view, aggressor, edge.other()), period);
     let miller = design.miller();
+    if !own.live {
+        return (least_factor(miller, false), greatest_factor(miller, false));
+    }
+    let period = period(design);
+    let same_way = own.overlaps(&window(view, aggressor, edge), period);
+    let other_way = own.overlaps(&window(view, aggressor, edge.other()), period);
     (
         least_factor(miller, same_way),
         greatest_factor(miller, other_way),
@@ -102,7 +108,7 @@ pub fn factors<V: Bounds>(
         (λ k. result.1 ≡ greatest_factor design.now.miller b net.0 edge k) }
 {
     let victim = design.net(net.0 as usize);
-    let own = window(view, net, edge);
+    let own = Active::of(window(view, net, edge));
     let aggressor = victim.couplings.as_slice()[coupling].to;
     factors_of(design, &own, edge, view, aggressor)
 }

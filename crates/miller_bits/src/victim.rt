@@ -1,5 +1,6 @@
 //! An edge of a net, as the victim of the nets that are coupled to it.
 
+use crate::active::Active;
 use crate::factor::{factors_of, widest_factors};
 use crate::overlaps::Overlaps;
 use std::marker::Model;
@@ -14,7 +15,7 @@ pub struct Victim<'a, V: Bounds> {
     view: &'a V,
     number: NetId,
     edge: Edge,
-    window: Quad,
+    own: Active,
     pub(crate) net: &'a Net,
 }
 
@@ -28,7 +29,7 @@ impl<'a, V: Bounds> Model for Victim<'a, V> {
     ghost view = { λ v. victim_of v.overlaps v.design.now (V.bound_of v.view.now) v.number.0 v.edge v.net.now };
 
     ghost invariant = { λ v.
-        IsAtHand (V.has v.view.now) (V.bound_of v.view.now) v.design.now v.number.0 v.edge v.window v.net.now };
+        IsAtHand (V.has v.view.now) (V.bound_of v.view.now) v.design.now v.number.0 v.edge v.own v.net.now };
 }
 
 impl<'a, V: Bounds> Victim<'a, V> {
@@ -58,7 +59,7 @@ impl<'a, V: Bounds> Victim<'a, V> {
             view,
             number,
             edge,
-            window: window(view, number, edge),
+            own: Active::of(window(view, number, edge)),
             net: design.net(number.0 as usize),
         }
     }
@@ -68,7 +69,7 @@ impl<'a, V: Bounds> Victim<'a, V> {
         ensures value { result ≡ self.now.window }
         ensures range { IsInRange result }
     {
-        self.window
+        self.own.window
     }
 
     /// The number of its net.
@@ -79,6 +80,7 @@ impl<'a, V: Bounds> Victim<'a, V> {
     }
 
     /// The least and the greatest factor, in quarters, by which the coupling of this number counts.
+    #[inline(always)]
     pub(crate) fn factors(&self, coupling: usize) -> (u8, u8)
         requires { coupling < length self.now.net.couplings }
         ensures least { slice_get self.now.least coupling ≡ Some result.0 }
@@ -90,7 +92,7 @@ impl<'a, V: Bounds> Victim<'a, V> {
         match self.overlaps {
             Overlaps::OfWindows => factors_of(
                 self.design,
-                &self.window,
+                &self.own,
                 self.edge,
                 self.view,
                 aggressor,
