@@ -3,7 +3,9 @@ use Rattle.std.specs.Prelude.{◌≡◌, ◌-◌, ◌^◌, ℤ, pos, neg_ℤ, �
 use Rattle.xt_model.specs.Tables.{IsTable}
 use Rattle.xt_meaning.specs.Lookup.{Span, cell_value}
 use Rattle.table_box.specs.declared.cell.Cell.{Cell}
-use Rattle.table_box.specs.Spans.{IsSpan, span_in}
+use Rattle.table_box.specs.declared.stretch.Stretch.{Stretch}
+use Rattle.table_box.specs.Spans.{AreAlike, IsSpan, span_in}
+use Rattle.table_box.specs.Stretches.{IsStretch}
 
 -- x is of at most this size
 pub record IsAtMost (most x : ℤ) : Type 0 where
@@ -38,3 +40,13 @@ pub record IsSmallCell (k : Cell) : Type 0 where
   pub first_second_small : IsAtMost most k.first_second
   pub second_first_small : IsAtMost most k.second_first
   pub second_second_small : IsAtMost most k.second_second
+
+-- cells of one table and one place of slews, in which the least and the greatest of several loads lie
+pub record AreEnds (k l : Cell) (r : Stretch) : Type 0 where
+  pub first : IsSmallCell k
+  pub last : IsSmallCell l
+  pub table : l.table.now ≡ k.table.now
+  pub slew : l.slew.now ≡ k.slew.now
+  pub loads : IsStretch k.table.now.loads r
+  pub start : AreAlike (span_in k.load.now) (span_in r.start)
+  pub end : AreAlike (span_in l.load.now) (span_in r.end)

@@ -3,18 +3,18 @@
 ghost use Rattle.std.specs.Prelude.{◌≡◌, ◌^◌, ℤ, ◌*ℤ◌, ◌≤ℤ◌, ◌<ℤ◌, pos, length, IsTrue, IfSome};
 ghost use Rattle.std.specs.Int.{int_div_euclid};
 ghost use Rattle.xt_model.specs.Tables.{IsTable, IsTableNumber};
-ghost use Rattle.xt_meaning.specs.Lookup.{value_in};
+ghost use Rattle.xt_meaning.specs.Lookup.{span_of, value_in};
 ghost use Rattle.table_box.specs.Spans.{IsSpan, AreAlike, span_in};
 ghost use Rattle.table_box.specs.Stretches.{IsStretch, box_of};
 ghost use Rattle.table_box.specs.Rows.{row_least, row_greatest};
 ghost use Rattle.table_box.specs.Mixes.{mixed};
-ghost use Rattle.table_box.specs.Cells.{AreMixable, IsAtMost, IsSmallCell};
+ghost use Rattle.table_box.specs.Cells.{AreEnds, AreMixable, IsAtMost, IsSmallCell};
 ghost use Rattle.table_box.specs.Ranges.{IsRange};
 
 use crate::place::Place;
 use crate::ranges::joined;
 use crate::stretch::Stretch;
-use crate::values::number_at;
+use crate::values::{number_at, value_on_line};
 use xt_model::Table;
 
 /// Two numbers, the first times how far a place lies below the second line, and the second times how far it lies above
@@ -121,55 +121,86 @@ impl<'a> Cell<'a> {
         floor(mixed(first, second, load), self.area)
     }
 
-    /// The least and the greatest value at one slew, over several loads in the cell: the values go one way, so it looks at
-    /// both ends.
-    fn row_range(&self, slew: &Place, loads: &Stretch) -> (i64, i64)
+    /// The value at one slew and the greatest of several loads, which lies in this cell, where that at the least of them
+    /// is `start`.
+    fn end_value(&self, slew: &Place, loads: &Stretch, start: i64) -> i64
         requires small { IsSmallCell self.now }
         requires slew { AreAlike (span_in self.now.slew.now) (span_in slew.now) }
         requires loads { IsStretch self.now.table.now.loads loads.now }
-        requires inside { IsTrue loads.now.inside }
-        requires start { self.now.load.now ≡ loads.now.start }
+        requires end { AreAlike (span_in self.now.load.now) (span_in loads.now.end) }
+        requires start { start
+            ≡ value_in self.now.table.now (span_in slew.now) (span_of self.now.table.now.loads loads.now.from) }
+        requires number { IsTableNumber start }
+        ensures value { result
+            ≡ value_in self.now.table.now (span_in slew.now) (span_of self.now.table.now.loads loads.now.to) }
+        ensures number { IsTableNumber result }
+    {
+        if loads.single {
+            return start;
+        }
+        self.value(slew, &loads.end)
+    }
+
+    /// The least and the greatest value at one slew, over several loads from this cell to another. It looks at both ends
+    /// and at the lines between them.
+    #[inline(always)]
+    fn row_range(&self, last: &Cell, slew: &Place, loads: &Stretch) -> (i64, i64)
+        requires ends { AreEnds self.now last.now loads.now }
+        requires slew { AreAlike (span_in self.now.slew.now) (span_in slew.now) }
         ensures least { result.0 ≡ row_least self.now.table.now (span_in slew.now) loads.now.from loads.now.to }
         ensures greatest { result.1 ≡ row_greatest self.now.table.now (span_in slew.now) loads.now.from loads.now.to }
     {
         let start = self.value(slew, &loads.start);
-        if loads.single {
-            return (start, start);
+        let end = last.end_value(slew, loads, start);
+        let mut range = joined((start, start), (end, end));
+        for line in loads.first..loads.last {
+            let value = value_on_line(self.table, slew, line);
+            range = joined(range, (value, value));
         }
-        let end = self.value(slew, &loads.end);
-        (start.min(end), start.max(end))
+        range
     }
 
-    /// The least and the greatest value over several slews and several loads in the cell: those at the ends.
-    fn range(&self, slews: &Stretch, loads: &Stretch) -> (i64, i64)
-        requires small { IsSmallCell self.now }
+    /// The least and the greatest value over several slews in the cell, and several loads from it to another.
+    fn range(&self, last: &Cell, slews: &Stretch, loads: &Stretch) -> (i64, i64)
+        requires ends { AreEnds self.now last.now loads.now }
         requires slews { IsStretch self.now.table.now.slews slews.now }
-        requires loads { IsStretch self.now.table.now.loads loads.now }
-        requires slews_inside { IsTrue slews.now.inside }
-        requires loads_inside { IsTrue loads.now.inside }
-        requires slews_start { self.now.slew.now ≡ slews.now.start }
-        requires loads_start { self.now.load.now ≡ loads.now.start }
+        requires inside { IsTrue slews.now.inside }
+        requires start { self.now.slew.now ≡ slews.now.start }
         ensures { IsRange self.now.table.now (box_of slews.now loads.now) result }
     {
-        let start = self.row_range(&slews.start, loads);
+        let start = self.row_range(last, &slews.start, loads);
         if slews.single {
             return start;
         }
-        joined(start, self.row_range(&slews.end, loads))
+        joined(start, self.row_range(last, &slews.end, loads))
     }
 }
 
-/// The least and the greatest value over several slews and several loads, where they lie in one cell with room for its
-/// sums in 64 bits.
+/// The cell of the greatest of several loads, where that of the least is `first`.
+fn last_cell<'a>(first: &Cell<'a>, loads: &'a Stretch) -> Option<Cell<'a>>
+    requires small { IsSmallCell first.now }
+    requires loads { IsStretch first.now.table.now.loads loads.now }
+    requires start { first.now.load.now ≡ loads.now.start }
+    ensures { IfSome result (λ last. AreEnds first.now last loads.now) }
+{
+    if loads.inside {
+        return Some(*first);
+    }
+    Cell::of(first.table, first.slew, &loads.end)
+}
+
+/// The least and the greatest value over several slews and several loads, where the slews lie in one cell, and 64 bits
+/// have room for the sums of the cells of both ends.
 pub(crate) fn cell_range(table: &Table, slews: &Stretch, loads: &Stretch) -> Option<(i64, i64)>
     requires table { IsTable table.now }
     requires slews { IsStretch table.now.slews slews.now }
     requires loads { IsStretch table.now.loads loads.now }
     ensures { IfSome result (λ range. IsRange table.now (box_of slews.now loads.now) range) }
 {
-    if !(slews.inside && loads.inside) {
+    if !slews.inside {
         return None;
     }
-    let cell = Cell::of(table, &slews.start, &loads.start)?;
-    Some(cell.range(slews, loads))
+    let first = Cell::of(table, &slews.start, &loads.start)?;
+    let last = last_cell(&first, loads)?;
+    Some(first.range(&last, slews, loads))
 }

@@ -71,6 +71,7 @@ fn lines_below(index: &[i64], x: i64, lines: usize) -> usize
 
 impl Stretch {
     /// The numbers from `from` to `to`. It costs two binary searches, or one where both are the same.
+    #[inline(always)]
     pub fn of(index: &[i64], from: i64, to: i64) -> Stretch
         requires index { IsIndex index.now }
         requires ordered { from ≤ℤ to }

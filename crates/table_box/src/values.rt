@@ -69,11 +69,14 @@ fn area(slew_width: i64, load_width: i64) -> i128
     i128::from(slew_width) * i128::from(load_width)
 }
 
-/// A fraction, rounded down.
+/// A fraction, rounded down, by 64 bits where its numbers fit.
 fn floor(sum: i128, area: i128) -> i128
     requires { pos 0 <ℤ area }
     ensures { result ≡ int_div_euclid sum area }
 {
+    if let (Ok(sum), Ok(area)) = (i64::try_from(sum), i64::try_from(area)) {
+        return i128::from(sum.div_euclid(area));
+    }
     sum.div_euclid(area)
 }
 

@@ -1,4 +1,4 @@
-use Rattle.std.proofs.Common.{◌≡◌, ◌∙◌, ap, to_z-of_z}
+use Rattle.std.proofs.Common.{◌∙◌, ap, to_z-of_z}
 use Rattle.xt_meaning.specs.Lookup.{span_of, value_in}
 use Rattle.table_box.specs.Spans.{span_in}
 use Rattle.table_box.proofs.Places.{number_word, placed_sound}

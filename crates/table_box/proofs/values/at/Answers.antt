@@ -1,5 +1,5 @@
 -- Both places are those of the definition.
-use Rattle.std.proofs.Common.{◌≡◌, ◌∙◌, ap, to_z-of_z}
+use Rattle.std.proofs.Common.{◌∙◌, ap, to_z-of_z}
 use Rattle.xt_meaning.specs.Lookup.{span_of, table_value, value_in}
 use Rattle.table_box.specs.Spans.{span_in}
 use Rattle.table_box.proofs.Places.{number_word, placed, placed_sound}

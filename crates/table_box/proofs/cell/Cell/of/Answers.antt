@@ -1,7 +1,6 @@
 -- Each number is small for the area, and the product is the area.
 use Rattle.std.proofs.Common.{◌≡◌, ◌∙◌, refl, sym, subst, ℤ, pos, ◌*ℤ◌, ◌<ℤ◌, to_z, of_z, to_z-of_z, w64, SFits, arith}
 use Rattle.std.proofs.lemmas.Int.{ints}
-use Rattle.table_box.specs.Cells.{IsAtMost}
 use Rattle.table_box.proofs.Bilinear.{area_positive}
 use Rattle.table_box.proofs.Places.{number_word}
 use Rattle.table_box.proofs.Widths.{factors_back}

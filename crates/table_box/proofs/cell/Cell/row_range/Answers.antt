@@ -1,65 +1,62 @@
--- No line lies between the ends, so the values go one way from one to the other.
-use Rattle.std.proofs.Common.{◌≡◌, ◌∙◌, ap, subst, ℤ, to_z, of_z, to_z-of_z, w64, arith}
+-- The loop looks at every line between the loads, and what holds at these and at both loads holds between.
+use Rattle.std.proofs.Common.{◌≡◌, ◌∙◌, ap, arith, to_z-of_z}
 use Rattle.std.specs.Int.{int_min, int_max}
-use Rattle.std.proofs.lemmas.Int.{ints, clamps}
-use Rattle.xt_model.specs.Tables.{IsTableNumber}
 use Rattle.xt_meaning.specs.Lookup.{span_of, value_in}
 use Rattle.table_box.specs.Rows.{row_least, row_greatest}
 use Rattle.table_box.specs.Spans.{span_in}
 use Rattle.table_box.proofs.Places.{greatest_back, least_back, number_word}
-use Rattle.table_box.proofs.Small.{alike_span, one_cell}
-use Rattle.table_box.proofs.Sweeps.{row_of_ends}
+use Rattle.table_box.proofs.Small.{alike_span}
+use Rattle.table_box.proofs.Sweeps.{row_begins, row_done, row_goes_on}
 use Rattle.table_box.proofs.cell.Cell.row_range.Goals as goal
 
--- one value is the least and the greatest of itself
-alone : (a : ℤ) → (a ≡ int_min a a) × (a ≡ int_max a a)
-alone a = (omega (arith, ints, clamps), omega (arith, ints, clamps))
+pub value-start-requires-clause-load : goal.value-start-requires-clause-load
+value-start-requires-clause-load c = c.requires.ends.start
 
-stored : (x : ℤ) → IsTableNumber x → to_z w64 (of_z w64 x) ≡ x
-stored x n = to_z-of_z (number_word x n)
+pub end_value-end-requires-clause-slew : goal.end_value-end-requires-clause-slew
+end_value-end-requires-clause-slew c = rw c.requires.ends.slew c.requires.slew
 
-single : (c : goal.Then-loads) → (c.value-start.result ≡ row_least c.args.self.now.table.now (span_in c.args.slew.now) c.args.loads.now.from c.args.loads.now.to)
-    × (c.value-start.result ≡ row_greatest c.args.self.now.table.now (span_in c.args.slew.now) c.args.loads.now.from c.args.loads.now.to)
-single c =
-    let k = c.args.self.now in let r = c.requires.loads in let s = span_in c.args.slew.now in let small = c.requires.small in
-    let start = c.value-start.ensures.value ∙ ap (value_in k.table.now s) r.start in
-    let end = c.value-start.ensures.value ∙ (ap (value_in k.table.now s) (r.start ∙ ap (span_of k.table.now.loads) (r.single c.if-loads.true))) in
-    row_of_ends k.table.now small.table s (alike_span _ _ s small.slew c.requires.slew) _ _ r.ordered _ _
-    c.value-start.result c.value-start.result c.value-start.result c.value-start.result r.first r.last (r.none_between c.requires.inside) start end
-    (alone c.value-start.result).0 (alone c.value-start.result).1
+pub end_value-end-requires-clause-loads : goal.end_value-end-requires-clause-loads
+end_value-end-requires-clause-loads c = rw c.requires.ends.table c.requires.ends.loads
 
-pub returns-then-loads-clause-least : goal.returns-then-loads-clause-least
-returns-then-loads-clause-least c = stored _ c.value-start.ensures.number ∙ (single c).0
+pub end_value-end-requires-clause-start : goal.end_value-end-requires-clause-start
+end_value-end-requires-clause-start c =
+    rw c.requires.ends.table (to_z-of_z (number_word _ c.value-start.ensures.number) ∙ (c.value-start.ensures.value ∙ ap (value_in c.args.self.now.table.now (span_in c.args.slew.now)) c.requires.ends.loads.start))
 
-pub returns-then-loads-clause-greatest : goal.returns-then-loads-clause-greatest
-returns-then-loads-clause-greatest c = stored _ c.value-start.ensures.number ∙ (single c).1
+pub value_on_line-value-requires-clause-slew : goal.value_on_line-value-requires-clause-slew
+value_on_line-value-requires-clause-slew c = alike_span _ _ (span_in c.args.slew.now) c.requires.ends.first.slew c.requires.slew
 
-pub value-end-requires-clause-load : goal.value-end-requires-clause-load
-value-end-requires-clause-load c =
-    let r = c.requires.loads in
-    rw c.requires.start (one_cell _ _ _ _ _ c.requires.small.table.loads r.start r.end (r.one_cell c.requires.inside))
+pub value_on_line-value-requires-clause-line : goal.value_on_line-value-requires-clause-line
+value_on_line-value-requires-clause-line c = let h = c.loop-line-test.true in let w = c.requires.ends.loads.last.within in omega (arith, h, w)
 
-both : (c : goal.After-max) → (c.min.result ≡ row_least c.args.self.now.table.now (span_in c.args.slew.now) c.args.loads.now.from c.args.loads.now.to)
-    × (c.max.result ≡ row_greatest c.args.self.now.table.now (span_in c.args.slew.now) c.args.loads.now.from c.args.loads.now.to)
+pub loop-line-init : goal.loop-line-init
+loop-line-init c =
+    let t = c.args.self.now.table.now in let s = span_in c.args.slew.now in let loads = c.args.loads.now in let r = c.requires.ends.loads in
+    let range = c.joined-range.result in let e = c.joined-range.ensures in
+    let end : c.end_value-end.result ≡ value_in t s (span_of t.loads loads.to) = rw c.requires.ends.table at c.end_value-end.ensures.value in
+    row_begins t c.requires.ends.first.table s (alike_span _ _ s c.requires.ends.first.slew c.requires.slew) loads.from loads.to r.ordered loads.first c.value-start.result c.end_value-end.result range.0 range.1
+    (c.value-start.ensures.value ∙ ap (value_in t s) r.start) end
+    (e.least ∙ least_back _ _ c.value-start.ensures.number c.end_value-end.ensures.number) (e.greatest ∙ greatest_back _ _ c.value-start.ensures.number c.end_value-end.ensures.number)
+
+pub loop-line-preserved : goal.loop-line-preserved
+loop-line-preserved c =
+    let t = c.args.self.now.table.now in let s = span_in c.args.slew.now in let loads = c.args.loads.now in let line = c.loop-line.line in let r = c.requires.ends.loads in
+    let range = c.loop-line.range in let more = c.joined-range-in-loop-line.result in
+    let e = c.joined-range-in-loop-line.ensures in let here = c.value_on_line-value.ensures in
+    row_goes_on t c.requires.ends.first.table s (alike_span _ _ s c.requires.ends.first.slew c.requires.slew) loads.from loads.to r.ordered loads.first loads.last line
+    c.value_on_line-value.result range.0 range.1 more.0 more.1 r.first r.last c.loop-line.auto.line c.loop-line-test.true
+    here.value
+    (e.least ∙ ap (int_min range.0) (to_z-of_z (number_word _ here.number))) (e.greatest ∙ ap (int_max range.1) (to_z-of_z (number_word _ here.number)))
+    c.loop-line.invariant
+
+both : (c : goal.After-loop-line) → (c.loop-line.range.0 ≡ row_least c.args.self.now.table.now (span_in c.args.slew.now) c.args.loads.now.from c.args.loads.now.to)
+    × (c.loop-line.range.1 ≡ row_greatest c.args.self.now.table.now (span_in c.args.slew.now) c.args.loads.now.from c.args.loads.now.to)
 both c =
-    let k = c.args.self.now in let r = c.requires.loads in let s = span_in c.args.slew.now in let small = c.requires.small in
-    let start = c.value-start.ensures.value ∙ ap (value_in k.table.now s) r.start in
-    let end = c.value-end.ensures.value ∙ ap (value_in k.table.now s) r.end in
-    row_of_ends k.table.now small.table s (alike_span _ _ s small.slew c.requires.slew) _ _ r.ordered _ _
-    c.value-start.result c.value-end.result c.min.result c.max.result r.first r.last (r.none_between c.requires.inside) start end
-    (c.min.ensures.value ∙ least_back _ _ c.value-start.ensures.number c.value-end.ensures.number)
-    (c.max.ensures.value ∙ greatest_back _ _ c.value-start.ensures.number c.value-end.ensures.number)
-
-stored_least : (a b x : ℤ) → IsTableNumber a → IsTableNumber b → x ≡ int_min a b → to_z w64 (of_z w64 x) ≡ x
-stored_least a b x m n e = omega (arith, ints, clamps, m, n, e)
-
-stored_greatest : (a b x : ℤ) → IsTableNumber a → IsTableNumber b → x ≡ int_max a b → to_z w64 (of_z w64 x) ≡ x
-stored_greatest a b x m n e = omega (arith, ints, clamps, m, n, e)
+    let loads = c.args.loads.now in let range = c.loop-line.range in let r = c.requires.ends.loads in let s = span_in c.args.slew.now in
+    row_done c.args.self.now.table.now c.requires.ends.first.table s (alike_span _ _ s c.requires.ends.first.slew c.requires.slew) loads.from loads.to r.ordered loads.first loads.last c.loop-line.line range.0 range.1
+    r.first r.last c.loop-line-test.false c.loop-line.invariant
 
 pub returns-clause-least : goal.returns-clause-least
-returns-clause-least c =
-    stored_least _ _ _ c.value-start.ensures.number c.value-end.ensures.number (c.min.ensures.value ∙ least_back _ _ c.value-start.ensures.number c.value-end.ensures.number) ∙ (both c).0
+returns-clause-least c = (both c).0
 
 pub returns-clause-greatest : goal.returns-clause-greatest
-returns-clause-greatest c =
-    stored_greatest _ _ _ c.value-start.ensures.number c.value-end.ensures.number (c.max.ensures.value ∙ greatest_back _ _ c.value-start.ensures.number c.value-end.ensures.number) ∙ (both c).1
+returns-clause-greatest c = (both c).1

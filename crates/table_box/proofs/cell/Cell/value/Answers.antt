@@ -1,6 +1,5 @@
 -- Each sum has room, and the quotient is that of the definition.
-use Rattle.std.proofs.Common.{◌≡◌, ◌∙◌, sym, subst, to_z, of_z, to_z-of_z, w64, arith}
-use Rattle.std.proofs.lemmas.Int.{ints}
+use Rattle.std.proofs.Common.{◌≡◌, ◌∙◌, sym, subst, to_z-of_z}
 use Rattle.xt_model.specs.Tables.{IsTableNumber}
 use Rattle.xt_meaning.specs.Lookup.{value_in}
 use Rattle.table_box.specs.Spans.{span_in}
