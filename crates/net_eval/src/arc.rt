@@ -34,6 +34,7 @@ fn wire_before<V: Bounds>(input: &Victim<V>, sink: usize) -> (i64, i64)
 
 /// The output window of an arc, from its input window, the range of the wire before it and the range of the
 /// load behind it.
+#[inline(always)]
 fn contribution(
     design: &Design,
     arc: &TimingArc,
@@ -69,6 +70,7 @@ fn contribution(
 }
 
 /// A window, joined with what an arc contributes, where its input can switch, to a net whose range of loads is `load`.
+#[inline(always)]
 pub(crate) fn with_arc<V: Bounds>(
     design: &Design,
     arc: &TimingArc,
