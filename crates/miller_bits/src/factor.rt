@@ -50,8 +50,8 @@ pub(crate) fn widest_factors(miller: Miller) -> (u8, u8)
     (least_factor(miller, true), greatest_factor(miller, true))
 }
 
-/// The factors of a coupling to an aggressor, of an edge with this window. Where the edge never switches, it looks at no
-/// other window.
+/// The factors of a coupling to an aggressor, of an edge with this window. Where the edge never switches, it looks at
+/// no other window.
 #[inline(always)]
 pub(crate) fn factors_of<V: Bounds>(
     design: &Design,

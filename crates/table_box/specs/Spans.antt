@@ -30,7 +30,7 @@ pub record LieBelow (xs : List ℤ) (x : ℤ) (n : ℕ) : Type 0 where
   pub reached : (j : ℕ) → j < n → slice_index_or xs j (pos 0) <ℤ x
   pub beyond : (j : ℕ) → n ≤ j → j < length xs → x ≤ℤ slice_index_or xs j (pos 0)
 
--- two places in one cell, the second sound: between the same two lines
+-- two places between the same two lines, of which the second is as far from each as these are apart
 pub record AreAlike (s r : Span) : Type 0 where
   pub first : s.first ≡ r.first
   pub second : s.second ≡ r.second

@@ -4,8 +4,8 @@ use Rattle.xt_meaning.specs.Lookup.{Box, span_of}
 use Rattle.table_box.specs.declared.stretch.Stretch.{Stretch}
 use Rattle.table_box.specs.Spans.{LieBelow, ReachUpTo, span_in}
 
--- the places of both ends on this axis, and the grid lines between them; none, and both ends in one cell, where they are
--- inside
+-- the places of both ends on this axis, and the grid lines between them: none, where the ends are said to be inside a
+-- cell, and then both have the same first line
 pub record IsStretch (xs : List ℤ) (r : Stretch) : Type 0 where
   pub ordered : r.from ≤ℤ r.to
   pub single : IsTrue r.single → r.from ≡ r.to

@@ -121,8 +121,8 @@ impl<'a> Cell<'a> {
         floor(mixed(first, second, load), self.area)
     }
 
-    /// The value at one slew and the greatest of several loads, which lies in this cell, where that at the least of them
-    /// is `start`.
+    /// The value at one slew and the greatest of several loads, which lies in this cell, where that at the least of
+    /// them is `start`.
     fn end_value(&self, slew: &Place, loads: &Stretch, start: i64) -> i64
         requires small { IsSmallCell self.now }
         requires slew { AreAlike (span_in self.now.slew.now) (span_in slew.now) }
@@ -141,8 +141,8 @@ impl<'a> Cell<'a> {
         self.value(slew, &loads.end)
     }
 
-    /// The least and the greatest value at one slew, over several loads from this cell to another. It looks at both ends
-    /// and at the lines between them.
+    /// The least and the greatest value at one slew, over several loads from this cell to another. It looks at both
+    /// ends and at the lines between them.
     #[inline(always)]
     fn row_range(&self, last: &Cell, slew: &Place, loads: &Stretch) -> (i64, i64)
         requires ends { AreEnds self.now last.now loads.now }

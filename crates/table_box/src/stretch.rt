@@ -8,8 +8,8 @@ use crate::lines::lines_up_to;
 use crate::place::Place;
 
 /// The numbers from one to another on an axis, in its unit: the places of both ends, and the numbers of the grid lines
-/// above the one and below the other, from `first` to before `last`. A single number is both ends. They are inside a cell
-/// where both ends lie in it and no line between them.
+/// above the one and below the other, from `first` to before `last`. A single number is both ends. They are inside a
+/// cell where both ends lie in it, and no line lies between them.
 #[derive(Clone, Copy, Debug)]
 pub(crate) struct Stretch {
     pub from: i64,
