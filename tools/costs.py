@@ -1,0 +1,93 @@
+#!/usr/bin/env python3
+"""Tells what a whole run of the gate costs, crate by crate, and which parts of a proof take long.
+
+    python3 tools/costs.py table PROOFS TESTS EDITS
+
+prints a table, in processor minutes, from three logs of timed commands: `rt check` in each crate, from nothing;
+`rt check --test` in each crate with tests, from nothing; `rt must-fail NAME`. A line of a log that counts has the name of a
+crate and behind it `TIMES` with the seconds of the clock, of the user and of the system, as bash prints them where
+TIMEFORMAT is 'TIMES %R %U %S'. Of several lines of a crate the dearest counts: a check that begins with what an earlier
+one kept is cheap. A minus stands where nothing was measured.
+
+    python3 tools/costs.py parts [SECONDS [CRATE ..]]
+
+prints the parts of checks that took longer, 10 seconds if nothing is said: `rt check --jobs 1` keeps each part of its
+work in the crate's folder out/ when the part is done, and the times of these files tell how long each took. A part is
+named after the function and what was made of it: `Proof`, with its goals; `Lts`, its steps, which grow with the ways
+out of it and with what each of them drops.
+"""
+import re
+import sys
+from pathlib import Path
+
+TOP = Path(__file__).resolve().parent.parent
+TIMES = re.compile(r"TIMES\s+([\d.]+)\s+([\d.]+)\s+([\d.]+)")
+
+
+def crates():
+    """The names of the crates, in the order of crates.txt."""
+    text = (TOP / "crates.txt").read_text(encoding="utf-8")
+    heads = [line.partition("#")[0].partition(":") for line in text.splitlines()]
+    return [head.split()[0] for head, colon, _ in heads if colon]
+
+
+def lines_of(name):
+    """How many lines of code, definitions and proofs a crate has."""
+    folder = TOP / "crates" / name
+    files = [file for part in ("src", "specs", "proofs") for file in (folder / part).rglob("*")]
+    return sum(len(file.read_bytes().splitlines()) for file in files if file.suffix in (".rt", ".antt"))
+
+
+def minutes(path, names):
+    """The processor minutes of each crate that the log has."""
+    found = {}
+    for line in Path(path).read_text(encoding="utf-8", errors="replace").splitlines():
+        times = TIMES.search(line)
+        name = next((word for word in line.split() if word in names), None)
+        if times and name:
+            found[name] = max(found.get(name, 0), (float(times[2]) + float(times[3])) / 60)
+    return found
+
+
+def table(logs):
+    names = crates()
+    columns = [minutes(log, set(names)) for log in logs]
+    shown = lambda value: "-" if value is None else f"{value:.1f}"
+    print("| Crate | Lines | Proof | Tests | Edits | All | For 1,000 lines |")
+    print("|---|---:|---:|---:|---:|---:|---:|")
+    sums, all_lines = [0.0] * len(columns), 0
+    rows = []
+    for name in names:
+        parts, lines = [column.get(name) for column in columns], lines_of(name)
+        whole = sum(part or 0 for part in parts)
+        rows.append((whole, name, lines, parts))
+        sums, all_lines = [a + (b or 0) for a, b in zip(sums, parts)], all_lines + lines
+    for whole, name, lines, parts in sorted(rows, reverse=True):
+        cells = " | ".join(shown(part) for part in parts)
+        print(f"| `{name}` | {lines:,} | {cells} | {whole:.1f} | {1000 * whole / max(lines, 1):.1f} |")
+    whole, cells = sum(sums), " | ".join(shown(part) for part in sums)
+    print(f"| all | {all_lines:,} | {cells} | {whole:.1f} | {1000 * whole / max(all_lines, 1):.1f} |")
+
+
+def parts(least, names):
+    rows = []
+    for name in names:
+        kept = (TOP / "crates" / name / "out" / "incremental").rglob(f"Rattle-{name}-*.oantt")
+        ended = sorted((file.stat().st_mtime, file.stem) for file in kept if file.parent.name != "records")
+        for (before, _), (end, part) in zip(ended, ended[1:]):
+            if end - before >= least:
+                rows.append((end - before, name, part.partition("-")[2].partition("-")[2]))
+    for seconds, name, part in sorted(rows, reverse=True):
+        print(f"{seconds:6.1f} s  {name}  {part}")
+
+
+def main(words):
+    if words[:1] == ["table"] and len(words) == 4:
+        table(words[1:])
+    elif words[:1] == ["parts"]:
+        parts(float(words[1]) if words[1:] else 10.0, words[2:] or crates())
+    else:
+        sys.exit(__doc__)
+
+
+main(sys.argv[1:])
