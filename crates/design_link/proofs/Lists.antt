@@ -4,7 +4,7 @@ use Rattle.std.specs.Prelude.{Option, Some, None, if◌then◌else◌}
 use Rattle.std.specs.List.{AllByRecursion, slice_get, enumerate_from, cons_option, position_or_len}
 use Rattle.std.proofs.Common.{arith, sym, ap, ◌∙◌}
 use Rattle.std.proofs.lemmas.Bool.{ltb-true}
-use Rattle.name_numbers.specs.Names.{◌>>=◌}
+use Rattle.xt_model.specs.Options.{◌>>=◌}
 
 -- ---- what comes one after another
 module _ {A B : Type 0} where

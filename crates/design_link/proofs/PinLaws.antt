@@ -6,7 +6,8 @@ use Rattle.std.specs.Prelude.{filter_map}
 use Rattle.std.proofs.Common.{arith, subst, length-append}
 use Rattle.std.proofs.lemmas.List.Elements.{recursion_from_All, All-append, All-cons}
 use Rattle.std.proofs.lemmas.Slice.Eq.{bytes_eq-Decides}
-use Rattle.name_numbers.specs.Names.{Text, ◌>>=◌}
+use Rattle.xt_model.specs.Options.{◌>>=◌}
+use Rattle.name_numbers.specs.Names.{Text}
 use Rattle.xt_model.specs.declared.edge.Edge.{Edge}
 use Rattle.xt_model.specs.declared.edge.Edge.TheVariants.{Rise, Fall}
 use Rattle.xt_model.specs.declared.net.TimingArc.{TimingArc}

@@ -8,7 +8,8 @@ use Rattle.xt_model.specs.declared.code.Code.TheVariants.{L3}
 use Rattle.xt_model.specs.Tables.{TableParts}
 use Rattle.liberty_groups.specs.Trees.{Entry, Tree, head_of}
 use Rattle.liberty_tables.specs.declared.units.Scales.{Scales}
-use Rattle.liberty_tables.specs.Refusals.{Meant, refuse, over, ◌>>=◌}
+use Rattle.xt_model.specs.Results.{◌>>=◌}
+use Rattle.liberty_tables.specs.Refusals.{Meant, refuse, over}
 use Rattle.liberty_tables.specs.Search.{attribute, contents, only}
 use Rattle.liberty_tables.specs.Templates.{Templates}
 use Rattle.liberty_cells.specs.declared.timing.Timing.{Timing}

@@ -6,7 +6,8 @@ use Rattle.xt_model.specs.declared.code.Code.TheVariants.{L1, L4}
 use Rattle.xt_model.specs.Tables.{TableParts}
 use Rattle.liberty_groups.specs.Trees.{Entry, Tree, head_of, groups_of}
 use Rattle.liberty_tables.specs.declared.units.Scales.{Scales}
-use Rattle.liberty_tables.specs.Refusals.{Meant, refuse, over, ◌>>=◌}
+use Rattle.xt_model.specs.Results.{◌>>=◌}
+use Rattle.liberty_tables.specs.Refusals.{Meant, refuse, over}
 use Rattle.liberty_tables.specs.Contents.{text_in, names_in}
 use Rattle.liberty_tables.specs.Search.{attribute, contents, only, groups_named, has_group}
 use Rattle.liberty_tables.specs.Templates.{Templates}

@@ -2,6 +2,7 @@
 use Rattle.std.specs.Prelude.{ℕ, nat_le, List, [], ◌∷◌, Option, Some, None, Result, Ok, Err, if◌then◌else◌}
 use Rattle.text_forms.specs.Forms.{Refusal}
 use Rattle.xt_model.specs.declared.code.Code.{Code}
+use Rattle.xt_model.specs.Results.{◌>>=◌}
 
 -- a value, or the refusal of the text
 abbrev pub Meant : Type 0 → Type 0
@@ -10,12 +11,6 @@ Meant A = Result A (Refusal Code)
 -- the text is refused at a line by a code
 abbrev pub refuse : {A : Type 0} → ℕ → Code → Meant A
 refuse line code = Err (record { line = line; code = code })
-
-infixl 10 ◌>>=◌
--- what comes behind a value is met where that is not refused
-abbrev pub ◌>>=◌ : {A B : Type 0} → Meant A → (A → Meant B) → Meant B
-(Ok x) >>= f = f x
-(Err r) >>= f = Err r
 
 -- the lesser of two lines
 abbrev pub lesser : ℕ → ℕ → ℕ

@@ -5,7 +5,8 @@ use Rattle.std.specs.Option.{IsSomeAnd}
 use Rattle.std.specs.Str.{bytes_eq}
 use Rattle.std.proofs.Common.{sym, ap, ◌∙◌}
 use Rattle.std.proofs.lemmas.Option.{slice_get-map}
-use Rattle.name_numbers.specs.Names.{Text, found, value_of, ◌>>=◌}
+use Rattle.xt_model.specs.Options.{◌>>=◌}
+use Rattle.name_numbers.specs.Names.{Text, found, value_of}
 use Rattle.name_numbers.proofs.NameLaws.{position_mapped}
 use Rattle.verilog_net.specs.declared.netlist.Instance.{Instance}
 use Rattle.verilog_net.specs.declared.netlist.Netlist.{Netlist}

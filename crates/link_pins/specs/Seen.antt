@@ -1,7 +1,7 @@
 -- What the values of the code stand for.
 use Rattle.std.specs.Prelude.{◌≡◌, ℕ, List, map, Option, Some}
 use Rattle.std.specs.List.{slice_get}
-use Rattle.name_numbers.specs.Names.{◌>>=◌}
+use Rattle.xt_model.specs.Options.{◌>>=◌}
 use Rattle.liberty_cells.specs.declared.library.Library.{Library}
 use Rattle.liberty_cells.specs.Pins.{PinParts}
 use Rattle.verilog_net.specs.declared.netlist.Netlist.{Netlist}

@@ -1,7 +1,8 @@
 -- The timing arcs into a net (Liberty reference manual: timing groups of an output pin).
 use Rattle.std.specs.Prelude.{ℕ, ◌==◌, ◌&&◌, Bool, List, [], ◌∷◌, find, position, flat_map, filter_map}
 use Rattle.std.specs.Prelude.{Option, Some, None, bytes_eq}
-use Rattle.name_numbers.specs.Names.{Text, ◌>>=◌}
+use Rattle.xt_model.specs.Options.{◌>>=◌}
+use Rattle.name_numbers.specs.Names.{Text}
 use Rattle.xt_model.specs.declared.edge.Edge.{Edge}
 use Rattle.xt_model.specs.declared.edge.Edge.TheVariants.{Rise, Fall}
 use Rattle.xt_model.specs.declared.net.TimingArc.{TimingArc}

@@ -1,7 +1,8 @@
 -- The check points of a design: at input pins of flip-flops, then at output ports.
 use Rattle.std.specs.Prelude.{ℕ, ◌+◌, Bool, true, false, ◌||◌, List, [], ◌∷◌, ◌++◌, length, flat_map, filter_map}
 use Rattle.std.specs.Prelude.{ℤ, Option, Some, None, is_some, if◌then◌else◌}
-use Rattle.name_numbers.specs.Names.{Text, ◌>>=◌}
+use Rattle.xt_model.specs.Options.{◌>>=◌}
+use Rattle.name_numbers.specs.Names.{Text}
 use Rattle.xt_model.specs.declared.check.CheckPoint.{CheckPoint}
 use Rattle.xt_model.specs.declared.check.CheckPoint.TheVariants as checks
 use Rattle.liberty_cells.specs.declared.library.Library.{Library}

@@ -2,7 +2,8 @@
 use Rattle.std.specs.Prelude.{ℕ, ◌==◌, [], ◌∷◌, find, position, Option, Some, None, unwrap_or, option_map}
 use Rattle.std.specs.Prelude.{bytes_eq, if◌then◌else◌}
 use Rattle.std.specs.List.{slice_get}
-use Rattle.name_numbers.specs.Names.{Text, value_of, ◌>>=◌}
+use Rattle.xt_model.specs.Options.{◌>>=◌}
+use Rattle.name_numbers.specs.Names.{Text, value_of}
 use Rattle.verilog_net.specs.declared.netlist.Netlist.{Netlist}
 use Rattle.spef_read.specs.declared.parasitics.Name.{Name}
 use Rattle.spef_read.specs.declared.parasitics.Parasitics.{Parasitics}

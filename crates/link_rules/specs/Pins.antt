@@ -1,7 +1,8 @@
 -- The pins of a netlist that are on nets.
 use Rattle.std.specs.Prelude.{ℕ, ◌+◌, ◌==◌, ◌&&◌, Bool, true, false, List, [], ◌∷◌, ◌++◌, find, filter, filter_map}
 use Rattle.std.specs.Prelude.{Option, Some, bytes_eq}
-use Rattle.name_numbers.specs.Names.{Text, ◌>>=◌}
+use Rattle.xt_model.specs.Options.{◌>>=◌}
+use Rattle.name_numbers.specs.Names.{Text}
 use Rattle.liberty_cells.specs.declared.library.Library.{Library}
 use Rattle.liberty_cells.specs.declared.cell.Cell.{Cell}
 use Rattle.liberty_cells.specs.declared.pin.Role.{Role}

@@ -16,7 +16,7 @@ use Rattle.linked_text.specs.Linked.{check_kind, table_field, delay_field, check
 use Rattle.linked_text.specs.Fields.{nine, between, count, delay, hold_of, or_dash, is_name}
 use Rattle.linked_text.specs.Fits.{IsSmaller}
 use Rattle.linked_text.specs.EachLine.{Around, has_sink, has_table, numbered, holds, flop_in, port_in, check_in}
-use Rattle.linked_text.specs.Steps.{◌>>=◌}
+use Rattle.xt_model.specs.Results.{◌>>=◌}
 use Rattle.linked_text.proofs.Options.{both_true, some_is}
 use Rattle.linked_text.proofs.Cuts.{name_sound, name_tested}
 use Rattle.linked_text.proofs.Inversions.{ok_step, ok_is, worded_ok, numbered_ok, word_ok, holds_ok, is_word, seven_is, nine_is}

@@ -11,7 +11,7 @@ use Rattle.std.proofs.lemmas.List.Elements.{recursion_from_All}
 use Rattle.std.proofs.lemmas.List.Sums.{passes_at_first, AllPass-from_list_all, list_all-from_AllPass}
 use Rattle.std.proofs.lemmas.Str.Parse.{digit_from_value}
 use Rattle.xt_model.specs.Names.{IsName}
-use Rattle.text_lines.specs.Steps.{◌>>=◌}
+use Rattle.xt_model.specs.Options.{◌>>=◌}
 use Rattle.linked_text.specs.Fields.{cut_at, number_of, negative_of, signed_of, is_name}
 use Rattle.linked_text.specs.Fits.{IsSmaller}
 use Rattle.linked_text.proofs.Options.{first_step, passed, both_true, some_is}

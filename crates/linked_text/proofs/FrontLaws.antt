@@ -16,7 +16,7 @@ use Rattle.linked_text.specs.declared.head.Counts.{Counts}
 use Rattle.linked_text.specs.Linked.{is_classical, version_word, period_field}
 use Rattle.linked_text.specs.Fields.{number_of, is_canonical, period}
 use Rattle.linked_text.specs.EachLine.{version_in, counts_in, period_in, factor, is_other_miller, miller_of, miller_in, end_in, numbered, well_written}
-use Rattle.linked_text.specs.Steps.{◌>>=◌}
+use Rattle.xt_model.specs.Results.{◌>>=◌}
 use Rattle.linked_text.specs.Fits.{IsSmaller}
 use Rattle.linked_text.proofs.Options.{both_true}
 use Rattle.linked_text.proofs.Cuts.{starts_low}

@@ -11,7 +11,7 @@ use Rattle.linked_text.specs.declared.fault.Fault.TheVariants as faults
 use Rattle.linked_text.specs.Fields.{one, two, three, four, five, seven, nine}
 use Rattle.linked_text.specs.EachLine.{worded, has_word, numbered, well_written, holds}
 use Rattle.linked_text.specs.Meaning.{keeps}
-use Rattle.linked_text.specs.Steps.{◌>>=◌}
+use Rattle.xt_model.specs.Results.{◌>>=◌}
 
 -- ---- steps
 

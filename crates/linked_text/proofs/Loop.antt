@@ -8,8 +8,8 @@ use Rattle.linked_text.specs.Gives.{Fails}
 use Rattle.linked_text.specs.declared.head.NetHead.{NetHead}
 use Rattle.linked_text.specs.declared.head.Sums.{Sums}
 use Rattle.linked_text.specs.Meaning.{Read, many_at, head_at, heads_at, sums_with}
-use Rattle.linked_text.specs.Steps.{◌>>=◌}
-use Rattle.text_lines.specs.Steps as options
+use Rattle.xt_model.specs.Results.{◌>>=◌}
+use Rattle.xt_model.specs.Options as options
 
 -- what was read before, and what is still read
 abbrev pub with_front : {A : Type 0} → List A → Read (List A) → Read (List A)

@@ -1,16 +1,11 @@
 -- What follows where a reader gave something.
-use Rattle.std.proofs.Common.{◌≡◌, ℕ, ◌<◌, Bool, true, false, cond, ◌&&◌, ◌⊎◌, inl, inr, Option, Some, None, refl}
-use Rattle.text_lines.specs.Steps.{◌>>=◌, or_else}
+use Rattle.std.proofs.Common.{◌≡◌, ℕ, ◌<◌, Bool, true, false, cond, ◌&&◌, Option, Some, None, refl}
+use Rattle.xt_model.specs.Options.{◌>>=◌}
 
 -- the value of the first of two steps that both gave something
 pub first_step : {A B : Type 0} {o : Option A} {f : A → Option B} {y : B} → (o >>= f) ≡ Some y → (x : A) × (o ≡ Some x) × (f x ≡ Some y)
 first_step {o = Some x} e = (x, refl, e)
 first_step {o = None} e = absurd cc
-
--- which of two gave it
-pub one_of : {A : Type 0} {o p : Option A} {y : A} → or_else o p ≡ Some y → (o ≡ Some y) ⊎ ((o ≡ None) × (p ≡ Some y))
-one_of {o = Some x} e = inl e
-one_of {o = None} e = inr (refl, e)
 
 -- a test that was passed
 pub passed : {A : Type 0} (b : Bool) (x y : A) → cond b (Some x) None ≡ Some y → (b ≡ true) × (x ≡ y)

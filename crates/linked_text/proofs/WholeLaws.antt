@@ -25,7 +25,7 @@ use Rattle.linked_text.specs.Linked.{is_classical, miller_lines, table_lines, ne
 use Rattle.linked_text.specs.EachLine.{version_in, counts_in, period_in, miller_in, check_in, end_in}
 use Rattle.linked_text.specs.Meaning.{Read, line_at, many_at, refuse, counts_at, miller_at, table_at, heads_at, nets_at, checks_at, no_sums, parts_at, end_at, closed_by, Ends, Comes, Means}
 use Rattle.linked_text.specs.Answers.{IsTextOf}
-use Rattle.linked_text.specs.Steps.{◌>>=◌}
+use Rattle.xt_model.specs.Results.{◌>>=◌}
 use Rattle.linked_text.proofs.Inversions.{ok_step, ok_is, keeps_ok, keeps_again}
 use Rattle.linked_text.proofs.LineLaws.{IsRead, line_read, many_takes, many_again, text_of_each}
 use Rattle.linked_text.proofs.FrontLaws.{version_line, versions, FitsCounts, counts_words, all_counts, FitsPeriod, period_words, periods, FitsMiller, miller_words, millers, classical_is, ends}

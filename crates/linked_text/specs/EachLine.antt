@@ -25,7 +25,7 @@ use Rattle.linked_text.specs.Linked.{is_classical}
 use Rattle.linked_text.specs.Fields.{one, two, three, four, five, seven, nine, number_of, count, size, in_table, time}
 use Rattle.linked_text.specs.Fields.{slew, cap, product, period, delay, each, is_canonical, is_name, edge_of, kind_of}
 use Rattle.linked_text.specs.Fields.{hold_of, or_dash, is_rising}
-use Rattle.linked_text.specs.Steps.{◌>>=◌}
+use Rattle.xt_model.specs.Results.{◌>>=◌}
 
 -- ---- the tests of a line
 

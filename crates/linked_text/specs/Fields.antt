@@ -13,7 +13,7 @@ use Rattle.xt_model.specs.declared.edge.Edge.TheVariants.{Rise, Fall}
 use Rattle.xt_model.specs.Limits.{most_time, most_slew, most_cap, most_product, most_delay, most_period, most_in_table}
 use Rattle.xt_model.specs.Limits.{most_lines, most_name}
 use Rattle.text_lines.specs.Lines.{Line}
-use Rattle.text_lines.specs.Steps.{◌>>=◌}
+use Rattle.xt_model.specs.Options.{◌>>=◌}
 
 -- what a function found, seen by view, is what the definition gives
 abbrev pub Finds : {X Y : Type 0} → (X → Y) → Option X → Option Y → Type 0

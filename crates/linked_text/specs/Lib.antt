@@ -2,7 +2,6 @@ pub mod Linked
 pub mod Writing
 pub mod Meaning
 pub mod Fields
-pub mod Steps
 pub mod Gives
 pub mod Answers
 pub mod EachLine

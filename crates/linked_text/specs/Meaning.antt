@@ -31,7 +31,7 @@ use Rattle.linked_text.specs.declared.fault.LinkedFault.TheVariants as linked
 use Rattle.linked_text.specs.Fields.{cut_at, fields_of}
 use Rattle.linked_text.specs.EachLine.{version_in, counts_in, period_in, miller_in, sizes_in, index_in, row_in, head_in}
 use Rattle.linked_text.specs.EachLine.{given_in, coupling_in, sink_in, arc_in, Around, check_in, end_in}
-use Rattle.linked_text.specs.Steps.{◌>>=◌}
+use Rattle.xt_model.specs.Results.{◌>>=◌}
 
 -- ---- lines
 

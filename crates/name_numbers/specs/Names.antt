@@ -1,8 +1,9 @@
 -- Names in the order in which they were first seen. A name is the list of its bytes.
 use Rattle.std.specs.Prelude.{ℕ, Bool, List, [], ◌∷◌, ◌++◌, map, position, if◌then◌else◌}
-use Rattle.std.specs.Prelude.{Option, Some, None, option_and_then}
+use Rattle.std.specs.Prelude.{Option, Some, None}
 use Rattle.std.specs.List.{list_any, position_or_len, slice_get}
 use Rattle.std.specs.Str.{bytes_eq}
+use Rattle.xt_model.specs.Options.{◌>>=◌}
 
 abbrev pub Text : Type 0
 Text = List ℕ
@@ -18,10 +19,6 @@ number_of name names = position_or_len (bytes_eq name) names
 -- the names once this one has been seen: a new one goes last
 abbrev pub with_name : Text → List Text → List Text
 with_name name names = if has_name name names then names else names ++ name ∷ []
-
-infixl 10 ◌>>=◌
-abbrev pub ◌>>=◌ : {A B : Type 0} → Option A → (A → Option B) → Option B
-o >>= f = option_and_then f o
 
 module _ {V : Type 0} where
   -- the number and the value of a name: the first place where it stands, and what stands there

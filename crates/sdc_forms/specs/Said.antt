@@ -1,10 +1,11 @@
 -- What a command says by its form, and its refusals by form: C1 before C2 before C3.
 use Rattle.std.specs.Prelude.{ℕ, ◌-◌, nat_lt, Bool, true, false, not, ◌||◌, ◌==◌, if◌then◌else◌}
 use Rattle.std.specs.Prelude.{List, [], ◌∷◌, length, take, drop, codes, Option, Some, None, Result, Ok, Err}
-use Rattle.std.specs.Prelude.{ℤ, pos, ◌+ℤ◌, option_and_then}
+use Rattle.std.specs.Prelude.{ℤ, pos, ◌+ℤ◌}
 use Rattle.std.specs.Str.{bytes_eq, str_eq_ignore_ascii_case}
 use Rattle.xt_model.specs.declared.code.Code.{Code}
 use Rattle.xt_model.specs.declared.code.Code.TheVariants.{C1, C2, C3}
+use Rattle.xt_model.specs.Options.{◌>>=◌}
 use Rattle.xt_number.specs.Value.{power_of}
 use Rattle.sdc_words.specs.Words.{Text, WordText}
 use Rattle.sdc_forms.specs.declared.command.CommandName.{CommandName}
@@ -13,10 +14,6 @@ use Rattle.sdc_forms.specs.declared.option.OptionName.TheVariants as options
 use Rattle.sdc_forms.specs.declared.picked.Picked.{Picked}
 use Rattle.sdc_forms.specs.Options.{command_named, text_in}
 use Rattle.sdc_forms.specs.Arranged.{GivenText, ArrangedText, arranged, words_fit, is_whole, is_given, value_of}
-
-infixl 10 ◌>>=◌
-abbrev pub ◌>>=◌ : {A B : Type 0} → Option A → (A → Option B) → Option B
-o >>= f = option_and_then f o
 
 -- what a command says: nothing, powers of ten for times and capacitances where it gives units, a clock, a number of
 -- times for ports, or a load

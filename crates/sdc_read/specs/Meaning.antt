@@ -19,7 +19,8 @@ use Rattle.sdc_read.specs.declared.change.Change.TheVariants as changes
 use Rattle.sdc_read.specs.declared.constraints.Clock.{Clock}
 use Rattle.sdc_read.specs.declared.ports.PortBit.{PortBit}
 use Rattle.sdc_read.specs.Ports.{Ports}
-use Rattle.sdc_read.specs.Objects.{◌>>=◌, change_objects, knows_clock, source_of, bit_name}
+use Rattle.xt_model.specs.Results.{◌>>=◌}
+use Rattle.sdc_read.specs.Objects.{change_objects, knows_clock, source_of, bit_name}
 
 -- the powers of ten by which times and capacitances are counted, the clock, and what is set for ports
 pub record State : Type 0 where

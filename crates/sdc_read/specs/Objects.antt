@@ -17,6 +17,7 @@ use Rattle.verilog_net.specs.Ports.{bits_of, port_of}
 use Rattle.sdc_words.specs.Items.{items_of}
 use Rattle.sdc_words.specs.Words.{Text, NamesText, One, Many, WordText}
 use Rattle.sdc_words.specs.Words as words
+use Rattle.xt_model.specs.Results.{◌>>=◌}
 use Rattle.sdc_read.specs.declared.change.Change.{Change}
 use Rattle.sdc_read.specs.declared.constraints.Clock.{Clock}
 use Rattle.sdc_read.specs.declared.ports.PortBit.{PortBit}
@@ -24,12 +25,6 @@ use Rattle.sdc_read.specs.declared.source.SourceBits.{SourceBits}
 use Rattle.sdc_read.specs.declared.source.SourceBits.TheVariants as sources
 use Rattle.sdc_read.specs.Ports.{Ports}
 use Rattle.sdc_read.specs.Changes.{Bits, role_for, over_first, change_bits}
-
-infixl 10 ◌>>=◌
--- what comes behind a value is met where that is not refused
-abbrev pub ◌>>=◌ : {A B : Type 0} → Result A Code → (A → Result B Code) → Result B Code
-(Ok x) >>= f = f x
-(Err code) >>= f = Err code
 
 -- the names of a list
 abbrev pub names_in : NamesText → List Text

@@ -8,13 +8,13 @@ use Rattle.xt_lex.specs.declared.rules.Rules.TheVariants.{Sdc}
 use Rattle.xt_lex.specs.declared.text_fault.TextFault.{TextFault}
 use Rattle.xt_lex.specs.declared.text_fault.TextFault.TheVariants as faults
 use Rattle.xt_model.specs.declared.code.Code.{Code}
+use Rattle.xt_model.specs.Results.{◌>>=◌}
 use Rattle.xt_model.specs.declared.code.Code.TheVariants.{C1}
 use Rattle.verilog_net.specs.Nets.{Nets}
 use Rattle.sdc_words.specs.Words.{CommandText, commands_of}
 use Rattle.sdc_forms.specs.Said.{said_by_words}
 use Rattle.sdc_read.specs.declared.constraints.Constraints.{Constraints}
 use Rattle.sdc_read.specs.Ports.{settled}
-use Rattle.sdc_read.specs.Objects.{◌>>=◌}
 use Rattle.sdc_read.specs.Meaning.{State, nothing, means}
 
 -- a value, or the refusal of the text
@@ -30,14 +30,10 @@ at_line line (Err code) = Err (record { line = line; code = code })
 abbrev pub command_means : Nets → CommandText → State → Result State Code
 command_means nets c s = said_by_words c.words >>= λ said. means nets said s
 
-abbrev pub and_then : {A B : Type 0} → Meant A → (A → Meant B) → Meant B
-and_then (Ok x) f = f x
-and_then (Err r) f = Err r
-
 -- what commands mean, one after another
 abbrev pub commands_mean : Nets → List CommandText → State → Meant State
 commands_mean nets [] s = Ok s
-commands_mean nets (c ∷ cs) s = and_then (at_line c.line (command_means nets c s)) (commands_mean nets cs)
+commands_mean nets (c ∷ cs) s = at_line c.line (command_means nets c s) >>= commands_mean nets cs
 
 -- a fault of the tokens is met before everything else
 abbrev pub by_fault : {A : Type 0} → Option LexFault → Meant A → Meant A

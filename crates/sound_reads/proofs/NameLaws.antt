@@ -6,7 +6,8 @@ use Rattle.std.specs.Str.{bytes_eq}
 use Rattle.std.proofs.Common.{arith, cond}
 use Rattle.std.proofs.lemmas.Bool.{ltb-false}
 use Rattle.std.proofs.lemmas.List.{length-map}
-use Rattle.name_numbers.specs.Names.{Text, found, with_value, ◌>>=◌}
+use Rattle.xt_model.specs.Options.{◌>>=◌}
+use Rattle.name_numbers.specs.Names.{Text, found, with_value}
 
 -- ---- an item that is there
 module _ {X : Type 0} where

@@ -8,7 +8,8 @@ use Rattle.std.proofs.Math.Numerals.{one-add}
 use Rattle.std.proofs.lemmas.Bool.{lt-ltb, le-ltb, false≢true, false_from_ne_true, and_parts, or_cases, leb-true, cases_lt}
 use Rattle.std.proofs.lemmas.List.{take_at}
 use Rattle.std.proofs.lemmas.Slice.Eq.{bytes_eq-Decides}
-use Rattle.name_numbers.specs.Names.{Text, found, value_of, with_value, ◌>>=◌}
+use Rattle.xt_model.specs.Options.{◌>>=◌}
+use Rattle.name_numbers.specs.Names.{Text, found, value_of, with_value}
 use Rattle.verilog_net.specs.declared.netlist.Net.{Net}
 use Rattle.verilog_net.specs.Sorts.{is_name}
 use Rattle.verilog_net.specs.Nets.{Nets, most_bit, has_bit, named_bit, bit_from, BitNets, bit_nets_of, with_bit_net, with_net_at, with_net, has_bit_net}

@@ -31,9 +31,10 @@ use Rattle.sdc_read.specs.declared.ports.Sides.{Sides}
 use Rattle.sdc_read.specs.declared.ports.PortSides.{PortSides}
 use Rattle.sdc_read.specs.Ports.{Ports, unset, found_sides, with_sides, or_other, filled, or_zero, settled, IsTime, IsSize, AreTimes, AreSizes, AreInRange, AllInRange, IsInRange}
 use Rattle.sdc_read.specs.Changes.{chosen, with_number, changed, role_for, is_input_delay, is_clock, or_unset, change_bit, over_first, bit_at, bit_count, Bits, change_bits, IsChange}
-use Rattle.sdc_read.specs.Objects.{◌>>=◌, names_in, port_names, all_of, named_bits, net_bits, has_role, same_role, change_found, change_names, change_if, change_all, change_as, change_objects, knows_clock, source_of, bit_name}
+use Rattle.xt_model.specs.Results.{◌>>=◌}
+use Rattle.sdc_read.specs.Objects.{names_in, port_names, all_of, named_bits, net_bits, has_role, same_role, change_found, change_names, change_if, change_all, change_as, change_objects, knows_clock, source_of, bit_name}
 use Rattle.sdc_read.specs.Meaning.{State, nothing, with_units, taken, number_in, at_least, number_from, fall_in, or_name, with_clock, create_clock, bit_of, change_ports, if_known, means}
-use Rattle.sdc_read.specs.Reading.{Meant, at_line, command_means, and_then, commands_mean, by_fault, constraints_in, constraints_of}
+use Rattle.sdc_read.specs.Reading.{Meant, at_line, command_means, commands_mean, by_fault, constraints_in, constraints_of}
 use Rattle.sdc_read.proofs.PortLaws.{entered_in_range, found_in_range}
 
 -- ---- numbers
@@ -233,7 +234,7 @@ module _ (nets : Nets) (s s' : State) (h : Fine s) where
       ports_changed (changes.Load g.0) ports (size_is number s.cap g.0 g.1) g.2
 
 command_by : (nets : Nets) (c : CommandText) (r : Result State Code) (cs : List CommandText) (s' : State) → ((s : State) → r ≡ Ok s → Fine s)
-    → ((s : State) → Fine s → commands_mean nets cs s ≡ Ok s' → Fine s') → and_then (at_line c.line r) (commands_mean nets cs) ≡ Ok s' → Fine s'
+    → ((s : State) → Fine s → commands_mean nets cs s ≡ Ok s' → Fine s') → (at_line c.line r >>= commands_mean nets cs) ≡ Ok s' → Fine s'
 command_by nets c (Err code) cs s' f g e = absurd (cc)
 command_by nets c (Ok s) cs s' f g e = g s (f s refl) e
 

@@ -4,7 +4,8 @@ use Rattle.std.specs.Prelude.{List, [], ◌∷◌, ◌++◌, length, take, Optio
 use Rattle.std.specs.Fmt.{decimal}
 use Rattle.std.specs.Str.{bytes_eq}
 use Rattle.std.specs.List.{list_any}
-use Rattle.name_numbers.specs.Names.{Text, found, value_of, with_value, ◌>>=◌}
+use Rattle.xt_model.specs.Options.{◌>>=◌}
+use Rattle.name_numbers.specs.Names.{Text, found, value_of, with_value}
 use Rattle.verilog_net.specs.declared.netlist.Net.{Net}
 use Rattle.verilog_net.specs.declared.netlist.PortRole.{PortRole}
 use Rattle.verilog_net.specs.declared.netlist.PortRole.TheVariants.{Input, Output, Inner}

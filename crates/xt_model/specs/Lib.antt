@@ -12,3 +12,5 @@ pub mod Build
 pub mod Couples
 pub mod visits
 pub mod Codes
+pub mod Options
+pub mod Results

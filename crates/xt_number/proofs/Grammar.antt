@@ -13,7 +13,8 @@ use Rattle.std.proofs.lemmas.List.Folds.{length-prefix_len}
 use Rattle.std.proofs.lemmas.Str.{digit_value_digit}
 use Rattle.std.proofs.lemmas.Str.Parse.{digit_from_value}
 use Rattle.xt_number.specs.Numeral.{Numeral, IsSign, fraction_bytes, IsExponent, IsNumber}
-use Rattle.xt_number.specs.Reading.{◌>>=◌, signed_at, digits_at, fraction_at, is_numeral, exponent_at, has_digit, with_digit, numeral_of}
+use Rattle.xt_model.specs.Options.{◌>>=◌}
+use Rattle.xt_number.specs.Reading.{signed_at, digits_at, fraction_at, is_numeral, exponent_at, has_digit, with_digit, numeral_of}
 
 -- ---- digits
 

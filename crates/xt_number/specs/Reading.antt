@@ -3,13 +3,8 @@ use Rattle.std.specs.Prelude.{◌≡◌, ℕ, nat_lt, ◌==◌, Bool, true, fals
 use Rattle.std.specs.Prelude.{List, [], ◌∷◌, length, drop, Option, Some, None}
 use Rattle.std.specs.List.{prefix_len, take_while, list_all}
 use Rattle.std.specs.Char.{is_ascii_digit}
+use Rattle.xt_model.specs.Options.{◌>>=◌}
 use Rattle.xt_number.specs.Numeral.{Numeral}
-
-infixl 10 ◌>>=◌
--- goes on with what was read, if anything
-abbrev pub ◌>>=◌ : {A B : Type 0} → Option A → (A → Option B) → Option B
-(Some x) >>= f = f x
-None >>= f = None
 
 -- What a function returned, seen by view, is what reading gives.
 abbrev pub Gives : {X Y : Type 0} → (X → Y) → Option X → Option Y → Type 0

@@ -7,13 +7,10 @@ use Rattle.std.specs.List.{find, list_all, list_any, before_first, after_first}
 use Rattle.std.specs.Str.{bytes_eq}
 use Rattle.std.specs.Str.Parse.{digits_value}
 use Rattle.clap.specs.Lexer.{long_of}
+use Rattle.xt_model.specs.Options.{◌>>=◌}
 
 abbrev pub Text : Type 0
 Text = List ℕ
-
-infixl 10 ◌>>=◌
-abbrev pub ◌>>=◌ : {A B : Type 0} → Option A → (A → Option B) → Option B
-o >>= f = option_and_then f o
 
 -- ---- forms
 

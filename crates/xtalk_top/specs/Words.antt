@@ -10,7 +10,8 @@ use Rattle.design_gen.specs.Laws.{IsCount}
 pub use Rattle.xtalk_top.specs.Forms.{bytes_of}
 pub use Rattle.xtalk_top.specs.Grammar.{Text}
 use Rattle.xtalk_top.specs.Grammar.{CommandForm, OptionForm, given_of, number, number_of, one_of, rising_three}
-use Rattle.xtalk_top.specs.Grammar.{three_of, value_of, ◌>>=◌}
+use Rattle.xt_model.specs.Options.{◌>>=◌}
+use Rattle.xtalk_top.specs.Grammar.{three_of, value_of}
 use Rattle.xtalk_top.specs.declared.words.CommandName.{CommandName}
 use Rattle.xtalk_top.specs.declared.words.CommandName.TheVariants as command
 use Rattle.xtalk_top.specs.declared.words.BlockFiles.{BlockFiles}

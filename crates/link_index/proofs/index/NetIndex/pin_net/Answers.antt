@@ -3,7 +3,7 @@ use Rattle.std.specs.List.{slice_get}
 use Rattle.std.specs.Str.{bytes_eq}
 use Rattle.std.proofs.lemmas.Option.{slice_get_read}
 use Rattle.std.proofs.lemmas.Slice.Zip.{AllZip-long}
-use Rattle.name_numbers.specs.Names.{◌>>=◌}
+use Rattle.xt_model.specs.Options.{◌>>=◌}
 use Rattle.link_rules.specs.Bits.{net_of}
 use Rattle.link_rules.specs.Nodes.{pin_net}
 use Rattle.link_index.proofs.FirstLaws.{place_within}

@@ -1,0 +1,7 @@
+-- One step behind another, each of which gives a value or nothing.
+use Rattle.std.specs.Prelude.{Option, option_and_then}
+
+infixl 10 ◌>>=◌
+-- nothing comes of nothing
+abbrev pub ◌>>=◌ : {A B : Type 0} → Option A → (A → Option B) → Option B
+o >>= f = option_and_then f o
