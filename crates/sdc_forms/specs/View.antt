@@ -7,8 +7,6 @@ use Rattle.xt_number.specs.declared.fault.NumberFault.TheVariants.{Form}
 use Rattle.sdc_forms.specs.declared.arranged.Given.{Given}
 use Rattle.sdc_forms.specs.declared.said.Said.{Said}
 use Rattle.sdc_forms.specs.declared.said.Said.TheVariants as saids
-use Rattle.sdc_forms.specs.declared.stop.Stop.{Stop}
-use Rattle.sdc_forms.specs.declared.stop.Stop.TheVariants.{Refused, NoMemory}
 use Rattle.sdc_forms.specs.Arranged.{GivenText}
 use Rattle.sdc_forms.specs.Said.{Nothing, Units, Clock, InputDelay, OutputDelay, InputTransition, Load}
 use Rattle.sdc_forms.specs.Said as meant
@@ -43,9 +41,3 @@ HasPowers _ = Unit {0}
 abbrev pub is_form : Result ℤ NumberFault → Bool
 is_form (Err Form) = true
 is_form _ = false
-
--- the answer is what is defined, or memory was wanted
-abbrev pub Computes : {A B : Type 0} → (A → B) → Result A Stop → Result B Code → Type 0
-Computes view (Ok x) meaning = meaning ≡ Ok (view x)
-Computes view (Err NoMemory) meaning = Unit {0}
-Computes view (Err (Refused code)) meaning = meaning ≡ Err code

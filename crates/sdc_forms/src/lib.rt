@@ -7,10 +7,8 @@ mod option;
 mod picked;
 mod said;
 mod slot;
-mod stop;
 mod units;
 
 pub use picked::Picked;
 pub use said::{Said, said_by_words};
 pub use slot::text_in;
-pub use stop::Stop;

@@ -6,17 +6,18 @@ ghost use Rattle.sdc_forms.specs.Said.{picked_of, text_of_word, power_if, number
 ghost use Rattle.sdc_forms.specs.Said.{time_power, cap_power, units_said, clock_said, input_delay_said};
 ghost use Rattle.sdc_forms.specs.Said.{output_delay_said, transition_said, load_said, whole_said, version_said};
 ghost use Rattle.sdc_forms.specs.Said.{set_said, said_as, said_by_words};
-ghost use Rattle.sdc_forms.specs.View.{said_text, IsPower, HasPowers, Computes};
+ghost use Rattle.text_forms.specs.Stops.{Computes};
+ghost use Rattle.sdc_forms.specs.View.{said_text, IsPower, HasPowers};
 
 use crate::arranged::Arranged;
 use crate::command::CommandName;
 use crate::option::OptionName;
 use crate::picked::Picked;
 use crate::slot::text_in;
-use crate::stop::Stop;
 use crate::units::{cap_power, time_power};
 use sdc_words::Word;
 use std::alloc::Global;
+use text_forms::Stop;
 use xt_model::{Code, Row};
 
 /// What a command says.

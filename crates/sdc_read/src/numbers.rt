@@ -3,10 +3,10 @@
 ghost use Rattle.std.specs.Prelude.{◌≡◌, ◌^◌, ℤ, pos, neg_ℤ, ◌≤ℤ◌, ◌<ℤ◌, option_map, map, IfOk};
 ghost use Rattle.sdc_words.specs.Items.{items_of};
 ghost use Rattle.sdc_read.specs.Meaning.{number_in, number_from, fall_within, fall_of, fall_in, two_of, IsScale};
-ghost use Rattle.sdc_read.specs.View.{Computes};
+ghost use Rattle.text_forms.specs.Stops.{Computes};
 
-use sdc_forms::Stop;
 use sdc_words::first_item;
+use text_forms::Stop;
 use xt_model::Code;
 use xt_number::read_fixed;
 

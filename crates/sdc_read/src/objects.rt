@@ -7,15 +7,16 @@ ghost use Rattle.sdc_read.specs.Changes.{role_for, change_bits, IsChange};
 ghost use Rattle.sdc_read.specs.Objects.{names_in, port_names, clock_names, all_of, named_bits, is_some_listed};
 ghost use Rattle.sdc_read.specs.Objects.{has_role, over_all, change_found, change_names, change_all};
 ghost use Rattle.sdc_read.specs.Objects.{change_role, change_objects};
-ghost use Rattle.sdc_read.specs.View.{Changes, bits_text};
+ghost use Rattle.text_forms.specs.Stops.{Changes};
+ghost use Rattle.sdc_read.specs.View.{bits_text};
 
 use crate::change::{Bits, Change, change_bits};
 use crate::listed::{ListedNetlist, named_bits, same_role};
 use crate::port_table::SetPorts;
 use crate::ports::PortBit;
-use sdc_forms::Stop;
 use sdc_words::{NameList, Word, first_item};
 use std::alloc::AllocError;
+use text_forms::Stop;
 use verilog_net::PortRole;
 use xt_model::Code;
 

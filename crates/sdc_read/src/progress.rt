@@ -8,7 +8,7 @@ ghost use Rattle.sdc_read.specs.Meaning.{nothing, or_same, with_units, create_cl
 ghost use Rattle.sdc_read.specs.Meaning.{if_known, or_name, IsScale, IsClock};
 ghost use Rattle.sdc_read.specs.Ports.{settled};
 ghost use Rattle.sdc_read.specs.Objects.{bit_name, knows_clock};
-ghost use Rattle.sdc_read.specs.View.{Changes};
+ghost use Rattle.text_forms.specs.Stops.{Changes};
 
 use crate::change::Change;
 use crate::clocks::knows_clock;
@@ -19,10 +19,11 @@ use crate::objects::change_objects;
 use crate::port_table::{PortTable, SetPorts};
 use crate::ports::PortBit;
 use crate::source::{bit_name, source_of};
-use sdc_forms::{Said, Stop};
+use sdc_forms::Said;
 use sdc_words::Word;
 use std::alloc::{AllocError, Global};
 use std::marker::Model;
+use text_forms::Stop;
 use verilog_net::Name;
 use xt_model::Code;
 

@@ -4,14 +4,15 @@ ghost use Rattle.std.specs.Prelude.{◌≤◌, length, IfSome, IfOk};
 ghost use Rattle.sdc_words.specs.View.{command_text};
 ghost use Rattle.sdc_read.specs.Meaning.{IsScale, IsClock};
 ghost use Rattle.sdc_read.specs.Reading.{command_means, commands_mean, constraints_of, ChangesText, Gives};
-ghost use Rattle.sdc_read.specs.View.{Changes};
+ghost use Rattle.text_forms.specs.Stops.{Changes};
 
 use crate::constraints::Constraints;
 use crate::listed::ListedNetlist;
 use crate::progress::Progress;
-use sdc_forms::{Stop, said_by_words};
+use sdc_forms::said_by_words;
 use sdc_words::{Command, Commands};
 use std::alloc::Global;
+use text_forms::Stop;
 use verilog_net::Netlist;
 use xt_lex::{LexFault, MOST_BYTES, Rules, TextFault, find_fault};
 use xt_model::Code;

@@ -6,16 +6,17 @@ ghost use Rattle.sdc_words.specs.View.{word_text, names_text};
 ghost use Rattle.sdc_read.specs.Objects.{names_in, with_bits, over_all, source_found, source_names, source_all};
 ghost use Rattle.sdc_read.specs.Objects.{one_bit, source_of, bit_name, named_bits};
 ghost use Rattle.verilog_net.specs.declared.netlist.PortRole.TheVariants as roles;
-ghost use Rattle.sdc_read.specs.View.{Computes, bits_text};
+ghost use Rattle.text_forms.specs.Stops.{Computes};
+ghost use Rattle.sdc_read.specs.View.{bits_text};
 
 use crate::change::Bits;
 use crate::listed::{ListedNetlist, named_bits};
 use crate::objects::{all_of, port_names};
 use crate::ports::PortBit;
 use itoa::Buffer;
-use sdc_forms::Stop;
 use sdc_words::{NameList, Word, first_item};
 use std::alloc::{AllocError, Global};
+use text_forms::Stop;
 use verilog_net::{Name, Netlist, PortRole};
 use xt_model::Code;
 

@@ -6,7 +6,8 @@ ghost use Rattle.spef_read.specs.Forms.{misfit, separator_of, quantity_of, first
 ghost use Rattle.spef_read.specs.Forms.{header_forms, flow_forms, unit_forms, pairs_forms, pair_name_forms};
 ghost use Rattle.spef_read.specs.Forms.{skipped_forms, forms_in, is_done, Only};
 ghost use Rattle.text_forms.specs.Tokens.{token_of};
-ghost use Rattle.spef_read.specs.View.{said, whole_of, refusal_of, refusal_at, IsOther, Gives};
+ghost use Rattle.text_forms.specs.Stops.{refusal_of, Gives};
+ghost use Rattle.spef_read.specs.View.{said, whole_of, refusal_at, IsOther};
 
 use crate::context::Context;
 use crate::item::{FormRead, Item, Quantity, Separator};
@@ -14,9 +15,8 @@ use crate::net_forms::{
     cap_second, cap_value, capacitors, connection, connections, lists, net_name, net_total,
     res_second, res_value, resistors, totalled,
 };
-use crate::refusal::Refused;
 use crate::sort::Sort;
-use text_forms::{Term, Terms};
+use text_forms::{Refused, Term, Terms};
 use xt_model::Code;
 
 /// A form that was read, whose last token stands in this line.

@@ -9,10 +9,8 @@ mod names;
 mod net_forms;
 mod parasitics;
 mod read;
-mod refusal;
 mod sort;
 mod state;
-mod stop;
 mod values;
 mod words;
 

@@ -2,14 +2,14 @@
 
 ghost use Rattle.std.specs.Prelude.{◌≡◌, ℕ, List, false, ◌++◌, OnOk};
 ghost use Rattle.spef_read.specs.Names.{meant, unescaped, has_size, sized, mapped_name, whole_name, pair_name};
-ghost use Rattle.spef_read.specs.View.{Changes, Computes};
+ghost use Rattle.text_forms.specs.Stops.{Changes, Computes};
 
 use crate::marks::Marks;
-use crate::stop::Stop;
 use crate::words::{are_digits, split_at_mark, without_zeros};
 use name_numbers::Named;
 use std::alloc::{AllocError, Global};
 use std::marker::Model;
+use text_forms::Stop;
 use xt_model::Code;
 
 /// The greatest number of bytes of a name.

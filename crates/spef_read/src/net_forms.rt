@@ -6,14 +6,14 @@ ghost use Rattle.spef_read.specs.Forms.{net_name_forms, net_total_forms, lists_f
 ghost use Rattle.spef_read.specs.Forms.{connections_forms, connection_forms, capacitors_forms, cap_second_forms};
 ghost use Rattle.spef_read.specs.Forms.{cap_value_forms, resistors_forms, res_second_forms, res_value_forms};
 ghost use Rattle.text_forms.specs.Tokens.{token_of};
-ghost use Rattle.spef_read.specs.View.{whole_of, Gives};
+ghost use Rattle.text_forms.specs.Stops.{Gives};
+ghost use Rattle.spef_read.specs.View.{whole_of};
 
 use crate::context::Context;
 use crate::forms::{any, done, refused};
 use crate::item::{FormRead, Item};
-use crate::refusal::Refused;
 use crate::sort::Sort;
-use text_forms::{Term, Terms};
+use text_forms::{Refused, Term, Terms};
 use xt_model::Code;
 
 /// The end of a net, from its token on.

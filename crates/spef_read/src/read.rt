@@ -11,9 +11,8 @@ use crate::forms::{is_done, read_form, refused};
 use crate::parasitics::Parasitics;
 use crate::sort::Sort;
 use crate::state::Progress;
-use crate::stop::Stop;
 use std::alloc::Global;
-use text_forms::Terms;
+use text_forms::{Stop, Terms};
 use xt_lex::{Code, LexFault, MOST_BYTES, Rules, TextFault, find_fault};
 
 /// Reads one form and does what it says.

@@ -6,18 +6,19 @@ ghost use Rattle.spef_read.specs.Meaning.{set_brackets, unit_number, set_unit, w
 ghost use Rattle.spef_read.specs.Meaning.{net_name, net_total, first_node, cap_node, res_node, cap_value, res_value};
 ghost use Rattle.spef_read.specs.Meaning.{end_net, means};
 ghost use Rattle.spef_read.specs.Reading.{parasitics_in};
-ghost use Rattle.spef_read.specs.View.{said, Changes, Answers, Computes};
+ghost use Rattle.text_forms.specs.Stops.{Changes, Answers, Computes};
+ghost use Rattle.spef_read.specs.View.{said};
 
 use crate::item::{Item, Quantity, Separator};
 use crate::marks::Marks;
 use crate::names::{MapName, pair_name, whole_name};
 use crate::parasitics::{CapText, Name, Parasitics, ResText, WireText};
-use crate::stop::Stop;
 use crate::values::{unit_power, value_of};
 use crate::words::without_zeros;
 use name_numbers::{NameTable, Named};
 use std::alloc::Global;
 use std::marker::Model;
+use text_forms::Stop;
 use xt_model::{Code, Row};
 use xt_number::power_of_ten;
 

@@ -2,11 +2,11 @@
 
 ghost use Rattle.std.specs.Prelude.{◌≡◌, ℤ, pos, ◌≤ℤ◌, IfSome, IfOk};
 ghost use Rattle.spef_read.specs.Meaning.{is_same, one_of, unit_power, value_of, IsScale};
-ghost use Rattle.spef_read.specs.View.{Computes};
+ghost use Rattle.text_forms.specs.Stops.{Computes};
 
 use crate::item::Quantity;
-use crate::stop::Stop;
 use crate::words::counted;
+use text_forms::Stop;
 use xt_model::Code;
 use xt_number::read_fixed;
 

@@ -1,3 +1,4 @@
 pub mod Forms
 pub mod Meaning
 pub mod Tokens
+pub mod Stops

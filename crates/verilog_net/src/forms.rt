@@ -8,14 +8,14 @@ ghost use Rattle.verilog_net.specs.Forms.{module_name_forms, header_forms, liste
 ghost use Rattle.verilog_net.specs.Forms.{left_bound_forms, right_bound_forms, declared_forms, opening_forms};
 ghost use Rattle.verilog_net.specs.Forms.{pins_forms, pin_forms, connection_forms, bit_given_forms};
 ghost use Rattle.verilog_net.specs.Forms.{connected_forms, closed_forms, forms_in, is_done};
-ghost use Rattle.verilog_net.specs.View.{said, whole_of, refusal_of, refusal_at, IsOther, Gives};
+ghost use Rattle.text_forms.specs.Stops.{refusal_of, Gives};
+ghost use Rattle.verilog_net.specs.View.{said, whole_of, refusal_at, IsOther};
 
 use crate::context::Context;
 use crate::item::{FormRead, Item};
 use crate::netlist::PortRole;
-use crate::refusal::Refused;
 use crate::sort::Sort;
-use text_forms::{Term, Terms};
+use text_forms::{Refused, Term, Terms};
 use xt_model::Code;
 
 /// A form that was read, whose last token stands in this line.

@@ -9,10 +9,8 @@ mod netlist;
 mod nets;
 mod port;
 mod read;
-mod refusal;
 mod sort;
 mod state;
-mod stop;
 
 pub use name::Name;
 pub use netlist::{Instance, Modules, Net, Netlist, PortRole, Wire};

@@ -12,9 +12,8 @@ use crate::forms::{is_done, read_form, refused};
 use crate::netlist::{Modules, Netlist};
 use crate::sort::Sort;
 use crate::state::Progress;
-use crate::stop::Stop;
 use std::alloc::Global;
-use text_forms::Terms;
+use text_forms::{Stop, Terms};
 use xt_lex::{Code, LexFault, MOST_BYTES, Rules, TextFault, find_fault};
 use xt_model::Row;
 

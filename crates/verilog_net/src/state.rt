@@ -7,17 +7,18 @@ ghost use Rattle.verilog_net.specs.Meaning.{nothing, begin_module, name_module, 
 ghost use Rattle.verilog_net.specs.Meaning.{with_further, declare_new};
 ghost use Rattle.verilog_net.specs.Meaning.{declare_scalar, left_bound, right_bound, begin_further, begin_instance};
 ghost use Rattle.verilog_net.specs.Meaning.{begin_pin, connect, connect_name, connect_bit, end_instance, means};
-ghost use Rattle.verilog_net.specs.View.{said, Changes};
+ghost use Rattle.text_forms.specs.Stops.{Changes};
+ghost use Rattle.verilog_net.specs.View.{said};
 
 use crate::item::Item;
 use crate::name::Name;
 use crate::netlist::{Instance, Net, Netlist, PortRole, Wire};
 use crate::nets::{has_bit, has_bit_net, is_port, named_bit, note_net, number_of, same_range};
-use crate::stop::Stop;
 use name_numbers::{NameTable, Named, Names};
 use std::alloc::Global;
 use std::marker::Model;
 use std::mem;
+use text_forms::Stop;
 use xt_model::{Code, Row};
 
 /// The greatest number of names whose memory serves again for the pins of the next instance.

@@ -1,4 +1,5 @@
-use Rattle.spef_read.specs.View.{whole_of, refusal_of}
+use Rattle.text_forms.specs.Stops.{refusal_of}
+use Rattle.spef_read.specs.View.{whole_of}
 use Rattle.spef_read.proofs.Steps.{form_goes_on, meaning_refused, form_is_refused, fewer}
 use Rattle.spef_read.proofs.read.step.Goals as goal
 

@@ -1,12 +1,19 @@
-//! Why a state goes no further.
+//! Why what a text says means nothing.
 
 ghost use Rattle.std.specs.Prelude.{◌≡◌};
-ghost use Rattle.verilog_net.specs.declared.stop.Stop.TheVariants.{NoMemory};
+ghost use Rattle.text_forms.specs.declared.stop.Stop.TheVariants.{NoMemory};
 
 use std::alloc::{AllocError, AllocFailed};
 use xt_model::Code;
 
-/// Why a form means nothing: it is refused, or memory was wanted and there was none.
+/// Why a form is none, and at which line.
+#[derive(Clone, Copy, Debug, PartialEq, Eq)]
+pub struct Refused {
+    pub line: u32,
+    pub code: Code,
+}
+
+/// Why a form or a command means nothing: it is refused, or memory was wanted and there was none.
 #[derive(Clone, Copy, Debug, PartialEq, Eq, Drop)]
 pub enum Stop {
     Refused(Code),
