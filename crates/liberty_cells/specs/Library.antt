@@ -3,7 +3,7 @@ use Rattle.std.specs.Prelude.{ℕ, List, Ok}
 use Rattle.liberty_groups.specs.Trees.{Tree}
 use Rattle.liberty_groups.specs.Library.{library_of}
 use Rattle.xt_model.specs.Results.{◌>>=◌}
-use Rattle.liberty_tables.specs.Refusals.{Meant}
+use Rattle.text_forms.specs.Refusals.{Meant}
 use Rattle.liberty_tables.specs.Units.{units_of}
 use Rattle.liberty_tables.specs.Templates.{templates_of}
 use Rattle.liberty_cells.specs.declared.library.Library.{Library}

@@ -3,7 +3,7 @@ use Rattle.std.specs.Prelude.{ℕ, List, [], ◌∷◌, Ok, if◌then◌else◌}
 use Rattle.std.specs.List.{list_all}
 use Rattle.name_numbers.specs.Names.{Text}
 use Rattle.xt_model.specs.declared.code.Code.TheVariants.{L1}
-use Rattle.liberty_tables.specs.Refusals.{Meant, refuse}
+use Rattle.text_forms.specs.Refusals.{Meant, refuse}
 use Rattle.liberty_tables.specs.Contents.{is_name}
 
 -- some names, or a refusal at this line

@@ -2,7 +2,7 @@
 
 ghost use Rattle.std.specs.Prelude.{◌≡◌, [], OnOk};
 ghost use Rattle.liberty_groups.specs.Trees.{tree_of};
-ghost use Rattle.liberty_groups.specs.View.{Gives};
+ghost use Rattle.text_forms.specs.Stops.{Gives};
 ghost use Rattle.liberty_tables.specs.Units.{AreScales};
 ghost use Rattle.liberty_cells.specs.Cells.{names_of, add_cell, cells_of};
 

@@ -2,7 +2,7 @@
 
 ghost use Rattle.std.specs.Prelude.{◌≡◌, List, ℕ, not, map, IfOk, OnOk};
 ghost use Rattle.name_numbers.specs.Names.{has_name, with_name};
-ghost use Rattle.liberty_groups.specs.View.{Gives};
+ghost use Rattle.text_forms.specs.Stops.{Gives};
 ghost use Rattle.liberty_tables.specs.Contents.{content, names_in};
 ghost use Rattle.liberty_cells.specs.Names.{some_names};
 

@@ -2,7 +2,7 @@
 
 ghost use Rattle.std.specs.Prelude.{◌≡◌, ◌≤ℤ◌, pos, neg_ℤ, IfOk, option_map};
 ghost use Rattle.liberty_groups.specs.Trees.{entry_of};
-ghost use Rattle.liberty_groups.specs.View.{Gives};
+ghost use Rattle.text_forms.specs.Stops.{Gives};
 ghost use Rattle.liberty_cells.specs.Kinds.{kind_of, sense_of, role_of};
 ghost use Rattle.liberty_cells.specs.Pins.{cap_of};
 

@@ -1,6 +1,5 @@
 -- What the forms of a Liberty text make of it, one after another.
 use Rattle.std.specs.Prelude.{ℕ, List, [], ◌∷◌, ◌++◌, Option, Some, None, Result, Ok, Err}
-use Rattle.text_forms.specs.Forms.{Refusal}
 use Rattle.xt_model.specs.declared.code.Code.{Code}
 use Rattle.xt_model.specs.declared.code.Code.TheVariants.{L1}
 use Rattle.liberty_groups.specs.declared.span.Span.{Span}
@@ -50,8 +49,3 @@ step items.Ends u = Ok (record { groups = settled u.entry u.groups; entry = None
 step items.Opens u = Ok (record { groups = opened u.entry u.groups; entry = None })
 step items.TooDeep u = Err L1
 step items.Closes u = Ok (record { groups = closed (settled u.entry u.groups); entry = None })
-
--- what a form of this line makes of a text, or its refusal there
-abbrev pub made_at : ℕ → Result Unfinished Code → Result Unfinished (Refusal Code)
-made_at line (Ok u) = Ok u
-made_at line (Err code) = Err (record { line = line; code = code })

@@ -1,9 +1,11 @@
 //! A library that was read in part.
 
 ghost use Rattle.std.specs.Prelude.{◌≡◌, [], ◌∷◌, OnOk, MatchOption, option_map};
-ghost use Rattle.liberty_groups.specs.Building.{nothing_read, made_at, step, settled, opened, closed, with_value};
+ghost use Rattle.liberty_groups.specs.Building.{nothing_read, step, settled, opened, closed, with_value};
 ghost use Rattle.liberty_groups.specs.Trees.{entry_of, tree_of};
-ghost use Rattle.liberty_groups.specs.View.{unfinished, innermost_first, Gives, first};
+ghost use Rattle.text_forms.specs.Forms.{at_line};
+ghost use Rattle.text_forms.specs.Stops.{Gives};
+ghost use Rattle.liberty_groups.specs.View.{unfinished, innermost_first, first};
 
 use crate::group::{Attribute, Group};
 use crate::item::{FormRead, Item};
@@ -105,7 +107,7 @@ impl Building {
     /// What a form makes of the text before it.
     pub fn act(&mut self, alloc: Global, read: FormRead) -> Result<(), TextFault>
         ensures { Gives (λ _. unfinished self.new) result
-            (made_at read.line (step read.item (unfinished self.old))) }
+            (at_line read.line (step read.item (unfinished self.old))) }
     {
         match read.item {
             Item::Nothing => {}

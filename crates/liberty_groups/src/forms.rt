@@ -5,13 +5,14 @@ ghost use Rattle.liberty_groups.specs.Grammar.{misfit, start_forms, args_forms, 
 ghost use Rattle.liberty_groups.specs.Grammar.{named_forms, first_value_forms, values_forms, behind_forms};
 ghost use Rattle.liberty_groups.specs.Grammar.{forms_in, first_form, after_group};
 ghost use Rattle.text_forms.specs.Tokens.{token_of};
-ghost use Rattle.liberty_groups.specs.View.{whole_of, refusal_of, refusal_at, Reads};
+ghost use Rattle.text_forms.specs.Stops.{refusal_of, Reads};
+ghost use Rattle.liberty_groups.specs.View.{whole_of, refusal_at};
 
 use crate::context::Context;
-use crate::item::{FormRead, Item, Misfit};
+use crate::item::{FormRead, Item};
 use crate::sort::Sort;
 use crate::span::span_of;
-use text_forms::{Term, Terms};
+use text_forms::{Refused, Term, Terms};
 use xt_lex::MOST_BYTES;
 use xt_model::Code;
 
@@ -39,10 +40,10 @@ pub fn misfit(sort: Sort) -> Code
 
 /// The refusal of a token that does not fit.
 #[inline]
-fn refused(term: Term<'_, Sort>) -> Misfit
+fn refused(term: Term<'_, Sort>) -> Refused
     ensures { refusal_of result ≡ record { line = term.entry.line; code = misfit term.entry.sort } }
 {
-    Misfit {
+    Refused {
         line: term.line,
         code: misfit(term.sort),
     }
@@ -50,14 +51,14 @@ fn refused(term: Term<'_, Sort>) -> Misfit
 
 /// The next token.
 #[inline]
-fn any<'a>(terms: &mut Terms<'a, Sort>) -> Result<Term<'a, Sort>, Misfit>
+fn any<'a>(terms: &mut Terms<'a, Sort>) -> Result<Term<'a, Sort>, Refused>
     ensures next { MatchResult result (λ t. terms.old ≡ token_of t ∷ terms.new)
         (λ r. (terms.old ≡ []) × (refusal_of r ≡ refusal_at [])) }
     ensures within { IfOk result (λ t. t.from + length t.text.now ≤ MOST_BYTES) }
 {
     match terms.next_term() {
         Some(term) => Ok(term),
-        None => Err(Misfit {
+        None => Err(Refused {
             line: 1,
             code: Code::L2,
         }),
@@ -65,7 +66,7 @@ fn any<'a>(terms: &mut Terms<'a, Sort>) -> Result<Term<'a, Sort>, Misfit>
 }
 
 /// At the start of a text.
-fn at_start(terms: &mut Terms<'_, Sort>) -> Result<FormRead, Misfit>
+fn at_start(terms: &mut Terms<'_, Sort>) -> Result<FormRead, Refused>
     ensures { Reads (λ r. (whole_of r, terms.new)) result (first_form start_forms terms.old) }
 {
     let first = any(terms)?;
@@ -86,7 +87,7 @@ fn at_start(terms: &mut Terms<'_, Sort>) -> Result<FormRead, Misfit>
 }
 
 /// Within parentheses, behind which `next` comes.
-fn in_args(here: Context, next: Context, terms: &mut Terms<'_, Sort>) -> Result<FormRead, Misfit>
+fn in_args(here: Context, next: Context, terms: &mut Terms<'_, Sort>) -> Result<FormRead, Refused>
     ensures { Reads (λ r. (whole_of r, terms.new)) result (first_form (args_forms here next) terms.old) }
 {
     let first = any(terms)?;
@@ -101,7 +102,7 @@ fn in_args(here: Context, next: Context, terms: &mut Terms<'_, Sort>) -> Result<
 }
 
 /// Behind the parentheses of the library.
-fn at_library(terms: &mut Terms<'_, Sort>) -> Result<FormRead, Misfit>
+fn at_library(terms: &mut Terms<'_, Sort>) -> Result<FormRead, Refused>
     ensures { Reads (λ r. (whole_of r, terms.new)) result (first_form library_forms terms.old) }
 {
     let first = any(terms)?;
@@ -128,7 +129,7 @@ fn item_from(
     first: Term<'_, Sort>,
     depth: u32,
     terms: &mut Terms<'_, Sort>,
-) -> Result<FormRead, Misfit>
+) -> Result<FormRead, Refused>
     requires { first.from + length first.text.now ≤ MOST_BYTES }
     ensures { Reads (λ r. (whole_of r, terms.new)) result
         (first_form (item_forms depth) (token_of first.entry ∷ terms.old)) }
@@ -150,7 +151,7 @@ fn item_from(
 }
 
 /// Where an item may begin.
-fn at_item(depth: u32, terms: &mut Terms<'_, Sort>) -> Result<FormRead, Misfit>
+fn at_item(depth: u32, terms: &mut Terms<'_, Sort>) -> Result<FormRead, Refused>
     ensures { Reads (λ r. (whole_of r, terms.new)) result (first_form (item_forms depth) terms.old) }
 {
     let first = any(terms)?;
@@ -158,7 +159,7 @@ fn at_item(depth: u32, terms: &mut Terms<'_, Sort>) -> Result<FormRead, Misfit>
 }
 
 /// Behind the parentheses of a group or of an attribute.
-fn at_named(depth: u32, terms: &mut Terms<'_, Sort>) -> Result<FormRead, Misfit>
+fn at_named(depth: u32, terms: &mut Terms<'_, Sort>) -> Result<FormRead, Refused>
     ensures { Reads (λ r. (whole_of r, terms.new)) result (first_form (named_forms depth) terms.old) }
 {
     let first = any(terms)?;
@@ -175,7 +176,7 @@ fn at_named(depth: u32, terms: &mut Terms<'_, Sort>) -> Result<FormRead, Misfit>
 }
 
 /// Behind the colon of an attribute.
-fn at_first_value(depth: u32, terms: &mut Terms<'_, Sort>) -> Result<FormRead, Misfit>
+fn at_first_value(depth: u32, terms: &mut Terms<'_, Sort>) -> Result<FormRead, Refused>
     ensures { Reads (λ r. (whole_of r, terms.new)) result (first_form (first_value_forms depth) terms.old) }
 {
     let first = any(terms)?;
@@ -190,7 +191,7 @@ fn at_first_value(depth: u32, terms: &mut Terms<'_, Sort>) -> Result<FormRead, M
 }
 
 /// Behind a value of such an attribute.
-fn in_values(depth: u32, terms: &mut Terms<'_, Sort>) -> Result<FormRead, Misfit>
+fn in_values(depth: u32, terms: &mut Terms<'_, Sort>) -> Result<FormRead, Refused>
     ensures { Reads (λ r. (whole_of r, terms.new)) result (first_form (values_forms depth) terms.old) }
 {
     let first = any(terms)?;
@@ -206,7 +207,7 @@ fn in_values(depth: u32, terms: &mut Terms<'_, Sort>) -> Result<FormRead, Misfit
 }
 
 /// Behind the library.
-fn behind(terms: &mut Terms<'_, Sort>) -> Result<FormRead, Misfit>
+fn behind(terms: &mut Terms<'_, Sort>) -> Result<FormRead, Refused>
     ensures { Reads (λ r. (whole_of r, terms.new)) result (first_form behind_forms terms.old) }
 {
     let first = any(terms)?;
@@ -218,7 +219,7 @@ fn behind(terms: &mut Terms<'_, Sort>) -> Result<FormRead, Misfit>
 }
 
 /// The next form; behind the text's end no token fits.
-pub fn form(context: Context, terms: &mut Terms<'_, Sort>) -> Result<FormRead, Misfit>
+pub fn form(context: Context, terms: &mut Terms<'_, Sort>) -> Result<FormRead, Refused>
     ensures { Reads (λ r. (whole_of r, terms.new)) result (first_form (forms_in context) terms.old) }
 {
     match context {

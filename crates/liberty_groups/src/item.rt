@@ -1,12 +1,7 @@
 //! What a form of a library says.
 
-ghost use Rattle.std.specs.Prelude.{◌≡◌};
-ghost use Rattle.xt_lex.specs.declared.text_fault.TextFault.TheVariants.{Refused};
-
 use crate::context::Context;
 use crate::span::Span;
-use xt_lex::TextFault;
-use xt_model::Code;
 
 /// What a form says.
 #[derive(Clone, Copy, Debug, PartialEq, Eq)]
@@ -32,22 +27,4 @@ pub struct FormRead {
     pub item: Item,
     pub line: u32,
     pub next: Context,
-}
-
-/// A token that does not fit: its line, and the code for it.
-#[derive(Clone, Copy, Debug, PartialEq, Eq)]
-pub struct Misfit {
-    pub line: u32,
-    pub code: Code,
-}
-
-impl From<Misfit> for TextFault {
-    ghost from_gives = { λ m e. e ≡ Refused m.line m.code };
-
-    fn from(misfit: Misfit) -> TextFault {
-        TextFault::Refused {
-            line: misfit.line,
-            code: misfit.code,
-        }
-    }
 }

@@ -4,7 +4,8 @@ ghost use Rattle.std.specs.Prelude.{◌≡◌, ◌≤◌, length};
 ghost use Rattle.liberty_groups.specs.Building.{nothing_read};
 ghost use Rattle.liberty_groups.specs.Trees.{tree_of};
 ghost use Rattle.liberty_groups.specs.Library.{rest_means, library_of};
-ghost use Rattle.liberty_groups.specs.View.{unfinished, Gives};
+ghost use Rattle.text_forms.specs.Stops.{Gives};
+ghost use Rattle.liberty_groups.specs.View.{unfinished};
 ghost use Rattle.liberty_groups.specs.declared.context.Context.TheVariants.{Start};
 
 use crate::building::Building;
@@ -13,8 +14,8 @@ use crate::forms::{form, misfit};
 use crate::group::Group;
 use crate::sort::Sort;
 use std::alloc::Global;
-use text_forms::Terms;
-use xt_lex::{LexFault, MOST_BYTES, Rules, TextFault, find_fault};
+use text_forms::{Terms, tokens_refused};
+use xt_lex::{MOST_BYTES, Rules, TextFault};
 use xt_model::Code;
 
 /// What the tokens of a text without a fault make of it.
@@ -51,20 +52,8 @@ pub fn read_groups(alloc: Global, bytes: &[u8]) -> Result<Group, TextFault>
     requires { length bytes.now ≤ MOST_BYTES }
     ensures { Gives tree_of result (library_of bytes.now) }
 {
-    match find_fault(bytes, Rules::Liberty) {
-        Some(LexFault::Byte(line)) => {
-            return Err(TextFault::Refused {
-                line,
-                code: Code::L1,
-            });
-        }
-        Some(LexFault::Unended(line)) => {
-            return Err(TextFault::Refused {
-                line,
-                code: Code::L2,
-            });
-        }
-        Some(LexFault::NoMemory) | None => {}
+    if let Some(refused) = tokens_refused(bytes, Rules::Liberty, Code::L1, Code::L2) {
+        return Err(TextFault::from(refused));
     }
     let mut terms = Terms::new(bytes, Rules::Liberty);
     let building = build(alloc, &mut terms)?;

@@ -1,16 +1,8 @@
 -- Refusals in the order in which they are met.
-use Rattle.std.specs.Prelude.{ℕ, nat_le, List, [], ◌∷◌, Option, Some, None, Result, Ok, Err, if◌then◌else◌}
-use Rattle.text_forms.specs.Forms.{Refusal}
+use Rattle.std.specs.Prelude.{ℕ, nat_le, List, [], ◌∷◌, Option, Some, None, Ok, if◌then◌else◌}
+use Rattle.text_forms.specs.Refusals.{Meant, refuse}
 use Rattle.xt_model.specs.declared.code.Code.{Code}
 use Rattle.xt_model.specs.Results.{◌>>=◌}
-
--- a value, or the refusal of the text
-abbrev pub Meant : Type 0 → Type 0
-Meant A = Result A (Refusal Code)
-
--- the text is refused at a line by a code
-abbrev pub refuse : {A : Type 0} → ℕ → Code → Meant A
-refuse line code = Err (record { line = line; code = code })
 
 -- the lesser of two lines
 abbrev pub lesser : ℕ → ℕ → ℕ

@@ -15,7 +15,8 @@ use Rattle.liberty_tables.specs.declared.axis.Index.{Index}
 use Rattle.liberty_tables.specs.declared.axis.Axis.{Axis}
 use Rattle.liberty_tables.specs.declared.axis.Axes.{Axes}
 use Rattle.liberty_tables.specs.declared.template.Template.{Template}
-use Rattle.liberty_tables.specs.Refusals.{Meant, refuse, earlier, unless_at}
+use Rattle.text_forms.specs.Refusals.{Meant, refuse}
+use Rattle.liberty_tables.specs.Refusals.{earlier, unless_at}
 use Rattle.liberty_tables.specs.Search.{attribute, contents, only}
 use Rattle.liberty_tables.specs.Numbers.{numbers_of}
 use Rattle.liberty_tables.specs.Axes.{own_axis}

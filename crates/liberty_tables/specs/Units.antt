@@ -7,7 +7,8 @@ use Rattle.xt_model.specs.declared.code.Code.TheVariants.{L8}
 use Rattle.xt_number.specs.Value.{power_of}
 use Rattle.liberty_groups.specs.Trees.{Entry, Tree}
 use Rattle.liberty_tables.specs.declared.units.Scales.{Scales}
-use Rattle.liberty_tables.specs.Refusals.{Meant, refuse, lesser}
+use Rattle.text_forms.specs.Refusals.{Meant, refuse}
+use Rattle.liberty_tables.specs.Refusals.{lesser}
 use Rattle.liberty_tables.specs.Search.{attribute, contents, only}
 
 -- scales that units may give

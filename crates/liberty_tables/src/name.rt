@@ -3,7 +3,7 @@
 ghost use Rattle.std.specs.Prelude.{IfOk};
 ghost use Rattle.xt_model.specs.Names.{IsName};
 ghost use Rattle.liberty_groups.specs.Trees.{tree_of};
-ghost use Rattle.liberty_groups.specs.View.{Gives};
+ghost use Rattle.text_forms.specs.Stops.{Gives};
 ghost use Rattle.liberty_tables.specs.Templates.{only_name};
 
 use crate::contents::only;

@@ -2,7 +2,7 @@
 
 ghost use Rattle.std.specs.Prelude.{◌≡◌, ◌≤ℤ◌, ◌+◌, ◌*◌, ◌<◌, length, pos, neg_ℤ, true, IfOk, option_map};
 ghost use Rattle.liberty_groups.specs.Trees.{tree_of, entry_of};
-ghost use Rattle.liberty_groups.specs.View.{Gives};
+ghost use Rattle.text_forms.specs.Stops.{Gives};
 ghost use Rattle.liberty_tables.specs.Units.{AreScales};
 ghost use Rattle.liberty_tables.specs.Tables.{is_turned, arranged, by_columns};
 ghost use Rattle.liberty_tables.specs.Tables.{index_line, is_increasing, is_index, pairing_fault};

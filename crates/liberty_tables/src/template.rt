@@ -2,7 +2,7 @@
 
 ghost use Rattle.std.specs.Prelude.{◌≡◌, IfOk};
 ghost use Rattle.liberty_groups.specs.Trees.{tree_of};
-ghost use Rattle.liberty_groups.specs.View.{Gives};
+ghost use Rattle.text_forms.specs.Stops.{Gives};
 ghost use Rattle.liberty_tables.specs.Units.{AreScales};
 ghost use Rattle.liberty_tables.specs.Templates.{no_axes, axes_for, axes_of, template_of, add_template, templates_of};
 

@@ -2,7 +2,7 @@
 
 ghost use Rattle.std.specs.Prelude.{◌≡◌, ◌≤ℤ◌, ◌+ℤ◌, pos, neg_ℤ, IfOk, IfSome, option_map};
 ghost use Rattle.liberty_groups.specs.Trees.{tree_of, entry_of};
-ghost use Rattle.liberty_groups.specs.View.{Gives};
+ghost use Rattle.text_forms.specs.Stops.{Gives};
 ghost use Rattle.liberty_tables.specs.Units.{AreScales, time_scale, farads, scaled_unit, time_unit, cap_unit, units_of};
 
 use crate::contents::{content, only};

@@ -3,8 +3,8 @@
 ghost use Rattle.std.specs.Prelude.{◌≤◌, length, IfSome, IfOk};
 ghost use Rattle.sdc_words.specs.View.{command_text};
 ghost use Rattle.sdc_read.specs.Meaning.{IsScale, IsClock};
-ghost use Rattle.sdc_read.specs.Reading.{command_means, commands_mean, constraints_of, ChangesText, Gives};
-ghost use Rattle.text_forms.specs.Stops.{Changes};
+ghost use Rattle.sdc_read.specs.Reading.{command_means, commands_mean, constraints_of};
+ghost use Rattle.text_forms.specs.Stops.{Changes, Gives};
 
 use crate::constraints::Constraints;
 use crate::listed::ListedNetlist;
@@ -12,9 +12,9 @@ use crate::progress::Progress;
 use sdc_forms::said_by_words;
 use sdc_words::{Command, Commands};
 use std::alloc::Global;
-use text_forms::Stop;
+use text_forms::{Stop, tokens_refused};
 use verilog_net::Netlist;
-use xt_lex::{LexFault, MOST_BYTES, Rules, TextFault, find_fault};
+use xt_lex::{MOST_BYTES, Rules, TextFault};
 use xt_model::Code;
 
 /// Does what a command means.
@@ -37,18 +37,11 @@ fn read_all(
     commands: &mut Commands<'_>,
     state: &mut Progress,
 ) -> Result<(), TextFault>
-    ensures { ChangesText result state.new (commands_mean netlist.now commands.old state.old) }
+    ensures { Gives (λ _. state.new) result (commands_mean netlist.now commands.old state.old) }
 {
     'commands: while let Some(command) = commands.next_command(alloc)? {
-        match act_on(alloc, netlist, &command, state) {
-            Ok(()) => {}
-            Err(Stop::Refused(code)) => {
-                return Err(TextFault::Refused {
-                    line: command.line,
-                    code,
-                });
-            }
-            Err(Stop::NoMemory) => return Err(TextFault::NoMemory),
+        if let Err(stop) = act_on(alloc, netlist, &command, state) {
+            return Err(stop.at_line(command.line));
         }
     }
     Ok(())
@@ -85,21 +78,8 @@ pub fn read_sdc(
     ensures value { Gives (λ c. c) result (constraints_of bytes.now netlist.now.nets time_scale cap_scale) }
     ensures clock { IfOk result (λ c. IfSome c.clock IsClock) }
 {
-    match find_fault(bytes, Rules::Sdc) {
-        Some(LexFault::Byte(line)) => {
-            return Err(TextFault::Refused {
-                line,
-                code: Code::C1,
-            });
-        }
-        Some(LexFault::Unended(line)) => {
-            return Err(TextFault::Refused {
-                line,
-                code: Code::C1,
-            });
-        }
-        Some(LexFault::NoMemory) => return Err(TextFault::NoMemory),
-        None => {}
+    if let Some(refused) = tokens_refused(bytes, Rules::Sdc, Code::C1, Code::C1) {
+        return Err(TextFault::from(refused));
     }
     let netlist = ListedNetlist::new(alloc, netlist)?;
     let mut state = Progress::new(alloc, time_scale, cap_scale);

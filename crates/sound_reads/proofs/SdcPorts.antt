@@ -5,12 +5,11 @@ use Rattle.std.specs.List.{AllByRecursion}
 use Rattle.std.proofs.Common.{arith, ap, subst}
 use Rattle.std.proofs.lemmas.Bool.{ltb-false, cond_both}
 use Rattle.std.proofs.lemmas.Int.{ints}
-use Rattle.xt_lex.specs.Faults.{fault_of}
-use Rattle.xt_lex.specs.declared.fault.LexFault.{LexFault}
-use Rattle.xt_lex.specs.declared.fault.LexFault.TheVariants as lexical
+use Rattle.text_forms.specs.Forms.{at_line}
+use Rattle.text_forms.specs.Refusals.{Meant, tokens_refused}
 use Rattle.xt_lex.specs.declared.rules.Rules.TheVariants.{Sdc}
 use Rattle.xt_model.specs.declared.code.Code.{Code}
-use Rattle.xt_model.specs.declared.code.Code.TheVariants.{C4, C6}
+use Rattle.xt_model.specs.declared.code.Code.TheVariants.{C1, C4, C6}
 use Rattle.xt_number.specs.declared.fault.NumberFault.{NumberFault}
 use Rattle.xt_number.specs.declared.fault.NumberFault.TheVariants as fault
 use Rattle.xt_number.specs.Numeral.{Numeral}
@@ -34,7 +33,8 @@ use Rattle.sdc_read.specs.Changes.{chosen, with_number, changed, role_for, is_in
 use Rattle.xt_model.specs.Results.{◌>>=◌}
 use Rattle.sdc_read.specs.Objects.{names_in, port_names, all_of, named_bits, net_bits, has_role, same_role, change_found, change_names, change_if, change_all, change_as, change_objects, knows_clock, source_of, bit_name}
 use Rattle.sdc_read.specs.Meaning.{State, nothing, with_units, taken, number_in, at_least, number_from, fall_in, or_name, with_clock, create_clock, bit_of, change_ports, if_known, means}
-use Rattle.sdc_read.specs.Reading.{Meant, at_line, command_means, commands_mean, by_fault, constraints_in, constraints_of}
+use Rattle.sdc_read.specs.Reading.{command_means, commands_mean, constraints_in, constraints_of}
+use Rattle.sound_reads.proofs.Texts.{not_refused}
 use Rattle.sdc_read.proofs.PortLaws.{entered_in_range, found_in_range}
 
 -- ---- numbers
@@ -293,12 +293,6 @@ settled_in_range (e ∷ es) h = (
   settled_in_range es h.1,
 )
 
-unfaulted : {A : Type 0} (fault : Option LexFault) (r : Meant A) (x : A) → by_fault fault r ≡ Ok x → r ≡ Ok x
-unfaulted (Some (lexical.Byte line)) r x e = absurd (cc)
-unfaulted (Some (lexical.Unended line)) r x e = absurd (cc)
-unfaulted (Some lexical.NoMemory) r x e = e
-unfaulted None r x e = e
-
 in_state : (r : Meant State) (c : Constraints) → ((s : State) → r ≡ Ok s → Fine s) → constraints_in r ≡ Ok c → AllByRecursion IsInRange c.ports
 in_state (Err refusal) c f e = absurd (cc)
 in_state (Ok s) c f e =
@@ -310,4 +304,4 @@ pub ports_in_range : (bytes : List ℕ) (nets : Nets) (time cap : ℤ) (c : Cons
 unfolding constraints_of
 ports_in_range bytes nets time cap c e =
     in_state (commands_mean nets (commands_of bytes) (nothing time cap)) c (λ s at. commands_fine nets (commands_of bytes) (nothing time cap) s tt at)
-    (unfaulted (fault_of Sdc bytes) (constraints_in (commands_mean nets (commands_of bytes) (nothing time cap))) c e)
+    (not_refused (tokens_refused Sdc C1 C1 bytes) (constraints_in (commands_mean nets (commands_of bytes) (nothing time cap))) c e)

@@ -13,23 +13,20 @@ use Rattle.liberty_cells.specs.declared.library.Library.{Library}
 use Rattle.liberty_cells.specs.declared.timing.Timing.{Timing}
 use Rattle.liberty_cells.specs.Pins.{PinParts}
 use Rattle.liberty_cells.specs.Library.{library_meant}
-use Rattle.liberty_groups.specs.View.{Gives}
+use Rattle.text_forms.specs.Stops.{Gives}
 use Rattle.verilog_net.specs.declared.netlist.Netlist.{Netlist}
 use Rattle.verilog_net.specs.Reading.{netlist_of_text}
-use Rattle.verilog_net.specs.Reading as netlists
 use Rattle.spef_read.specs.declared.parasitics.CapText.{CapText}
 use Rattle.spef_read.specs.declared.parasitics.ResText.{ResText}
 use Rattle.spef_read.specs.declared.parasitics.WireText.{WireText}
 use Rattle.spef_read.specs.declared.parasitics.Parasitics.{Parasitics}
 use Rattle.spef_read.specs.Meaning.{State}
 use Rattle.spef_read.specs.Reading.{text_state, parasitics_in, parasitics_of}
-use Rattle.spef_read.specs.Reading as texts
 use Rattle.sdc_read.specs.declared.constraints.Clock.{Clock}
 use Rattle.sdc_read.specs.declared.constraints.Constraints.{Constraints}
 use Rattle.sdc_read.specs.Meaning.{IsScale, IsClock}
 use Rattle.sdc_read.specs.Ports.{IsInRange}
 use Rattle.sdc_read.specs.Reading.{constraints_of}
-use Rattle.sdc_read.specs.Reading as constraints
 use Rattle.verilog_net.specs.Nets.{Nets}
 use Rattle.sound_reads.proofs.SdcPorts.{ports_in_range}
 use Rattle.link_rules.specs.Sound.{IsSoundTiming, IsSoundPin, IsSoundLibrary, IsSoundNetlist, IsSoundCap, IsSoundRes, IsSoundWire, AreSoundParasitics, IsSoundClock, AreSoundConstraints}
@@ -131,15 +128,15 @@ pub scales_answer : (r : Result Library TextFault) (bytes : List ℕ) → Gives 
 scales_answer (Ok library) bytes h = library_scales library (cells.library_fine bytes library h)
 scales_answer (Err fault) bytes h = tt
 
-pub netlist_answer : (r : Result Netlist TextFault) (bytes : List ℕ) → netlists.Reads (λ netlist. netlist) r (netlist_of_text bytes) → IfOk r IsSoundNetlist
+pub netlist_answer : (r : Result Netlist TextFault) (bytes : List ℕ) → Gives (λ netlist. netlist) r (netlist_of_text bytes) → IfOk r IsSoundNetlist
 netlist_answer (Ok netlist) bytes h = netlist_sound netlist (netlist_fine bytes netlist h)
 netlist_answer (Err fault) bytes h = tt
 
-pub spef_answer : (r : Result Parasitics TextFault) (bytes : List ℕ) → texts.Reads (λ p. p) r (parasitics_of bytes) → IfOk r AreSoundParasitics
+pub spef_answer : (r : Result Parasitics TextFault) (bytes : List ℕ) → Gives (λ p. p) r (parasitics_of bytes) → IfOk r AreSoundParasitics
 spef_answer (Ok p) bytes h = parasitics_sound bytes p h
 spef_answer (Err fault) bytes h = tt
 
 pub sdc_answer : (r : Result Constraints TextFault) (bytes : List ℕ) (nets : Nets) (time cap : ℤ)
-    → constraints.Gives (λ c. c) r (constraints_of bytes nets time cap) → IfOk r (λ c. IfSome c.clock IsClock) → IfOk r AreSoundConstraints
+    → Gives (λ c. c) r (constraints_of bytes nets time cap) → IfOk r (λ c. IfSome c.clock IsClock) → IfOk r AreSoundConstraints
 sdc_answer (Ok c) bytes nets time cap g h = constraints_sound c h (ports_in_range bytes nets time cap c g)
 sdc_answer (Err fault) bytes nets time cap g h = tt

@@ -4,11 +4,10 @@ use Rattle.std.specs.List.{AllByRecursion}
 use Rattle.std.proofs.Common.{arith}
 use Rattle.std.proofs.lemmas.Bool.{false≢true}
 use Rattle.text_forms.specs.Forms.{Token, Refusal, text_at}
-use Rattle.xt_lex.specs.Faults.{fault_of}
-use Rattle.xt_lex.specs.declared.fault.LexFault.{LexFault}
-use Rattle.xt_lex.specs.declared.fault.LexFault.TheVariants as lexical
+use Rattle.text_forms.specs.Refusals.{tokens_refused}
 use Rattle.xt_lex.specs.declared.rules.Rules.TheVariants.{Spef}
 use Rattle.xt_model.specs.declared.code.Code.{Code}
+use Rattle.xt_model.specs.declared.code.Code.TheVariants.{S1, S2}
 use Rattle.spef_read.specs.declared.sort.Sort.{Sort}
 use Rattle.spef_read.specs.declared.sort.Sort.TheVariants as sorts
 use Rattle.spef_read.specs.declared.context.Context.{Context}
@@ -22,9 +21,9 @@ use Rattle.spef_read.specs.Forms.{lists_forms, totalled_forms, connections_forms
 use Rattle.spef_read.specs.Forms.{cap_value_forms, resistors_forms, res_second_forms, res_value_forms}
 use Rattle.spef_read.specs.Forms as grammar
 use Rattle.spef_read.specs.Meaning.{State, nothing, means}
-use Rattle.spef_read.specs.Reading.{rest_means, by_fault, text_state}
+use Rattle.spef_read.specs.Reading.{rest_means, text_state}
 use Rattle.sound_reads.proofs.Bytes.{AreGraphic}
-use Rattle.sound_reads.proofs.Texts.{FormKeeps, text_keeps}
+use Rattle.sound_reads.proofs.Texts.{FormKeeps, text_keeps, not_refused}
 use Rattle.sound_reads.proofs.SpefTokens.{IsPrintable, words_printable}
 use Rattle.sound_reads.proofs.SpefStates.{IsFine, nothing_fine, separator_leads, pair_leads, brackets_lead, unit_number_leads, unit_leads, units_lead}
 use Rattle.sound_reads.proofs.SpefStates.{pair_number_leads, end_pair_leads, first_leads, cap_node_leads, res_node_leads, net_name_leads, total_leads}
@@ -278,16 +277,10 @@ all_by context fs false e = let same : forms_in context ≡ fs = cc in rw same a
 all_keep : (context : Context) (fs : List SpefForm) → forms context ≡ Some fs → AllOf context fs
 all_keep context fs e = all_by context fs (is_done context) e
 
-unfaulted : (fault : Option LexFault) (r : Result State (Refusal Code)) (s : State) → by_fault fault r ≡ Ok s → r ≡ Ok s
-unfaulted (Some (lexical.Byte line)) r s e = absurd (cc)
-unfaulted (Some (lexical.Unended line)) r s e = absurd (cc)
-unfaulted (Some lexical.NoMemory) r s e = e
-unfaulted None r s e = e
-
 -- the state behind a whole text is fine
 pub text_fine : (bytes : List ℕ) (s : State) → text_state bytes ≡ Ok s → IsFine s
 unfolding text_state
 text_fine bytes s e =
-    let read = unfaulted (fault_of Spef bytes) (rest_means contexts.Start (spef_tokens bytes) nothing) s e in
+    let read = not_refused (tokens_refused Spef S1 S2 bytes) (rest_means contexts.Start (spef_tokens bytes) nothing) s e in
     let end = text_keeps fits misfits forms means IsPrintable Holds all_keep contexts.Start (spef_tokens bytes) nothing s (words_printable bytes) (nothing_fine, tt) read in
     end.2.0

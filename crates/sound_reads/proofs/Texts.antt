@@ -3,8 +3,11 @@ use Rattle.std.specs.Prelude.{◌≡◌, refl, ℕ, Bool, true, false, if◌then
 use Rattle.std.specs.List.{AllByRecursion}
 use Rattle.std.proofs.Common.{append_assoc, subst}
 use Rattle.std.proofs.lemmas.List.{append-nil}
-use Rattle.text_forms.specs.Forms.{Token, Form, Misfits, agree, agree_one, whole_or}
-use Rattle.text_forms.specs.Meaning.{Says, behind, go_on, reading, next_state, meaning, text_means}
+use Rattle.text_forms.specs.Forms.{Token, Form, Refusal, Misfits, agree, agree_one, at_line, whole_or}
+use Rattle.text_forms.specs.Refusals.{Meant, unless}
+use Rattle.text_forms.specs.Meaning.{Says, behind, go_on, reading, meaning, text_means}
+use Rattle.xt_model.specs.Results.{◌>>=◌}
+use Rattle.xt_model.specs.declared.code.Code as model
 
 module _ {Slot Sort : Type 0} (fits : Slot → Sort → Bool) (P : Token Sort → Type 0) where
   -- a token for each slot, which fits it and of which P holds
@@ -77,7 +80,7 @@ module _ {Slot Sort Said Context State Code : Type 0} (fits : Slot → Sort → 
 
     said_by : (r : Result State Code) (line : ℕ) (ts : List (Token Sort)) (next : Context) (s' : State)
         → Goes ts → ((s1 : State) → r ≡ Ok s1 → Inv next s1)
-        → next_state step line r (meaning step (reading fits misfits forms (forms next) [] ts)) ≡ Ok s' → HoldsAtEnd s'
+        → (at_line line r >>= meaning step (reading fits misfits forms (forms next) [] ts)) ≡ Ok s' → HoldsAtEnd s'
     said_by (Err code) line ts next s' go i h = absurd (cc)
     said_by (Ok s1) line ts next s' go i h = behind_form (forms next) ts next s1 s' go refl (i s1 refl) h
 
@@ -112,3 +115,8 @@ module _ {Slot Sort Said Context State Code : Type 0} (fits : Slot → Sort → 
         → text_means fits misfits forms step context ts s ≡ Ok s' → HoldsAtEnd s'
     unfolding text_means
     text_keeps context ts s s' ps i h = behind_form (forms context) ts context s s' (goes ts ps) refl i h
+
+-- the tokens of a text that means something have no fault
+pub not_refused : {A : Type 0} (o : Option (Refusal model.Code)) (meant : Meant A) (x : A) → unless o meant ≡ Ok x → meant ≡ Ok x
+not_refused (Some r) meant x e = absurd (cc)
+not_refused None meant x e = e

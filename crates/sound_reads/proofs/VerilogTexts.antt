@@ -2,11 +2,10 @@
 use Rattle.std.specs.Prelude.{◌≡◌, refl, ℕ, Bool, true, false, List, [], ◌∷◌, Option, Some, None, Result, Ok, Err, if◌then◌else◌}
 use Rattle.std.specs.List.{AllByRecursion}
 use Rattle.text_forms.specs.Forms.{Token, Refusal, text_at, line_at}
-use Rattle.xt_lex.specs.Faults.{fault_of}
-use Rattle.xt_lex.specs.declared.fault.LexFault.{LexFault}
-use Rattle.xt_lex.specs.declared.fault.LexFault.TheVariants as lexical
+use Rattle.text_forms.specs.Refusals.{tokens_refused}
 use Rattle.xt_lex.specs.declared.rules.Rules.TheVariants.{Verilog}
 use Rattle.xt_model.specs.declared.code.Code.{Code}
+use Rattle.xt_model.specs.declared.code.Code.TheVariants.{V1, V2}
 use Rattle.verilog_net.specs.declared.sort.Sort.{Sort}
 use Rattle.verilog_net.specs.declared.sort.Sort.TheVariants as sorts
 use Rattle.verilog_net.specs.declared.context.Context.{Context}
@@ -21,8 +20,8 @@ use Rattle.verilog_net.specs.Forms.{left_bound_forms, right_bound_forms, declare
 use Rattle.verilog_net.specs.Forms.{bit_given_forms, connected_forms, closed_forms}
 use Rattle.verilog_net.specs.Forms as grammar
 use Rattle.verilog_net.specs.Meaning.{State, nothing, means}
-use Rattle.verilog_net.specs.Reading.{rest_means, by_fault, text_state, modules_in, one_of, netlist_of_text}
-use Rattle.sound_reads.proofs.Texts.{FormKeeps, text_keeps}
+use Rattle.verilog_net.specs.Reading.{rest_means, text_state, modules_in, one_of, netlist_of_text}
+use Rattle.sound_reads.proofs.Texts.{FormKeeps, text_keeps, not_refused}
 use Rattle.sound_reads.proofs.VerilogTokens as tokens
 use Rattle.sound_reads.proofs.VerilogTokens.{names_named}
 use Rattle.sound_reads.proofs.VerilogStates.{IsNamed, IsFine, IsFineModule, IsBetween, IsInInstance, IsInPin, nothing_fine, begin_module_is, name_module_fine}
@@ -317,16 +316,10 @@ all_by context fs false e = let same : forms_in context ≡ fs = cc in rw same a
 all_keep : (context : Context) (fs : List NetlistForm) → forms context ≡ Some fs → AllOf context fs
 all_keep context fs e = all_by context fs (is_done context) e
 
-unfaulted : (fault : Option LexFault) (r : Result State (Refusal Code)) (s : State) → by_fault fault r ≡ Ok s → r ≡ Ok s
-unfaulted (Some (lexical.Byte line)) r s e = absurd (cc)
-unfaulted (Some (lexical.Unended line)) r s e = absurd (cc)
-unfaulted (Some lexical.NoMemory) r s e = e
-unfaulted None r s e = e
-
 text_fine : (single : Bool) (bytes : List ℕ) (s : State) → text_state single bytes ≡ Ok s → IsFine s
 unfolding text_state
 text_fine single bytes s e =
-    let read = unfaulted (fault_of Verilog bytes) (rest_means contexts.Start (netlist_tokens bytes) (nothing single)) s e in
+    let read = not_refused (tokens_refused Verilog V1 V2 bytes) (rest_means contexts.Start (netlist_tokens bytes) (nothing single)) s e in
     let end = text_keeps same_sort misfits forms means tokens.IsNamed Holds all_keep contexts.Start (netlist_tokens bytes) (nothing single) s
     (names_named bytes) (nothing_fine single, refl) read in
     end.2.0

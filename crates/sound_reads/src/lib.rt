@@ -3,11 +3,11 @@
 #![tactic(auto)]
 
 ghost use Rattle.std.specs.Prelude.{◌≤◌, length, IfOk};
-ghost use Rattle.liberty_groups.specs.View.{Gives};
+ghost use Rattle.text_forms.specs.Stops.{Gives};
 ghost use Rattle.liberty_cells.specs.Library.{library_meant};
-ghost use Rattle.verilog_net.specs.Reading as netlists;
-ghost use Rattle.spef_read.specs.Reading as parasitics;
-ghost use Rattle.sdc_read.specs.Reading as constraints;
+ghost use Rattle.verilog_net.specs.Reading.{netlist_of_text};
+ghost use Rattle.spef_read.specs.Reading.{parasitics_of};
+ghost use Rattle.sdc_read.specs.Reading.{constraints_of};
 ghost use Rattle.sdc_read.specs.Meaning.{IsScale};
 ghost use Rattle.link_rules.specs.Sound.{IsSoundLibrary, IsSoundNetlist, AreSoundParasitics, AreSoundConstraints};
 
@@ -33,7 +33,7 @@ pub fn read_library(alloc: Global, bytes: &[u8]) -> Result<Library, TextFault>
 /// and no two of its bits have the same name.
 pub fn read_netlist(alloc: Global, bytes: &[u8]) -> Result<Netlist, TextFault>
     requires { length bytes.now ≤ MOST_BYTES }
-    ensures value { netlists.Reads (λ netlist. netlist) result (netlists.netlist_of_text bytes.now) }
+    ensures value { Gives (λ netlist. netlist) result (netlist_of_text bytes.now) }
     ensures sound { IfOk result IsSoundNetlist }
 {
     verilog_net::read_netlist(alloc, bytes)
@@ -43,7 +43,7 @@ pub fn read_netlist(alloc: Global, bytes: &[u8]) -> Result<Netlist, TextFault>
 /// or a node is among them, and values are 0 to 2^40 aF or mΩ.
 pub fn read_spef(alloc: Global, bytes: &[u8]) -> Result<Parasitics, TextFault>
     requires { length bytes.now ≤ MOST_BYTES }
-    ensures value { parasitics.Reads (λ parasitics. parasitics) result (parasitics.parasitics_of bytes.now) }
+    ensures value { Gives (λ parasitics. parasitics) result (parasitics_of bytes.now) }
     ensures sound { IfOk result AreSoundParasitics }
 {
     spef_read::read_spef(alloc, bytes)
@@ -62,8 +62,8 @@ pub fn read_sdc(
     requires bytes { length bytes.now ≤ MOST_BYTES }
     requires time { IsScale time_scale }
     requires cap { IsScale cap_scale }
-    ensures value { constraints.Gives (λ constraints. constraints) result
-        (constraints.constraints_of bytes.now netlist.now.nets time_scale cap_scale) }
+    ensures value { Gives (λ constraints. constraints) result
+        (constraints_of bytes.now netlist.now.nets time_scale cap_scale) }
     ensures sound { IfOk result AreSoundConstraints }
 {
     sdc_read::read_sdc(alloc, bytes, netlist, time_scale, cap_scale)

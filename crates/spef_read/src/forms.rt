@@ -6,7 +6,7 @@ ghost use Rattle.spef_read.specs.Forms.{misfit, separator_of, quantity_of, first
 ghost use Rattle.spef_read.specs.Forms.{header_forms, flow_forms, unit_forms, pairs_forms, pair_name_forms};
 ghost use Rattle.spef_read.specs.Forms.{skipped_forms, forms_in, is_done, Only};
 ghost use Rattle.text_forms.specs.Tokens.{token_of};
-ghost use Rattle.text_forms.specs.Stops.{refusal_of, Gives};
+ghost use Rattle.text_forms.specs.Stops.{refusal_of, Reads};
 ghost use Rattle.spef_read.specs.View.{said, whole_of, refusal_at, IsOther};
 
 use crate::context::Context;
@@ -105,7 +105,7 @@ pub fn expect<'a>(sort: Sort, terms: &mut Terms<'a, Sort>) -> Result<Term<'a, So
 
 /// At the start of a text.
 fn at_start<'a>(terms: &mut Terms<'a, Sort>) -> Result<FormRead<'a>, Refused>
-    ensures { Gives (λ r. (whole_of r, terms.new)) result (first_form start_forms terms.old) }
+    ensures { Reads (λ r. (whole_of r, terms.new)) result (first_form start_forms terms.old) }
 {
     expect(Sort::Spef, terms)?;
     let text = expect(Sort::Text, terms)?;
@@ -114,7 +114,7 @@ fn at_start<'a>(terms: &mut Terms<'a, Sort>) -> Result<FormRead<'a>, Refused>
 
 /// A section, or the end of the text, from its first token on.
 fn section_from<'a>(first: Term<'a, Sort>, terms: &Terms<'a, Sort>) -> Result<FormRead<'a>, Refused>
-    ensures { Gives (λ r. (whole_of r, terms.now)) result
+    ensures { Reads (λ r. (whole_of r, terms.now)) result
         (first_form section_forms (token_of first.entry ∷ terms.now)) }
 {
     match first.sort {
@@ -130,7 +130,7 @@ fn section_from<'a>(first: Term<'a, Sort>, terms: &Terms<'a, Sort>) -> Result<Fo
 /// The brackets of a bus's bit.
 fn brackets<'a>(first: Term<'a, Sort>, terms: &mut Terms<'a, Sort>) -> Result<FormRead<'a>, Refused>
     requires { first.sort ≡ Brackets }
-    ensures { Gives (λ r. (whole_of r, terms.new)) result (first_form header_forms (token_of first.entry ∷ terms.old)) }
+    ensures { Reads (λ r. (whole_of r, terms.new)) result (first_form header_forms (token_of first.entry ∷ terms.old)) }
 {
     let second = any(terms)?;
     match second.sort {
@@ -154,7 +154,7 @@ fn header_from<'a>(
     first: Term<'a, Sort>,
     terms: &mut Terms<'a, Sort>,
 ) -> Result<FormRead<'a>, Refused>
-    ensures { Gives (λ r. (whole_of r, terms.new)) result (first_form header_forms (token_of first.entry ∷ terms.old)) }
+    ensures { Reads (λ r. (whole_of r, terms.new)) result (first_form header_forms (token_of first.entry ∷ terms.old)) }
 {
     match first.sort {
         Sort::Title => {
@@ -194,7 +194,7 @@ fn header_from<'a>(
 
 /// An item of the header, or what comes behind it.
 fn header<'a>(terms: &mut Terms<'a, Sort>) -> Result<FormRead<'a>, Refused>
-    ensures { Gives (λ r. (whole_of r, terms.new)) result (first_form header_forms terms.old) }
+    ensures { Reads (λ r. (whole_of r, terms.new)) result (first_form header_forms terms.old) }
 {
     let first = any(terms)?;
     header_from(first, terms)
@@ -202,7 +202,7 @@ fn header<'a>(terms: &mut Terms<'a, Sort>) -> Result<FormRead<'a>, Refused>
 
 /// Behind a string of the design's flow.
 fn flow<'a>(terms: &mut Terms<'a, Sort>) -> Result<FormRead<'a>, Refused>
-    ensures { Gives (λ r. (whole_of r, terms.new)) result (first_form flow_forms terms.old) }
+    ensures { Reads (λ r. (whole_of r, terms.new)) result (first_form flow_forms terms.old) }
 {
     let first = any(terms)?;
     match first.sort {
@@ -213,7 +213,7 @@ fn flow<'a>(terms: &mut Terms<'a, Sort>) -> Result<FormRead<'a>, Refused>
 
 /// Behind the number of a unit.
 fn unit<'a>(terms: &mut Terms<'a, Sort>) -> Result<FormRead<'a>, Refused>
-    ensures { Gives (λ r. (whole_of r, terms.new)) result (first_form unit_forms terms.old) }
+    ensures { Reads (λ r. (whole_of r, terms.new)) result (first_form unit_forms terms.old) }
 {
     let first = any(terms)?;
     match first.sort {
@@ -224,7 +224,7 @@ fn unit<'a>(terms: &mut Terms<'a, Sort>) -> Result<FormRead<'a>, Refused>
 
 /// In the name map.
 fn pairs<'a>(terms: &mut Terms<'a, Sort>) -> Result<FormRead<'a>, Refused>
-    ensures { Gives (λ r. (whole_of r, terms.new)) result (first_form pairs_forms terms.old) }
+    ensures { Reads (λ r. (whole_of r, terms.new)) result (first_form pairs_forms terms.old) }
 {
     let first = any(terms)?;
     match first.sort {
@@ -235,7 +235,7 @@ fn pairs<'a>(terms: &mut Terms<'a, Sort>) -> Result<FormRead<'a>, Refused>
 
 /// Behind the number of a pair.
 fn pair_name<'a>(terms: &mut Terms<'a, Sort>) -> Result<FormRead<'a>, Refused>
-    ensures { Gives (λ r. (whole_of r, terms.new)) result (first_form pair_name_forms terms.old) }
+    ensures { Reads (λ r. (whole_of r, terms.new)) result (first_form pair_name_forms terms.old) }
 {
     let first = any(terms)?;
     match first.sort {
@@ -246,7 +246,7 @@ fn pair_name<'a>(terms: &mut Terms<'a, Sort>) -> Result<FormRead<'a>, Refused>
 
 /// In a section that is skipped.
 fn skipped<'a>(terms: &mut Terms<'a, Sort>) -> Result<FormRead<'a>, Refused>
-    ensures { Gives (λ r. (whole_of r, terms.new)) result (first_form skipped_forms terms.old) }
+    ensures { Reads (λ r. (whole_of r, terms.new)) result (first_form skipped_forms terms.old) }
 {
     let first = any(terms)?;
     match first.sort {
@@ -259,7 +259,7 @@ fn skipped<'a>(terms: &mut Terms<'a, Sort>) -> Result<FormRead<'a>, Refused>
 
 /// Behind the end of a net.
 fn between<'a>(terms: &mut Terms<'a, Sort>) -> Result<FormRead<'a>, Refused>
-    ensures { Gives (λ r. (whole_of r, terms.new)) result (first_form section_forms terms.old) }
+    ensures { Reads (λ r. (whole_of r, terms.new)) result (first_form section_forms terms.old) }
 {
     let first = any(terms)?;
     section_from(first, &*terms)
@@ -268,7 +268,7 @@ fn between<'a>(terms: &mut Terms<'a, Sort>) -> Result<FormRead<'a>, Refused>
 /// The form that is next in a context.
 pub fn read_form<'a>(context: Context, terms: &mut Terms<'a, Sort>) -> Result<FormRead<'a>, Refused>
     requires { is_done context ≡ false }
-    ensures { Gives (λ r. (whole_of r, terms.new)) result (first_form (forms_in context) terms.old) }
+    ensures { Reads (λ r. (whole_of r, terms.new)) result (first_form (forms_in context) terms.old) }
 {
     match context {
         Context::Start => at_start(terms),

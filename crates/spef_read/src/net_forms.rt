@@ -6,7 +6,7 @@ ghost use Rattle.spef_read.specs.Forms.{net_name_forms, net_total_forms, lists_f
 ghost use Rattle.spef_read.specs.Forms.{connections_forms, connection_forms, capacitors_forms, cap_second_forms};
 ghost use Rattle.spef_read.specs.Forms.{cap_value_forms, resistors_forms, res_second_forms, res_value_forms};
 ghost use Rattle.text_forms.specs.Tokens.{token_of};
-ghost use Rattle.text_forms.specs.Stops.{Gives};
+ghost use Rattle.text_forms.specs.Stops.{Reads};
 ghost use Rattle.spef_read.specs.View.{whole_of};
 
 use crate::context::Context;
@@ -18,7 +18,7 @@ use xt_model::Code;
 
 /// The end of a net, from its token on.
 fn closing_from<'a>(first: Term<'a, Sort>, terms: &Terms<'a, Sort>) -> Result<FormRead<'a>, Refused>
-    ensures { Gives (λ r. (whole_of r, terms.now)) result
+    ensures { Reads (λ r. (whole_of r, terms.now)) result
         (first_form closing_forms (token_of first.entry ∷ terms.now)) }
 {
     match first.sort {
@@ -34,7 +34,7 @@ fn behind_capacitors<'a>(
     first: Term<'a, Sort>,
     terms: &Terms<'a, Sort>,
 ) -> Result<FormRead<'a>, Refused>
-    ensures { Gives (λ r. (whole_of r, terms.now)) result
+    ensures { Reads (λ r. (whole_of r, terms.now)) result
         (first_form behind_capacitors (token_of first.entry ∷ terms.now)) }
 {
     match first.sort {
@@ -48,7 +48,7 @@ fn behind_connections<'a>(
     first: Term<'a, Sort>,
     terms: &Terms<'a, Sort>,
 ) -> Result<FormRead<'a>, Refused>
-    ensures { Gives (λ r. (whole_of r, terms.now)) result
+    ensures { Reads (λ r. (whole_of r, terms.now)) result
         (first_form behind_connections (token_of first.entry ∷ terms.now)) }
 {
     match first.sort {
@@ -59,7 +59,7 @@ fn behind_connections<'a>(
 
 /// The name of a net.
 pub fn net_name<'a>(terms: &mut Terms<'a, Sort>) -> Result<FormRead<'a>, Refused>
-    ensures { Gives (λ r. (whole_of r, terms.new)) result (first_form net_name_forms terms.old) }
+    ensures { Reads (λ r. (whole_of r, terms.new)) result (first_form net_name_forms terms.old) }
 {
     let first = any(terms)?;
     match first.sort {
@@ -70,7 +70,7 @@ pub fn net_name<'a>(terms: &mut Terms<'a, Sort>) -> Result<FormRead<'a>, Refused
 
 /// The total capacitance of a net.
 pub fn net_total<'a>(terms: &mut Terms<'a, Sort>) -> Result<FormRead<'a>, Refused>
-    ensures { Gives (λ r. (whole_of r, terms.new)) result (first_form net_total_forms terms.old) }
+    ensures { Reads (λ r. (whole_of r, terms.new)) result (first_form net_total_forms terms.old) }
 {
     let first = any(terms)?;
     match first.sort {
@@ -85,7 +85,7 @@ pub fn net_total<'a>(terms: &mut Terms<'a, Sort>) -> Result<FormRead<'a>, Refuse
 
 /// The lists of a net, or its end, from the first token on.
 fn lists_from<'a>(first: Term<'a, Sort>, terms: &Terms<'a, Sort>) -> Result<FormRead<'a>, Refused>
-    ensures { Gives (λ r. (whole_of r, terms.now)) result (first_form lists_forms (token_of first.entry ∷ terms.now)) }
+    ensures { Reads (λ r. (whole_of r, terms.now)) result (first_form lists_forms (token_of first.entry ∷ terms.now)) }
 {
     match first.sort {
         Sort::Connections => Ok(done(Item::Nothing, first.line, Context::Connections)),
@@ -95,7 +95,7 @@ fn lists_from<'a>(first: Term<'a, Sort>, terms: &Terms<'a, Sort>) -> Result<Form
 
 /// Behind the total capacitance of a net.
 pub fn totalled<'a>(terms: &mut Terms<'a, Sort>) -> Result<FormRead<'a>, Refused>
-    ensures { Gives (λ r. (whole_of r, terms.new)) result (first_form totalled_forms terms.old) }
+    ensures { Reads (λ r. (whole_of r, terms.new)) result (first_form totalled_forms terms.old) }
 {
     let first = any(terms)?;
     match first.sort {
@@ -112,7 +112,7 @@ pub fn totalled<'a>(terms: &mut Terms<'a, Sort>) -> Result<FormRead<'a>, Refused
 
 /// The lists of a net, or its end.
 pub fn lists<'a>(terms: &mut Terms<'a, Sort>) -> Result<FormRead<'a>, Refused>
-    ensures { Gives (λ r. (whole_of r, terms.new)) result (first_form lists_forms terms.old) }
+    ensures { Reads (λ r. (whole_of r, terms.new)) result (first_form lists_forms terms.old) }
 {
     let first = any(terms)?;
     lists_from(first, &*terms)
@@ -120,7 +120,7 @@ pub fn lists<'a>(terms: &mut Terms<'a, Sort>) -> Result<FormRead<'a>, Refused>
 
 /// Behind `*CONN`.
 pub fn connections<'a>(terms: &mut Terms<'a, Sort>) -> Result<FormRead<'a>, Refused>
-    ensures { Gives (λ r. (whole_of r, terms.new)) result (first_form connections_forms terms.old) }
+    ensures { Reads (λ r. (whole_of r, terms.new)) result (first_form connections_forms terms.old) }
 {
     let first = any(terms)?;
     match first.sort {
@@ -131,7 +131,7 @@ pub fn connections<'a>(terms: &mut Terms<'a, Sort>) -> Result<FormRead<'a>, Refu
 
 /// In a connection.
 pub fn connection<'a>(terms: &mut Terms<'a, Sort>) -> Result<FormRead<'a>, Refused>
-    ensures { Gives (λ r. (whole_of r, terms.new)) result (first_form connection_forms terms.old) }
+    ensures { Reads (λ r. (whole_of r, terms.new)) result (first_form connection_forms terms.old) }
 {
     let first = any(terms)?;
     match first.sort {
@@ -144,7 +144,7 @@ pub fn connection<'a>(terms: &mut Terms<'a, Sort>) -> Result<FormRead<'a>, Refus
 
 /// A capacitor, or what comes behind the last one.
 pub fn capacitors<'a>(terms: &mut Terms<'a, Sort>) -> Result<FormRead<'a>, Refused>
-    ensures { Gives (λ r. (whole_of r, terms.new)) result (first_form capacitors_forms terms.old) }
+    ensures { Reads (λ r. (whole_of r, terms.new)) result (first_form capacitors_forms terms.old) }
 {
     let first = any(terms)?;
     match first.sort {
@@ -165,7 +165,7 @@ pub fn capacitors<'a>(terms: &mut Terms<'a, Sort>) -> Result<FormRead<'a>, Refus
 
 /// Behind the first node of a capacitor.
 pub fn cap_second<'a>(terms: &mut Terms<'a, Sort>) -> Result<FormRead<'a>, Refused>
-    ensures { Gives (λ r. (whole_of r, terms.new)) result (first_form cap_second_forms terms.old) }
+    ensures { Reads (λ r. (whole_of r, terms.new)) result (first_form cap_second_forms terms.old) }
 {
     let first = any(terms)?;
     match first.sort {
@@ -181,7 +181,7 @@ pub fn cap_second<'a>(terms: &mut Terms<'a, Sort>) -> Result<FormRead<'a>, Refus
 
 /// Behind the second node of a capacitor.
 pub fn cap_value<'a>(terms: &mut Terms<'a, Sort>) -> Result<FormRead<'a>, Refused>
-    ensures { Gives (λ r. (whole_of r, terms.new)) result (first_form cap_value_forms terms.old) }
+    ensures { Reads (λ r. (whole_of r, terms.new)) result (first_form cap_value_forms terms.old) }
 {
     let first = any(terms)?;
     match first.sort {
@@ -196,7 +196,7 @@ pub fn cap_value<'a>(terms: &mut Terms<'a, Sort>) -> Result<FormRead<'a>, Refuse
 
 /// A resistor, or what comes behind the last one.
 pub fn resistors<'a>(terms: &mut Terms<'a, Sort>) -> Result<FormRead<'a>, Refused>
-    ensures { Gives (λ r. (whole_of r, terms.new)) result (first_form resistors_forms terms.old) }
+    ensures { Reads (λ r. (whole_of r, terms.new)) result (first_form resistors_forms terms.old) }
 {
     let first = any(terms)?;
     match first.sort {
@@ -217,7 +217,7 @@ pub fn resistors<'a>(terms: &mut Terms<'a, Sort>) -> Result<FormRead<'a>, Refuse
 
 /// Behind the first node of a resistor.
 pub fn res_second<'a>(terms: &mut Terms<'a, Sort>) -> Result<FormRead<'a>, Refused>
-    ensures { Gives (λ r. (whole_of r, terms.new)) result (first_form res_second_forms terms.old) }
+    ensures { Reads (λ r. (whole_of r, terms.new)) result (first_form res_second_forms terms.old) }
 {
     let first = any(terms)?;
     match first.sort {
@@ -228,7 +228,7 @@ pub fn res_second<'a>(terms: &mut Terms<'a, Sort>) -> Result<FormRead<'a>, Refus
 
 /// Behind the second node of a resistor.
 pub fn res_value<'a>(terms: &mut Terms<'a, Sort>) -> Result<FormRead<'a>, Refused>
-    ensures { Gives (λ r. (whole_of r, terms.new)) result (first_form res_value_forms terms.old) }
+    ensures { Reads (λ r. (whole_of r, terms.new)) result (first_form res_value_forms terms.old) }
 {
     let first = any(terms)?;
     match first.sort {

@@ -2,9 +2,9 @@
 
 ghost use Rattle.std.specs.Prelude.{◌≡◌, ◌≤◌, length, false};
 ghost use Rattle.spef_read.specs.Forms.{is_done};
-ghost use Rattle.spef_read.specs.Meaning.{nothing};
 ghost use Rattle.spef_read.specs.declared.context.Context.TheVariants.{Start};
-ghost use Rattle.spef_read.specs.Reading.{rest_means, text_state, parasitics_of, Reads, Steps};
+ghost use Rattle.spef_read.specs.Reading.{rest_means, text_state, parasitics_of};
+ghost use Rattle.text_forms.specs.Stops.{Gives, Steps};
 
 use crate::context::Context;
 use crate::forms::{is_done, read_form, refused};
@@ -12,8 +12,9 @@ use crate::parasitics::Parasitics;
 use crate::sort::Sort;
 use crate::state::Progress;
 use std::alloc::Global;
-use text_forms::{Stop, Terms};
-use xt_lex::{Code, LexFault, MOST_BYTES, Rules, TextFault, find_fault};
+use text_forms::{Terms, tokens_refused};
+use xt_lex::{MOST_BYTES, Rules, TextFault};
+use xt_model::Code;
 
 /// Reads one form and does what it says.
 fn step<'a>(
@@ -23,45 +24,30 @@ fn step<'a>(
     state: &mut Progress<'a>,
 ) -> Result<Context, TextFault>
     requires { is_done context ≡ false }
-    ensures { Steps context terms.old state.old result terms.new state.new }
+    ensures { Steps rest_means context terms.old state.old result terms.new state.new }
 {
-    let read = match read_form(context, terms) {
-        Ok(read) => read,
-        Err(refused) => {
-            return Err(TextFault::Refused {
-                line: refused.line,
-                code: refused.code,
-            });
-        }
-    };
+    let read = read_form(context, terms)?;
     match state.act(alloc, read.item) {
         Ok(()) => Ok(read.next),
-        Err(Stop::Refused(code)) => Err(TextFault::Refused {
-            line: read.line,
-            code,
-        }),
-        Err(Stop::NoMemory) => Err(TextFault::NoMemory),
+        Err(stop) => Err(stop.at_line(read.line)),
     }
 }
 
 /// Reads a text without a fault of its tokens to its end.
-fn read_all<'a>(alloc: Global, terms: &mut Terms<'a, Sort>) -> Result<Progress<'a>, TextFault>
-    ensures { Reads (λ s. s) result (rest_means Start terms.old nothing) }
+fn read_all<'a>(
+    alloc: Global,
+    terms: &mut Terms<'a, Sort>,
+    state: &mut Progress<'a>,
+) -> Result<(), TextFault>
+    ensures { Gives (λ _. state.new) result (rest_means Start terms.old state.old) }
 {
-    let mut state = Progress::new(alloc);
     let mut context = Context::Start;
     'forms: while !is_done(context) {
-        context = step(alloc, context, terms, &mut state)?;
+        context = step(alloc, context, terms, state)?;
     }
     match terms.next_term() {
-        None => Ok(state),
-        Some(more) => {
-            let refused = refused(more);
-            Err(TextFault::Refused {
-                line: refused.line,
-                code: refused.code,
-            })
-        }
+        None => Ok(()),
+        Some(more) => Err(TextFault::from(refused(more))),
     }
 }
 
@@ -80,24 +66,12 @@ fn read_all<'a>(alloc: Global, terms: &mut Terms<'a, Sort>) -> Result<Progress<'
 #[tactic(auto, unfolding(crate::specs::Reading::text_state))]
 pub fn read_spef(alloc: Global, bytes: &[u8]) -> Result<Parasitics, TextFault>
     requires { length bytes.now ≤ MOST_BYTES }
-    ensures { Reads (λ p. p) result (parasitics_of bytes.now) }
+    ensures { Gives (λ p. p) result (parasitics_of bytes.now) }
 {
-    match find_fault(bytes, Rules::Spef) {
-        Some(LexFault::Byte(line)) => {
-            return Err(TextFault::Refused {
-                line,
-                code: Code::S1,
-            });
-        }
-        Some(LexFault::Unended(line)) => {
-            return Err(TextFault::Refused {
-                line,
-                code: Code::S2,
-            });
-        }
-        Some(LexFault::NoMemory) => return Err(TextFault::NoMemory),
-        None => {}
+    if let Some(refused) = tokens_refused(bytes, Rules::Spef, Code::S1, Code::S2) {
+        return Err(TextFault::from(refused));
     }
-    let state = read_all(alloc, &mut Terms::new(bytes, Rules::Spef))?;
+    let mut state = Progress::new(alloc);
+    read_all(alloc, &mut Terms::new(bytes, Rules::Spef), &mut state)?;
     Ok(state.into_parasitics())
 }

@@ -1,8 +1,13 @@
 -- A text is read form by form: its reading is that of its first form, and then that of the tokens behind it.
-use Rattle.std.specs.Prelude.{◌≡◌, refl, ℕ, ◌<◌, ◌≤◌, ◌+◌, Bool, List, [], ◌∷◌, ◌++◌, length, Option, Some, None, Result, Ok, Err}
-use Rattle.std.proofs.Common.{arith, add-one, ap, sym, subst}
-use Rattle.text_forms.specs.Forms.{Token, Form, Whole, Refusal, Misfits, agree, decide, whole_or, form_at}
+use Rattle.std.specs.Prelude.{◌≡◌, refl, ℕ, ◌<◌, ◌≤◌, ◌+◌, Bool, true, false, if◌then◌else◌, List, [], ◌∷◌, ◌++◌, length, Option, Some, None, Result, Ok, Err}
+use Rattle.std.proofs.Common.{arith, add-one, ap, sym, subst, ◌∙◌}
+use Rattle.text_forms.specs.Forms.{Token, Form, Whole, Refusal, Misfits, agree, at_line, decide, whole_or, form_at}
 use Rattle.text_forms.specs.Meaning.{Reading, Refuses, Says, behind, go_on, reading, text_means}
+use Rattle.text_forms.specs.Stops.{Stops, IsRefusal, fault_at}
+use Rattle.text_forms.specs.declared.stop.Stop.{Stop}
+use Rattle.text_forms.specs.declared.stop.Stop.TheVariants.{Refused, NoMemory}
+use Rattle.xt_model.specs.Results.{◌>>=◌}
+use Rattle.xt_model.specs.declared.code.Code as model
 
 -- ---- an answer is a value or a refusal, never both
 
@@ -80,44 +85,67 @@ module _ {Slot Sort Said Context Code : Type 0} (fits : Slot → Sort → Bool) 
   reading_of_refusal fs texts (t ∷ ts) r h =
       goes_refused (agree fits t.sort fs) t (texts ++ t ∷ []) ts _ _ _ r (reading_of_refusal (agree fits t.sort fs) (texts ++ t ∷ []) ts r) h
 
--- ---- the meaning of a text, form by form
+-- ---- the meaning of a text, form by form, where each context but the end has its forms
 
 module _ {Slot Sort Said Context State Code : Type 0} (fits : Slot → Sort → Bool) (misfits : Misfits Sort Code)
-    (forms : Context → Option (List (Form Slot Sort Said Context))) (step : Said → State → Result State Code) where
+    (is_end : Context → Bool) (forms_in : Context → List (Form Slot Sort Said Context))
+    (step : Said → State → Result State Code) where
+  abbrev forms : Context → Option (List (Form Slot Sort Said Context))
+  forms context = if is_end context then None else Some (forms_in context)
+
   abbrev means : Context → List (Token Sort) → State → Result State (Refusal Code)
   means = text_means fits misfits forms step
 
-  -- a form that is read and means something: the text goes on behind it
-  pub goes_on : (context : Context) (fs : List (Form Slot Sort Said Context)) (ts : List (Token Sort)) (s next : State)
-      → (w : Whole Said Context) (rest : List (Token Sort)) → forms context ≡ Some fs
-      → form_at fits misfits fs [] ts ≡ Ok (w, rest) → step w.said s ≡ Ok next → means context ts s ≡ means w.next rest next
+  -- a form that is read: what it means, and then what comes behind it
+  pub by_form : (context : Context) (ts : List (Token Sort)) (s : State) (w : Whole Said Context) (rest : List (Token Sort))
+      → is_end context ≡ false → form_at fits misfits (forms_in context) [] ts ≡ Ok (w, rest)
+      → means context ts s ≡ (at_line w.line (step w.said s) >>= means w.next rest)
   unfolding text_means
-  goes_on context fs ts s next w rest here read meant = rw (here, reading_of_form fits misfits forms fs [] ts (w, rest) read, meant) refl
+  by_form context ts s w rest more read =
+      let here : forms context ≡ Some (forms_in context) = rw more refl in
+      rw (here, reading_of_form fits misfits forms (forms_in context) [] ts (w, rest) read) refl
 
-  -- a form whose meaning is refused, at its last token
-  pub step_refused : (context : Context) (fs : List (Form Slot Sort Said Context)) (ts : List (Token Sort)) (s : State) (code : Code)
-      → (w : Whole Said Context) (rest : List (Token Sort)) → forms context ≡ Some fs
-      → form_at fits misfits fs [] ts ≡ Ok (w, rest) → step w.said s ≡ Err code
-      → means context ts s ≡ Err (record { line = w.line; code = code })
-  unfolding text_means
-  step_refused context fs ts s code w rest here read meant = rw (here, reading_of_form fits misfits forms fs [] ts (w, rest) read, meant) refl
+  -- a form that means something: the text goes on behind it
+  pub goes_on : (context : Context) (ts : List (Token Sort)) (s next : State) (w : Whole Said Context) (rest : List (Token Sort))
+      → is_end context ≡ false → form_at fits misfits (forms_in context) [] ts ≡ Ok (w, rest) → step w.said s ≡ Ok next
+      → means context ts s ≡ means w.next rest next
+  goes_on context ts s next w rest more read meant =
+      by_form context ts s w rest more read ∙ ap (λ r. at_line w.line r >>= means w.next rest) meant
 
   -- a form that is refused
-  pub form_refused : (context : Context) (fs : List (Form Slot Sort Said Context)) (ts : List (Token Sort)) (s : State) (r : Refusal Code)
-      → forms context ≡ Some fs → form_at fits misfits fs [] ts ≡ Err r → means context ts s ≡ Err r
+  pub form_refused : (context : Context) (ts : List (Token Sort)) (s : State) (r : Refusal Code)
+      → is_end context ≡ false → form_at fits misfits (forms_in context) [] ts ≡ Err r → means context ts s ≡ Err r
   unfolding text_means
-  form_refused context fs ts s r here read = rw (here, reading_of_refusal fits misfits forms fs [] ts r read) refl
+  form_refused context ts s r more read =
+      let here : forms context ≡ Some (forms_in context) = rw more refl in
+      rw (here, reading_of_refusal fits misfits forms (forms_in context) [] ts r read) refl
 
   -- the end of the text
-  pub text_ends : (context : Context) (s : State) → forms context ≡ None → means context [] s ≡ Ok s
+  pub text_ends : (context : Context) (s : State) → is_end context ≡ true → means context [] s ≡ Ok s
   unfolding text_means
-  text_ends context s here = rw here refl
+  text_ends context s end =
+      let none : forms context ≡ None = rw end refl in
+      rw none refl
 
   -- a token behind the end
   pub token_behind : (context : Context) (t : Token Sort) (ts : List (Token Sort)) (s : State)
-      → forms context ≡ None → means context (t ∷ ts) s ≡ Err (record { line = t.line; code = misfits.token t.sort })
+      → is_end context ≡ true → means context (t ∷ ts) s ≡ Err (record { line = t.line; code = misfits.token t.sort })
   unfolding text_means
-  token_behind context t ts s here = rw here refl
+  token_behind context t ts s end =
+      let none : forms context ≡ None = rw end refl in
+      rw none refl
+
+-- what stops the meaning of a form stops the text at its last token
+module _ {Slot Sort Said Context State : Type 0} (fits : Slot → Sort → Bool) (misfits : Misfits Sort model.Code)
+    (is_end : Context → Bool) (forms_in : Context → List (Form Slot Sort Said Context))
+    (step : Said → State → Result State model.Code) where
+  pub stops_text : (context : Context) (ts : List (Token Sort)) (s : State) (w : Whole Said Context) (rest : List (Token Sort)) (stop : Stop)
+      → is_end context ≡ false → form_at fits misfits (forms_in context) [] ts ≡ Ok (w, rest) → Stops stop (step w.said s)
+      → IsRefusal (fault_at w.line stop) (means fits misfits is_end forms_in step context ts s)
+  stops_text context ts s w rest NoMemory more read h = tt
+  stops_text context ts s w rest (Refused code) more read h =
+      by_form fits misfits is_end forms_in step context ts s w rest more read
+      ∙ ap (λ r. at_line w.line r >>= means fits misfits is_end forms_in step w.next rest) h
 
 -- a form that was read has a token, so fewer tokens are left
 module _ {Slot Sort Said Context Code : Type 0} (fits : Slot → Sort → Bool) (misfits : Misfits Sort Code) where

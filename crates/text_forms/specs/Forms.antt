@@ -39,6 +39,11 @@ pub record Refusal (Code : Type 0) : Type 0 where
   pub line : ℕ
   pub code : Code
 
+-- what is refused by a code is refused at this line
+abbrev pub at_line : {A Code : Type 0} → ℕ → Result A Code → Result A (Refusal Code)
+at_line line (Ok x) = Ok x
+at_line line (Err code) = Err (record { line = line; code = code })
+
 -- the codes of a format for a token that does not fit, by its sort, and for a text that ends too early, which is
 -- refused at its last line
 pub record Misfits (Sort Code : Type 0) : Type 0 where

@@ -1,6 +1,7 @@
 -- What a whole text says, form by form, and what that means: forms and meanings are refused in the order of the tokens.
 use Rattle.std.specs.Prelude.{ℕ, Bool, List, [], ◌∷◌, ◌++◌, Option, Some, None, Result, Ok, Err}
-use Rattle.text_forms.specs.Forms.{Token, Form, Refusal, Misfits, agree, whole_or}
+use Rattle.xt_model.specs.Results.{◌>>=◌}
+use Rattle.text_forms.specs.Forms.{Token, Form, Refusal, Misfits, agree, at_line, whole_or}
 
 -- the forms of a text one after another, up to its end or to the first token that does not fit
 pub data Reading (Said Code : Type 0) : Type 0 where
@@ -35,17 +36,12 @@ module _ {Slot Sort Said Context Code : Type 0} (fits : Slot → Sort → Bool) 
       (reading (Some (agree fits t.sort fs)) (read ++ t ∷ []) ts)
 
 module _ {Said State Code : Type 0} (step : Said → State → Result State Code) where
-  -- the state behind a form, or the refusal of what it says, at its last token
-  abbrev pub next_state : ℕ → Result State Code → (State → Result State (Refusal Code)) → Result State (Refusal Code)
-  next_state line (Ok s) more = more s
-  next_state line (Err code) more = Err (record { line = line; code = code })
-
-  -- what a reading means, from a state on: each form in turn changes the state, and the first refusal of either kind
-  -- counts
+  -- what a reading means, from a state on: each form in turn changes the state, or is refused at its last token; the
+  -- first refusal of either kind counts
   abbrev pub meaning : Reading Said Code → State → Result State (Refusal Code)
   meaning Ends s = Ok s
   meaning (Refuses r) s = Err r
-  meaning (Says said line more) s = next_state line (step said s) (meaning more)
+  meaning (Says said line more) s = at_line line (step said s) >>= meaning more
 
 module _ {Slot Sort Said Context State Code : Type 0} (fits : Slot → Sort → Bool) (misfits : Misfits Sort Code)
     (forms : Context → Option (List (Form Slot Sort Said Context))) (step : Said → State → Result State Code) where

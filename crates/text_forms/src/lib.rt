@@ -2,8 +2,10 @@
 //! `specs/Meaning.antt`), and the cursor over a text's tokens that each reader shares.
 #![tactic(auto)]
 
+mod refused;
 mod stop;
 mod terms;
 
-pub use stop::{Refused, Stop};
+pub use refused::{Refused, tokens_refused};
+pub use stop::Stop;
 pub use terms::{Term, Terms, TokenSort};

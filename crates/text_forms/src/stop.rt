@@ -1,23 +1,30 @@
 //! Why what a text says means nothing.
 
 ghost use Rattle.std.specs.Prelude.{◌≡◌};
+ghost use Rattle.text_forms.specs.Stops.{fault_at};
 ghost use Rattle.text_forms.specs.declared.stop.Stop.TheVariants.{NoMemory};
 
 use std::alloc::{AllocError, AllocFailed};
+use xt_lex::TextFault;
 use xt_model::Code;
-
-/// Why a form is none, and at which line.
-#[derive(Clone, Copy, Debug, PartialEq, Eq)]
-pub struct Refused {
-    pub line: u32,
-    pub code: Code,
-}
 
 /// Why a form or a command means nothing: it is refused, or memory was wanted and there was none.
 #[derive(Clone, Copy, Debug, PartialEq, Eq, Drop)]
 pub enum Stop {
     Refused(Code),
     NoMemory,
+}
+
+impl Stop {
+    /// The fault of the text, where what stops it stands at this line.
+    pub fn at_line(self, line: u32) -> TextFault
+        ensures { result ≡ fault_at line self }
+    {
+        match self {
+            Stop::Refused(code) => TextFault::Refused { line, code },
+            Stop::NoMemory => TextFault::NoMemory,
+        }
+    }
 }
 
 impl From<AllocError> for Stop {

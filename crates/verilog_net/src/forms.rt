@@ -8,7 +8,7 @@ ghost use Rattle.verilog_net.specs.Forms.{module_name_forms, header_forms, liste
 ghost use Rattle.verilog_net.specs.Forms.{left_bound_forms, right_bound_forms, declared_forms, opening_forms};
 ghost use Rattle.verilog_net.specs.Forms.{pins_forms, pin_forms, connection_forms, bit_given_forms};
 ghost use Rattle.verilog_net.specs.Forms.{connected_forms, closed_forms, forms_in, is_done};
-ghost use Rattle.text_forms.specs.Stops.{refusal_of, Gives};
+ghost use Rattle.text_forms.specs.Stops.{refusal_of, Reads};
 ghost use Rattle.verilog_net.specs.View.{said, whole_of, refusal_at, IsOther};
 
 use crate::context::Context;
@@ -89,7 +89,7 @@ fn expect<'a>(sort: Sort, terms: &mut Terms<'a, Sort>) -> Result<Term<'a, Sort>,
 
 /// At the start of a text.
 fn at_start<'a>(terms: &mut Terms<'a, Sort>) -> Result<FormRead<'a>, Refused>
-    ensures { Gives (λ r. (whole_of r, terms.new)) result (first_form start_forms terms.old) }
+    ensures { Reads (λ r. (whole_of r, terms.new)) result (first_form start_forms terms.old) }
 {
     let first = any(terms)?;
     match first.sort {
@@ -101,7 +101,7 @@ fn at_start<'a>(terms: &mut Terms<'a, Sort>) -> Result<FormRead<'a>, Refused>
 
 /// Behind `endmodule`.
 fn between<'a>(terms: &mut Terms<'a, Sort>) -> Result<FormRead<'a>, Refused>
-    ensures { Gives (λ r. (whole_of r, terms.new)) result (first_form between_forms terms.old) }
+    ensures { Reads (λ r. (whole_of r, terms.new)) result (first_form between_forms terms.old) }
 {
     let first = any(terms)?;
     match first.sort {
@@ -114,7 +114,7 @@ fn between<'a>(terms: &mut Terms<'a, Sort>) -> Result<FormRead<'a>, Refused>
 
 /// The name of a module.
 fn module_name<'a>(terms: &mut Terms<'a, Sort>) -> Result<FormRead<'a>, Refused>
-    ensures { Gives (λ r. (whole_of r, terms.new)) result (first_form module_name_forms terms.old) }
+    ensures { Reads (λ r. (whole_of r, terms.new)) result (first_form module_name_forms terms.old) }
 {
     let name = expect(Sort::Name, terms)?;
     Ok(done(Item::ModuleName(name.text), name.line, Context::Header))
@@ -122,7 +122,7 @@ fn module_name<'a>(terms: &mut Terms<'a, Sort>) -> Result<FormRead<'a>, Refused>
 
 /// Behind the name of a module.
 fn header<'a>(terms: &mut Terms<'a, Sort>) -> Result<FormRead<'a>, Refused>
-    ensures { Gives (λ r. (whole_of r, terms.new)) result (first_form header_forms terms.old) }
+    ensures { Reads (λ r. (whole_of r, terms.new)) result (first_form header_forms terms.old) }
 {
     let first = any(terms)?;
     match first.sort {
@@ -142,7 +142,7 @@ fn header<'a>(terms: &mut Terms<'a, Sort>) -> Result<FormRead<'a>, Refused>
 
 /// Behind a name of the header.
 fn listed<'a>(terms: &mut Terms<'a, Sort>) -> Result<FormRead<'a>, Refused>
-    ensures { Gives (λ r. (whole_of r, terms.new)) result (first_form listed_forms terms.old) }
+    ensures { Reads (λ r. (whole_of r, terms.new)) result (first_form listed_forms terms.old) }
 {
     let first = any(terms)?;
     match first.sort {
@@ -169,7 +169,7 @@ fn listed<'a>(terms: &mut Terms<'a, Sort>) -> Result<FormRead<'a>, Refused>
 
 /// A statement, or the end of the module.
 fn in_body<'a>(terms: &mut Terms<'a, Sort>) -> Result<FormRead<'a>, Refused>
-    ensures { Gives (λ r. (whole_of r, terms.new)) result (first_form body_forms terms.old) }
+    ensures { Reads (λ r. (whole_of r, terms.new)) result (first_form body_forms terms.old) }
 {
     let first = any(terms)?;
     match first.sort {
@@ -205,7 +205,7 @@ fn in_body<'a>(terms: &mut Terms<'a, Sort>) -> Result<FormRead<'a>, Refused>
 
 /// Behind the left bound of a range.
 fn left_bound<'a>(terms: &mut Terms<'a, Sort>) -> Result<FormRead<'a>, Refused>
-    ensures { Gives (λ r. (whole_of r, terms.new)) result (first_form left_bound_forms terms.old) }
+    ensures { Reads (λ r. (whole_of r, terms.new)) result (first_form left_bound_forms terms.old) }
 {
     expect(Sort::Colon, terms)?;
     let number = expect(Sort::Number, terms)?;
@@ -214,7 +214,7 @@ fn left_bound<'a>(terms: &mut Terms<'a, Sort>) -> Result<FormRead<'a>, Refused>
 
 /// Behind the right bound of a range.
 fn right_bound<'a>(terms: &mut Terms<'a, Sort>) -> Result<FormRead<'a>, Refused>
-    ensures { Gives (λ r. (whole_of r, terms.new)) result (first_form right_bound_forms terms.old) }
+    ensures { Reads (λ r. (whole_of r, terms.new)) result (first_form right_bound_forms terms.old) }
 {
     expect(Sort::RightBracket, terms)?;
     let name = expect(Sort::Name, terms)?;
@@ -223,7 +223,7 @@ fn right_bound<'a>(terms: &mut Terms<'a, Sort>) -> Result<FormRead<'a>, Refused>
 
 /// Behind a declared name.
 fn declared<'a>(terms: &mut Terms<'a, Sort>) -> Result<FormRead<'a>, Refused>
-    ensures { Gives (λ r. (whole_of r, terms.new)) result (first_form declared_forms terms.old) }
+    ensures { Reads (λ r. (whole_of r, terms.new)) result (first_form declared_forms terms.old) }
 {
     let first = any(terms)?;
     match first.sort {
@@ -238,7 +238,7 @@ fn declared<'a>(terms: &mut Terms<'a, Sort>) -> Result<FormRead<'a>, Refused>
 
 /// Behind the name of an instance.
 fn opening<'a>(terms: &mut Terms<'a, Sort>) -> Result<FormRead<'a>, Refused>
-    ensures { Gives (λ r. (whole_of r, terms.new)) result (first_form opening_forms terms.old) }
+    ensures { Reads (λ r. (whole_of r, terms.new)) result (first_form opening_forms terms.old) }
 {
     let first = any(terms)?;
     match first.sort {
@@ -250,7 +250,7 @@ fn opening<'a>(terms: &mut Terms<'a, Sort>) -> Result<FormRead<'a>, Refused>
 
 /// Behind the `(` of an instance.
 fn pins<'a>(terms: &mut Terms<'a, Sort>) -> Result<FormRead<'a>, Refused>
-    ensures { Gives (λ r. (whole_of r, terms.new)) result (first_form pins_forms terms.old) }
+    ensures { Reads (λ r. (whole_of r, terms.new)) result (first_form pins_forms terms.old) }
 {
     let first = any(terms)?;
     match first.sort {
@@ -268,7 +268,7 @@ fn pins<'a>(terms: &mut Terms<'a, Sort>) -> Result<FormRead<'a>, Refused>
 
 /// Behind the name of a pin.
 fn pin<'a>(terms: &mut Terms<'a, Sort>) -> Result<FormRead<'a>, Refused>
-    ensures { Gives (λ r. (whole_of r, terms.new)) result (first_form pin_forms terms.old) }
+    ensures { Reads (λ r. (whole_of r, terms.new)) result (first_form pin_forms terms.old) }
 {
     let paren = expect(Sort::LeftParen, terms)?;
     Ok(done(Item::Nothing, paren.line, Context::Connection))
@@ -276,7 +276,7 @@ fn pin<'a>(terms: &mut Terms<'a, Sort>) -> Result<FormRead<'a>, Refused>
 
 /// Behind the `(` of a pin.
 fn connection<'a>(terms: &mut Terms<'a, Sort>) -> Result<FormRead<'a>, Refused>
-    ensures { Gives (λ r. (whole_of r, terms.new)) result (first_form connection_forms terms.old) }
+    ensures { Reads (λ r. (whole_of r, terms.new)) result (first_form connection_forms terms.old) }
 {
     let first = any(terms)?;
     match first.sort {
@@ -315,7 +315,7 @@ fn connection<'a>(terms: &mut Terms<'a, Sort>) -> Result<FormRead<'a>, Refused>
 
 /// Behind the `]` of a bit.
 fn bit_given<'a>(terms: &mut Terms<'a, Sort>) -> Result<FormRead<'a>, Refused>
-    ensures { Gives (λ r. (whole_of r, terms.new)) result (first_form bit_given_forms terms.old) }
+    ensures { Reads (λ r. (whole_of r, terms.new)) result (first_form bit_given_forms terms.old) }
 {
     let paren = expect(Sort::RightParen, terms)?;
     Ok(done(Item::Nothing, paren.line, Context::Connected))
@@ -323,7 +323,7 @@ fn bit_given<'a>(terms: &mut Terms<'a, Sort>) -> Result<FormRead<'a>, Refused>
 
 /// Behind the `)` of a pin.
 fn connected<'a>(terms: &mut Terms<'a, Sort>) -> Result<FormRead<'a>, Refused>
-    ensures { Gives (λ r. (whole_of r, terms.new)) result (first_form connected_forms terms.old) }
+    ensures { Reads (λ r. (whole_of r, terms.new)) result (first_form connected_forms terms.old) }
 {
     let first = any(terms)?;
     match first.sort {
@@ -347,7 +347,7 @@ fn connected<'a>(terms: &mut Terms<'a, Sort>) -> Result<FormRead<'a>, Refused>
 
 /// Behind the `)` of an instance.
 fn closed<'a>(terms: &mut Terms<'a, Sort>) -> Result<FormRead<'a>, Refused>
-    ensures { Gives (λ r. (whole_of r, terms.new)) result (first_form closed_forms terms.old) }
+    ensures { Reads (λ r. (whole_of r, terms.new)) result (first_form closed_forms terms.old) }
 {
     let first = any(terms)?;
     match first.sort {
@@ -363,7 +363,7 @@ fn closed<'a>(terms: &mut Terms<'a, Sort>) -> Result<FormRead<'a>, Refused>
 
 /// Behind the end of the text.
 fn at_end<'a>(terms: &mut Terms<'a, Sort>) -> Result<FormRead<'a>, Refused>
-    ensures { Gives (λ r. (whole_of r, terms.new)) result (first_form [] terms.old) }
+    ensures { Reads (λ r. (whole_of r, terms.new)) result (first_form [] terms.old) }
 {
     let first = any(terms)?;
     Err(refused(first))
@@ -371,7 +371,7 @@ fn at_end<'a>(terms: &mut Terms<'a, Sort>) -> Result<FormRead<'a>, Refused>
 
 /// The next form.
 pub fn read_form<'a>(context: Context, terms: &mut Terms<'a, Sort>) -> Result<FormRead<'a>, Refused>
-    ensures { Gives (λ r. (whole_of r, terms.new)) result (first_form (forms_in context) terms.old) }
+    ensures { Reads (λ r. (whole_of r, terms.new)) result (first_form (forms_in context) terms.old) }
 {
     match context {
         Context::Start => at_start(terms),

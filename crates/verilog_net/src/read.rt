@@ -2,10 +2,9 @@
 
 ghost use Rattle.std.specs.Prelude.{◌≡◌, ◌≤◌, length, false};
 ghost use Rattle.verilog_net.specs.Forms.{is_done};
-ghost use Rattle.verilog_net.specs.Meaning.{nothing};
 ghost use Rattle.verilog_net.specs.declared.context.Context.TheVariants.{Start};
 ghost use Rattle.verilog_net.specs.Reading.{rest_means, text_state, modules_in, modules_of, one_of, netlist_of_text};
-ghost use Rattle.verilog_net.specs.Reading.{Reads, Steps};
+ghost use Rattle.text_forms.specs.Stops.{Gives, Steps};
 
 use crate::context::Context;
 use crate::forms::{is_done, read_form, refused};
@@ -13,9 +12,9 @@ use crate::netlist::{Modules, Netlist};
 use crate::sort::Sort;
 use crate::state::Progress;
 use std::alloc::Global;
-use text_forms::{Stop, Terms};
-use xt_lex::{Code, LexFault, MOST_BYTES, Rules, TextFault, find_fault};
-use xt_model::Row;
+use text_forms::{Terms, tokens_refused};
+use xt_lex::{MOST_BYTES, Rules, TextFault};
+use xt_model::{Code, Row};
 
 /// Reads one form and does what it says.
 fn step<'a>(
@@ -25,52 +24,30 @@ fn step<'a>(
     state: &mut Progress<'a>,
 ) -> Result<Context, TextFault>
     requires { is_done context ≡ false }
-    ensures { Steps context terms.old state.old result terms.new state.new }
+    ensures { Steps rest_means context terms.old state.old result terms.new state.new }
 {
-    let read = match read_form(context, terms) {
-        Ok(read) => read,
-        Err(refused) => {
-            return Err(TextFault::Refused {
-                line: refused.line,
-                code: refused.code,
-            });
-        }
-    };
+    let read = read_form(context, terms)?;
     match state.act(alloc, read.item) {
         Ok(()) => Ok(read.next),
-        Err(Stop::Refused(code)) => Err(TextFault::Refused {
-            line: read.line,
-            code,
-        }),
-        Err(Stop::NoMemory) => Err(TextFault::NoMemory),
+        Err(stop) => Err(stop.at_line(read.line)),
     }
 }
 
 /// Reads a text without a fault of its tokens to its end.
 fn read_all<'a>(
     alloc: Global,
-    single: bool,
     terms: &mut Terms<'a, Sort>,
-) -> Result<Progress<'a>, TextFault>
-    ensures { Reads (λ s. s) result (rest_means Start terms.old (nothing single)) }
+    state: &mut Progress<'a>,
+) -> Result<(), TextFault>
+    ensures { Gives (λ _. state.new) result (rest_means Start terms.old state.old) }
 {
-    let mut state = Progress::new(alloc, single);
     let mut context = Context::Start;
     'forms: while !is_done(context) {
-        match step(alloc, context, terms, &mut state) {
-            Ok(next) => context = next,
-            Err(fault) => return Err(fault),
-        }
+        context = step(alloc, context, terms, state)?;
     }
     match terms.next_term() {
-        None => Ok(state),
-        Some(more) => {
-            let refused = refused(more);
-            Err(TextFault::Refused {
-                line: refused.line,
-                code: refused.code,
-            })
-        }
+        None => Ok(()),
+        Some(more) => Err(TextFault::from(refused(more))),
     }
 }
 
@@ -78,25 +55,13 @@ fn read_all<'a>(
 #[tactic(auto, unfolding(crate::specs::Reading::text_state))]
 fn modules(alloc: Global, single: bool, bytes: &[u8]) -> Result<Vec<Netlist>, TextFault>
     requires { length bytes.now ≤ MOST_BYTES }
-    ensures { Reads (λ ms. ms.items) result (modules_in (text_state single bytes.now)) }
+    ensures { Gives (λ ms. ms.items) result (modules_in (text_state single bytes.now)) }
 {
-    match find_fault(bytes, Rules::Verilog) {
-        Some(LexFault::Byte(line)) => {
-            return Err(TextFault::Refused {
-                line,
-                code: Code::V1,
-            });
-        }
-        Some(LexFault::Unended(line)) => {
-            return Err(TextFault::Refused {
-                line,
-                code: Code::V2,
-            });
-        }
-        Some(LexFault::NoMemory) => return Err(TextFault::NoMemory),
-        None => {}
+    if let Some(refused) = tokens_refused(bytes, Rules::Verilog, Code::V1, Code::V2) {
+        return Err(TextFault::from(refused));
     }
-    let state = read_all(alloc, single, &mut Terms::new(bytes, Rules::Verilog))?;
+    let mut state = Progress::new(alloc, single);
+    read_all(alloc, &mut Terms::new(bytes, Rules::Verilog), &mut state)?;
     Ok(state.into_ended())
 }
 
@@ -113,7 +78,7 @@ fn modules(alloc: Global, single: bool, bytes: &[u8]) -> Result<Vec<Netlist>, Te
 /// bytes.
 pub fn read_modules(alloc: Global, bytes: &[u8]) -> Result<Modules, TextFault>
     requires { length bytes.now ≤ MOST_BYTES }
-    ensures { Reads (λ m. m.list) result (modules_of bytes.now) }
+    ensures { Gives (λ m. m.list) result (modules_of bytes.now) }
 {
     let list = modules(alloc, false, bytes)?;
     Ok(Modules {
@@ -125,7 +90,7 @@ pub fn read_modules(alloc: Global, bytes: &[u8]) -> Result<Modules, TextFault>
 /// second module and at the `)` behind a whole bus as a connection. `NoMemory`, time and memory are as there.
 pub fn read_netlist(alloc: Global, bytes: &[u8]) -> Result<Netlist, TextFault>
     requires { length bytes.now ≤ MOST_BYTES }
-    ensures { Reads (λ m. m) result (netlist_of_text bytes.now) }
+    ensures { Gives (λ m. m) result (netlist_of_text bytes.now) }
 {
     let mut list = modules(alloc, true, bytes)?;
     if list.is_empty() {

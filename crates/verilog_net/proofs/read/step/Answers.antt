@@ -1,21 +1,26 @@
+use Rattle.std.proofs.lemmas.Result.{err_from_is_err_and}
 use Rattle.text_forms.specs.Stops.{refusal_of}
+use Rattle.text_forms.proofs.ByForms.{goes_on, form_refused, stops_text, fewer_tokens}
+use Rattle.verilog_net.specs.Sorts.{same_sort}
+use Rattle.verilog_net.specs.Forms.{misfits, forms_in, is_done}
+use Rattle.verilog_net.specs.Meaning.{means}
 use Rattle.verilog_net.specs.View.{whole_of}
-use Rattle.verilog_net.proofs.Steps.{form_goes_on, meaning_refused, form_is_refused, fewer}
 use Rattle.verilog_net.proofs.read.step.Goals as goal
+
+pub returns-in_err-read : goal.returns-in_err-read
+returns-in_err-read c =
+    let p = err_from_is_err_and c.from_residual.result c.from_residual.ensures.1 in
+    rw (p.1, p.2) (form_refused same_sort misfits is_done forms_in means c.args.context c.args.terms.now c.args.state.now (refusal_of c.in_err-read.field-0.0) c.requires c.in_err-read.ensures)
+
+pub returns-in-Ok : goal.returns-in-Ok
+returns-in-Ok c =
+    let w = whole_of c.in_ok-read.read in
+    let rest = c.read_form.new.terms in (
+      goes_on same_sort misfits is_done forms_in means c.args.context c.args.terms.now c.args.state.now c.act.new.self w rest c.requires c.in_ok-read.ensures c.in-Ok.ensures,
+      fewer_tokens same_sort misfits (forms_in c.args.context) [] c.args.terms.now w rest c.in_ok-read.ensures,
+    )
 
 pub returns-in-Err : goal.returns-in-Err
 returns-in-Err c =
-    form_is_refused c.args.context c.args.terms.now c.args.state.now (refusal_of c.in-Err.refused) c.requires c.in-Err.ensures
-
-pub returns-in-Ok-act : goal.returns-in-Ok-act
-returns-in-Ok-act c =
-    let w = whole_of c.in-Ok.read in
-    let rest = c.read_form.new.terms in (
-      form_goes_on c.args.context c.args.terms.now rest c.args.state.now c.act.new.self w c.requires c.in-Ok.ensures c.in-Ok-act.ensures,
-      fewer c.args.context c.args.terms.now rest w c.in-Ok.ensures,
-    )
-
-pub returns-in-Err-Refused : goal.returns-in-Err-Refused
-returns-in-Err-Refused c =
-    let refused = rw c.in-Err-Refused.field-0-is at c.in-Err-Refused.ensures in
-    meaning_refused c.args.context c.args.terms.now c.read_form.new.terms c.args.state.now c.in-Err-Refused.code (whole_of c.in-Ok.read) c.requires c.in-Ok.ensures refused
+    rw c.at_line.ensures
+    (stops_text same_sort misfits is_done forms_in means c.args.context c.args.terms.now c.args.state.now (whole_of c.in_ok-read.read) c.read_form.new.terms c.in-Err.stop c.requires c.in_ok-read.ensures c.in-Err.ensures)
