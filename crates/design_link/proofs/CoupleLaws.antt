@@ -3,6 +3,7 @@ use Rattle.std.specs.Prelude.{◌≡◌, refl, ℕ, suc, ◌+◌, ◌<◌, ◌�
 use Rattle.std.specs.Prelude.{ℤ, pos, negsuc, ◌+ℤ◌, ◌≤ℤ◌, Option, Some, None, IfSome, option_map, bytes_eq, if◌then◌else◌}
 use Rattle.std.specs.Int.RustNames.{unsigned_abs}
 use Rattle.std.specs.List.{AllByRecursion, cons_option}
+use Rattle.std.specs.Option.{option_or}
 use Rattle.std.proofs.Common.{sym, ap, ◌∙◌}
 use Rattle.std.proofs.lemmas.Bool.{cond_both, eqb-false, leb-true}
 use Rattle.std.proofs.lemmas.List.Elements.{recursion_from_All}
@@ -25,7 +26,7 @@ use Rattle.link_rules.specs.declared.fault.LinkFault.{LinkFault}
 use Rattle.link_rules.specs.declared.fault.LinkFault.TheVariants as faults
 use Rattle.link_rules.specs.Bits.{bits, net_of}
 use Rattle.link_rules.specs.Ends.{NetEnd}
-use Rattle.link_rules.specs.Nodes.{text_of, split_last, net_named, pin_net, or_net, cut_net, node_net}
+use Rattle.link_rules.specs.Nodes.{text_of, split_last, net_named, pin_net, cut_net, node_net}
 use Rattle.link_rules.specs.Wires.{Capacitor, Wire, coupled, net_at, own_first, capacitor_by, capacitor_of, wire_in, listed_by, listed, wire_of, coupling_of, tap_of, node_at}
 use Rattle.link_rules.specs.Limits.{or_fault, passed, most_load, greatest_load}
 use Rattle.link_rules.specs.Sound.{IsQuantity, IsSoundCap, IsSoundWire, AreSoundParasitics}
@@ -49,7 +50,7 @@ module _ (netlist : Netlist) where
       let y = got (value_of pin x.0.pins) (net_of netlist.nets) net x.2 in
       bit_within netlist.nets y.0 net y.2
 
-  or_there : (a b : Option ℕ) (net : ℕ) → ((n : ℕ) → a ≡ Some n → IsNet n) → ((n : ℕ) → b ≡ Some n → IsNet n) → or_net netlist a b ≡ Some net → IsNet net
+  or_there : (a b : Option ℕ) (net : ℕ) → ((n : ℕ) → a ≡ Some n → IsNet n) → ((n : ℕ) → b ≡ Some n → IsNet n) → option_or a b ≡ Some net → IsNet net
   or_there (Some n) b net f g e = f net e
   or_there None b net f g e = g net e
 

@@ -1,5 +1,6 @@
 -- Bytes that may be a name are one.
 use Rattle.std.proofs.Common.{◌≡◌, refl, ℕ, ◌≤◌, List, [], ◌∷◌, length, arith}
+use Rattle.std.proofs.lemmas.Bool.{and_parts}
 use Rattle.std.proofs.lemmas.Bool.Decides.{nat_tests}
 use Rattle.std.proofs.lemmas.List.Elements.{All-from_recursion}
 use Rattle.std.specs.Prelude.{Bool, true, false, not, ◌&&◌, nat_le, ◌==◌}
@@ -8,16 +9,12 @@ use Rattle.std.specs.List.{list_all, AllByRecursion}
 use Rattle.xt_model.specs.Names.{IsName}
 use Rattle.liberty_tables.specs.Contents.{is_name}
 
-both : (b c : Bool) → (b && c) ≡ true → (b ≡ true) × (c ≡ true)
-both true c e = (refl, e)
-both false c e = (e, absurd (cc e))
-
 abbrev IsPrintable : ℕ → Type 0
 IsPrintable b = (33 ≤ b) × (b ≤ 126)
 
 printable_byte : (b : ℕ) → is_ascii_graphic b ≡ true → IsPrintable b
 printable_byte b e =
-    let parts = both (nat_le 33 b) (nat_le b 126) e in
+    let parts = and_parts (nat_le 33 b) (nat_le b 126) e in
     let low = parts.0 in
     let high = parts.1 in
     (grind (arith, nat_tests, low), grind (arith, nat_tests, high))
@@ -25,13 +22,13 @@ printable_byte b e =
 printable : (bytes : List ℕ) → list_all is_ascii_graphic bytes ≡ true → AllByRecursion IsPrintable bytes
 printable [] e = tt
 printable (b ∷ more) e =
-    let parts = both (is_ascii_graphic b) (list_all is_ascii_graphic more) e in
+    let parts = and_parts (is_ascii_graphic b) (list_all is_ascii_graphic more) e in
     (printable_byte b parts.0, printable more parts.1)
 
 pub is_name_sound : (name : List ℕ) → is_name name ≡ true → IsName name
 is_name_sound name e =
-    let first = both (not (length name == 0)) (nat_le (length name) 1024 && list_all is_ascii_graphic name) e in
-    let second = both (nat_le (length name) 1024) (list_all is_ascii_graphic name) first.1 in
+    let first = and_parts (not (length name == 0)) (nat_le (length name) 1024 && list_all is_ascii_graphic name) e in
+    let second = and_parts (nat_le (length name) 1024) (list_all is_ascii_graphic name) first.1 in
     let some = first.0 in
     let short = second.0 in
     record {

@@ -1,13 +1,9 @@
 -- What a string holds, by the first quote or backslash in it.
 use Rattle.std.proofs.Common.{◌≡◌, ℕ, zero, suc, ◌<◌, Bool, true, false, ◌||◌, List, [], ◌∷◌, length, take, if◌then◌else◌, ◌==◌, ◌≢◌, slice_index, sym, ap, ◌∙◌, refl, arith}
-use Rattle.std.proofs.lemmas.Bool.{false≢true}
+use Rattle.std.proofs.lemmas.Bool.{false≢true, false_from_ne_true}
 use Rattle.std.proofs.lemmas.Bool.Decides.{nat_tests}
 use Rattle.memchr.specs.Find.{Nowhere, Passes, is_byte2}
 use Rattle.liberty_tables.specs.Contents.{unquoted, has_escape}
-
-is_false : (t : Bool) → (t ≡ true → ⊥) → t ≡ false
-is_false true h = absurd (h refl)
-is_false false h = refl
 
 -- a byte that is neither is held as it stands
 plain_by : (quote escape : Bool) (b : ℕ) (more : List ℕ) → (quote || escape) ≡ false
@@ -26,7 +22,7 @@ escape_by false true more h = absurd (false≢true (sym h))
 escape_by false false more h = refl
 
 first_plain : (b : ℕ) (more : List ℕ) (n : ℕ) → Nowhere (Passes (is_byte2 34 92) (b ∷ more)) 0 (suc n) → is_byte2 34 92 b ≡ false
-first_plain b more n h = is_false (is_byte2 34 92 b) (λ e. h 0 (omega arith) (omega arith) e)
+first_plain b more n h = false_from_ne_true (is_byte2 34 92 b) (λ e. h 0 (omega arith) (omega arith) e)
 
 others_plain : (b : ℕ) (more : List ℕ) (n : ℕ) → Nowhere (Passes (is_byte2 34 92) (b ∷ more)) 0 (suc n) → Nowhere (Passes (is_byte2 34 92) more) 0 n
 others_plain b more n h = λ k low high p. h (suc k) (omega arith) (omega arith) p
@@ -56,6 +52,6 @@ pub escape_behind : (bytes : List ℕ) (k : ℕ) → k < length bytes → Nowher
     → slice_index bytes k ≢ 34 → has_escape bytes ≡ true
 escape_behind [] k h none mark e = absurd (omega arith)
 escape_behind (b ∷ more) zero h none mark e =
-    escape_at (b == 34) (b == 92) more mark (is_false (b == 34) (λ f. let k : b ≡ 34 = grind (arith, nat_tests) in e k))
+    escape_at (b == 34) (b == 92) more mark (false_from_ne_true (b == 34) (λ f. let k : b ≡ 34 = grind (arith, nat_tests) in e k))
 escape_behind (b ∷ more) (suc k) h none mark e =
     escape_by (b == 34) (b == 92) more (first_plain b more k none) ∙ escape_behind more k (omega arith) (others_plain b more k none) mark e

@@ -1,5 +1,6 @@
 -- Tables: indexes that increase, values that are turned, and tables without a fault.
 use Rattle.std.proofs.Common.{◌≡◌, refl, ap, ◌∙◌, ℕ, zero, suc, ◌+◌, ◌*◌, ◌<◌, List, [], ◌∷◌, ◌++◌, length, map, get_or, suc-mul, append_assoc, arith}
+use Rattle.std.proofs.lemmas.Bool.{and_parts}
 use Rattle.std.proofs.lemmas.Bool.Decides.{nat_tests}
 use Rattle.std.proofs.lemmas.Float.{T_from_true}
 use Rattle.std.proofs.lemmas.Int.{ints}
@@ -66,10 +67,6 @@ both : (b c : Bool) → (if b then c else false) ≡ true → (b ≡ true) × (c
 both true c e = (refl, e)
 both false c e = (e, absurd (cc e))
 
-both_and : (b c : Bool) → (b && c) ≡ true → (b ≡ true) × (c ≡ true)
-both_and true c e = (refl, e)
-both_and false c e = (e, absurd (cc e))
-
 below_from : (x y : ℤ) → int_lt x y ≡ true → x <ℤ y
 below_from x y e = record { lt = T_from_true (int_lt x y) e }
 
@@ -94,10 +91,10 @@ in_order (x ∷ xs) e zero (suc j) lt within = first_least x xs e j (omega (arit
 in_order (x ∷ xs) e (suc i) (suc j) lt within = in_order xs (rest_increases x xs e) i j (omega (arith, lt)) (omega (arith, within))
 
 is_index_both : (xs : List ℤ) → is_index xs ≡ true → (is_sized xs ≡ true) × (is_increasing xs ≡ true)
-is_index_both xs = both_and (is_sized xs) (is_increasing xs)
+is_index_both xs = and_parts (is_sized xs) (is_increasing xs)
 
 sized_both : (xs : List ℤ) → is_sized xs ≡ true → (nat_lt 0 (length xs) ≡ true) × (nat_lt (length xs) 65 ≡ true)
-sized_both xs = both_and (nat_lt 0 (length xs)) (nat_lt (length xs) 65)
+sized_both xs = and_parts (nat_lt 0 (length xs)) (nat_lt (length xs) 65)
 
 -- an index that passes the tests is one
 pub index_from : (xs : List ℤ) → is_index xs ≡ true → All IsTableNumber xs → IsIndex xs

@@ -1,6 +1,7 @@
 -- The axes of a table: each has a variable and an index.
 use Rattle.std.specs.Prelude.{ℕ, Bool, true, false, List, codes, ℤ, Option, Some, None, if◌then◌else◌}
 use Rattle.std.specs.Str.{bytes_eq}
+use Rattle.std.specs.Option.{option_or}
 use Rattle.name_numbers.specs.Names.{Text}
 use Rattle.liberty_groups.specs.Trees.{Entry}
 use Rattle.liberty_tables.specs.declared.units.Scales.{Scales}
@@ -57,11 +58,6 @@ abbrev pub axis_scale : Bool → Scales → Option Variable → ℤ
 axis_scale is_delay scales None = scales.time
 axis_scale is_delay scales (Some v) = side_scale is_delay scales v.side
 
--- the first of two indexes, where there is one
-abbrev pub or_index : Option Index → Option Index → Option Index
-or_index (Some a) b = Some a
-or_index None b = b
-
 module _ (bytes : List ℕ) where
   -- what the variable of an attribute measures
   abbrev pub variable_by : Bool → Option Entry → Option Variable
@@ -82,5 +78,5 @@ module _ (bytes : List ℕ) where
   unfoldable pub own_axis : Bool → Scales → Option Entry → Axis → Axis
   own_axis is_delay scales own axis = record {
     variable = axis.variable;
-    index = or_index (index_by (axis_scale is_delay scales axis.variable) own) axis.index;
+    index = option_or (index_by (axis_scale is_delay scales axis.variable) own) axis.index;
   }

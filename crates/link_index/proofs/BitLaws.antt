@@ -2,6 +2,7 @@
 use Rattle.std.proofs.Common.{◌≡◌, ℕ, zero, suc, ◌+◌, ◌-◌, ◌<◌, ◌≤◌, Bool, true, false, cond, eqb, leb, ◌&&◌, List, [], ◌∷◌, ◌++◌, length, map, refl, sym, ap, ◌∙◌, arith, inl, inr, ◌⊎◌, append_assoc, length-append, take}
 use Rattle.std.specs.Prelude.{Option, Some, None, option_map, position, nat_le}
 use Rattle.std.specs.List.{position_from, slice_get}
+use Rattle.std.specs.Option.{option_or}
 use Rattle.std.proofs.lemmas.Bool.{cases_lt, cases_eq, eq-eqb, ne_eqb, le-leb, lt-leb}
 use Rattle.std.proofs.lemmas.Iterator.Adapters.{position_from-zero}
 use Rattle.std.proofs.lemmas.List.{take_more}
@@ -17,20 +18,21 @@ use Rattle.link_index.specs.Bits.{width, offset}
 pub position_is : {B : Type 0} (p : B → Bool) (xs : List B) → position p xs ≡ position_from p 0 xs
 position_is p xs = position_from-zero p xs
 
+-- a value, or else none
+pub or_none : {V : Type 0} (o : Option V) → option_or o None ≡ o
+or_none None = refl
+or_none (Some v) = refl
+
 -- so far along
 later : ℕ → Option ℕ → Option ℕ
 later k o = option_map (λ i. k + i) o
 
-abbrev pub or_later : Option ℕ → Option ℕ → Option ℕ
-or_later (Some i) o = Some i
-or_later None o = o
-
-pub from-append : {B : Type 0} (p : B → Bool) (i : ℕ) (xs ys : List B) → position_from p i (xs ++ ys) ≡ or_later (position_from p i xs) (position_from p (i + length xs) ys)
+pub from-append : {B : Type 0} (p : B → Bool) (i : ℕ) (xs ys : List B) → position_from p i (xs ++ ys) ≡ option_or (position_from p i xs) (position_from p (i + length xs) ys)
 from-append p i [] ys = ap (λ k. position_from p k ys) (omega arith)
-from-append p i (x ∷ xs) ys = by (p x) (from-append p (i + 1) xs ys ∙ ap (λ k. or_later (position_from p (i + 1) xs) (position_from p k ys)) (omega arith))
+from-append p i (x ∷ xs) ys = by (p x) (from-append p (i + 1) xs ys ∙ ap (λ k. option_or (position_from p (i + 1) xs) (position_from p k ys)) (omega arith))
   where
-    by : (b : Bool) → position_from p (i + 1) (xs ++ ys) ≡ or_later (position_from p (i + 1) xs) (position_from p (i + suc (length xs)) ys)
-        → cond b (Some i) (position_from p (i + 1) (xs ++ ys)) ≡ or_later (cond b (Some i) (position_from p (i + 1) xs)) (position_from p (i + suc (length xs)) ys)
+    by : (b : Bool) → position_from p (i + 1) (xs ++ ys) ≡ option_or (position_from p (i + 1) xs) (position_from p (i + suc (length xs)) ys)
+        → cond b (Some i) (position_from p (i + 1) (xs ++ ys)) ≡ option_or (cond b (Some i) (position_from p (i + 1) xs)) (position_from p (i + suc (length xs)) ys)
     by true h = refl
     by false h = h
 
@@ -106,10 +108,6 @@ falling_there b i f (suc n) h l = elim (cases_eq f b) [
     le_apart x y le d = omega (arith, d)
 
 -- a bit among those of a net with this range
-or_none : (o : Option ℕ) → or_later o None ≡ o
-or_none None = refl
-or_none (Some i) = refl
-
 module _ (d b : ℕ) (name : Text) (role : PortRole) where
   on_bus : (i : ℕ) (ks : List ℕ) → position_from (is_bit d b) i (map (bus_bit d name role) ks) ≡ position_from (λ k. eqb k b) i ks
   on_bus i [] = refl

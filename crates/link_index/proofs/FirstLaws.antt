@@ -2,6 +2,7 @@
 use Rattle.std.specs.Prelude.{◌≡◌, refl, ℕ, Bool, true, false, cond, List, [], ◌∷◌, length, Option, Some, None, option_map, is_some, not, position, find, drop, IfSome}
 use Rattle.std.specs.Prelude.{unwrap_or, ◌++◌, ◌||◌, suc}
 use Rattle.std.specs.List.{list_any, position_from, position_or_len, slice_get}
+use Rattle.std.specs.Option.{option_or}
 use Rattle.std.proofs.Common.{sym, ap, ◌∙◌, arith, get_or, take, ◌+◌, ◌-◌, ◌<◌, ◌≤◌, ltb, subst, ◌⊎◌, inl, inr}
 use Rattle.std.proofs.lemmas.Slice.Eq.{bytes_eq-Decides}
 use Rattle.std.proofs.lemmas.Bool.{false≢true, lt-ltb, cases_lt, ltb-true, ltb-false}
@@ -12,12 +13,9 @@ use Rattle.std.proofs.lemmas.List.Sums.{prefix_len-le-length}
 use Rattle.std.proofs.lemmas.List.Folds.{find_at}
 use Rattle.std.specs.Str.{bytes_eq}
 use Rattle.name_numbers.specs.Names.{Text, value_of, with_value}
-use Rattle.link_index.specs.First.{or_first}
 use Rattle.link_index.specs.Cells.{at_place}
+use Rattle.link_index.proofs.BitLaws.{or_none, from-append}
 
-pub or_none : {V : Type 0} (o : Option V) → or_first o None ≡ o
-or_none (Some v) = refl
-or_none None = refl
 
 -- a test of bytes, as an equation or not
 module _ {V : Type 0} where
@@ -54,29 +52,29 @@ module _ {V : Type 0} where
   value_set m n v [] = refl
   value_set m n v (e ∷ more) = set_one m n v e more (bytes_eq n e.0) refl (value_set m n v more)
 
-  new_by : (m n : Text) (v : V) (o : Option V) (b : Bool) → bytes_eq m n ≡ b → (m ≡ n → o ≡ None) → cond b (Some v) o ≡ or_first o (cond b (Some v) None)
+  new_by : (m n : Text) (v : V) (o : Option V) (b : Bool) → bytes_eq m n ≡ b → (m ≡ n → o ≡ None) → cond b (Some v) o ≡ option_or o (cond b (Some v) None)
   new_by m n v o true e h = rw (h ((bytes_eq-Decides m n).0 e)) refl
   new_by m n v o false e h = sym (or_none o)
 
   -- a name without a value gets one
   pub first_new : (m n : Text) (v : V) (t : List (Text × V)) → value_of n t ≡ None
-      → value_of m (with_value n v t) ≡ or_first (value_of m t) (cond (bytes_eq m n) (Some v) None)
+      → value_of m (with_value n v t) ≡ option_or (value_of m t) (cond (bytes_eq m n) (Some v) None)
   first_new m n v t h = value_set m n v t ∙ new_by m n v (value_of m t) (bytes_eq m n) refl (λ e. ap (λ x. value_of x t) e ∙ h)
 
-  old_by : (m n : Text) (v u : V) (o : Option V) (b : Bool) → bytes_eq m n ≡ b → (m ≡ n → o ≡ Some u) → o ≡ or_first o (cond b (Some v) None)
+  old_by : (m n : Text) (v u : V) (o : Option V) (b : Bool) → bytes_eq m n ≡ b → (m ≡ n → o ≡ Some u) → o ≡ option_or o (cond b (Some v) None)
   old_by m n v u o true e h = rw (h ((bytes_eq-Decides m n).0 e)) refl
   old_by m n v u o false e h = sym (or_none o)
 
   -- a name with a value keeps it
   pub first_old : (m n : Text) (v u : V) (t : List (Text × V)) → value_of n t ≡ Some u
-      → value_of m t ≡ or_first (value_of m t) (cond (bytes_eq m n) (Some v) None)
+      → value_of m t ≡ option_or (value_of m t) (cond (bytes_eq m n) (Some v) None)
   first_old m n v u t h = old_by m n v u (value_of m t) (bytes_eq m n) refl (λ e. ap (λ x. value_of x t) e ∙ h)
 
   -- a table with one item more, of the items that are left
-  pub one_more : (a b tail : Option V) (p : Bool) (v : V) → b ≡ or_first a (cond p (Some v) None) → or_first b tail ≡ or_first a (cond p (Some v) tail)
-  one_more a b tail p v e = ap (λ o. or_first o tail) e ∙ by a p
+  pub one_more : (a b tail : Option V) (p : Bool) (v : V) → b ≡ option_or a (cond p (Some v) None) → option_or b tail ≡ option_or a (cond p (Some v) tail)
+  one_more a b tail p v e = ap (λ o. option_or o tail) e ∙ by a p
     where
-      by : (a : Option V) (p : Bool) → or_first (or_first a (cond p (Some v) None)) tail ≡ or_first a (cond p (Some v) tail)
+      by : (a : Option V) (p : Bool) → option_or (option_or a (cond p (Some v) None)) tail ≡ option_or a (cond p (Some v) tail)
       by (Some x) p = refl
       by None true = refl
       by None false = refl
@@ -156,60 +154,50 @@ rest_of xs = take (length xs - 1) (drop 1 xs)
 -- a table with the first of the pairs that are left
 pub values_one : {V : Type 0} (t u : List (Text × V)) (n : Text) (v : V) (rest : List (Text × V)) (d : Text × V)
     → 1 ≤ length rest → n ≡ (get_or rest 0 d).0 → v ≡ (get_or rest 0 d).1
-    → ((other : Text) → value_of other u ≡ or_first (value_of other t) (cond (bytes_eq other n) (Some v) None))
-    → (name : Text) → or_first (value_of name u) (value_of name (rest_of rest)) ≡ or_first (value_of name t) (value_of name rest)
+    → ((other : Text) → value_of other u ≡ option_or (value_of other t) (cond (bytes_eq other n) (Some v) None))
+    → (name : Text) → option_or (value_of name u) (value_of name (rest_of rest)) ≡ option_or (value_of name t) (value_of name rest)
 values_one t u n v rest d some en ev set name =
     one_more (value_of name t) (value_of name u) (value_of name (rest_of rest)) (bytes_eq name n) v (set name)
-    ∙ ap (λ m. or_first (value_of name t) (cond (bytes_eq name m) (Some v) (value_of name (rest_of rest)))) en
-    ∙ ap (λ w. or_first (value_of name t) (cond (bytes_eq name (get_or rest 0 d).0) (Some w) (value_of name (rest_of rest)))) ev
-    ∙ ap (λ l. or_first (value_of name t) (value_of name l)) (sym (first_and_rest rest d some))
+    ∙ ap (λ m. option_or (value_of name t) (cond (bytes_eq name m) (Some v) (value_of name (rest_of rest)))) en
+    ∙ ap (λ w. option_or (value_of name t) (cond (bytes_eq name (get_or rest 0 d).0) (Some w) (value_of name (rest_of rest)))) ev
+    ∙ ap (λ l. option_or (value_of name t) (value_of name l)) (sym (first_and_rest rest d some))
 
 -- a table with all pairs
 pub values_all : {V : Type 0} (t : List (Text × V)) (rest xs : List (Text × V)) → length rest < 1
-    → ((name : Text) → or_first (value_of name t) (value_of name rest) ≡ value_of name xs)
+    → ((name : Text) → option_or (value_of name t) (value_of name rest) ≡ value_of name xs)
     → (name : Text) → value_of name t ≡ value_of name xs
 values_all t rest xs e each name =
-    sym (or_none (value_of name t)) ∙ ap (λ l. or_first (value_of name t) (value_of name l)) (sym (no_items rest e)) ∙ each name
+    sym (or_none (value_of name t)) ∙ ap (λ l. option_or (value_of name t) (value_of name l)) (sym (no_items rest e)) ∙ each name
 
 module _ {X : Type 0} (key : X → Text) where
   -- a table with the place of the first of the items that are left
   pub places_one : (t u : List (Text × ℕ)) (place : ℕ) (n : Text) (rest : List X) (d : X) → 1 ≤ length rest → n ≡ key (get_or rest 0 d)
-      → ((other : Text) → value_of other u ≡ or_first (value_of other t) (cond (bytes_eq other n) (Some place) None))
-      → (name : Text) → or_first (value_of name u) (position_from (λ y. bytes_eq name (key y)) (place + 1) (rest_of rest))
-      ≡ or_first (value_of name t) (position_from (λ y. bytes_eq name (key y)) place rest)
+      → ((other : Text) → value_of other u ≡ option_or (value_of other t) (cond (bytes_eq other n) (Some place) None))
+      → (name : Text) → option_or (value_of name u) (position_from (λ y. bytes_eq name (key y)) (place + 1) (rest_of rest))
+      ≡ option_or (value_of name t) (position_from (λ y. bytes_eq name (key y)) place rest)
   places_one t u place n rest d some en set name =
       one_more (value_of name t) (value_of name u) (position_from (λ y. bytes_eq name (key y)) (place + 1) (rest_of rest)) (bytes_eq name n) place (set name)
-      ∙ ap (λ m. or_first (value_of name t) (cond (bytes_eq name m) (Some place) (position_from (λ y. bytes_eq name (key y)) (place + 1) (rest_of rest)))) en
-      ∙ ap (λ l. or_first (value_of name t) (position_from (λ y. bytes_eq name (key y)) place l)) (sym (first_and_rest rest d some))
+      ∙ ap (λ m. option_or (value_of name t) (cond (bytes_eq name m) (Some place) (position_from (λ y. bytes_eq name (key y)) (place + 1) (rest_of rest)))) en
+      ∙ ap (λ l. option_or (value_of name t) (position_from (λ y. bytes_eq name (key y)) place l)) (sym (first_and_rest rest d some))
 
   -- a table with the places of all items
   pub places_all : (t : List (Text × ℕ)) (place : ℕ) (rest xs : List X) → length rest < 1
-      → ((name : Text) → or_first (value_of name t) (position_from (λ y. bytes_eq name (key y)) place rest) ≡ position_from (λ y. bytes_eq name (key y)) 0 xs)
+      → ((name : Text) → option_or (value_of name t) (position_from (λ y. bytes_eq name (key y)) place rest) ≡ position_from (λ y. bytes_eq name (key y)) 0 xs)
       → (name : Text) → value_of name t ≡ position (λ y. bytes_eq name (key y)) xs
   places_all t place rest xs e each name =
       sym (or_none (value_of name t))
-      ∙ ap (λ l. or_first (value_of name t) (position_from (λ y. bytes_eq name (key y)) place l)) (sym (no_items rest e))
+      ∙ ap (λ l. option_or (value_of name t) (position_from (λ y. bytes_eq name (key y)) place l)) (sym (no_items rest e))
       ∙ each name ∙ sym (position_from-zero (λ y. bytes_eq name (key y)) xs)
 
 -- ---- places of items, and one item more
 
 module _ {X : Type 0} (p : X → Bool) where
-  from_push : (i : ℕ) (xs : List X) (y : X) → position_from p i (xs ++ y ∷ []) ≡ or_first (position_from p i xs) (cond (p y) (Some (i + length xs)) None)
-  from_push i [] y = ap (λ k. cond (p y) (Some k) None) (omega arith)
-  from_push i (x ∷ xs) y = by (p x) (from_push (i + 1) xs y ∙ ap (λ k. or_first (position_from p (i + 1) xs) (cond (p y) (Some k) None)) (omega arith))
-    where
-      by : (b : Bool) → position_from p (i + 1) (xs ++ y ∷ []) ≡ or_first (position_from p (i + 1) xs) (cond (p y) (Some (i + suc (length xs))) None)
-          → cond b (Some i) (position_from p (i + 1) (xs ++ y ∷ []))
-          ≡ or_first (cond b (Some i) (position_from p (i + 1) xs)) (cond (p y) (Some (i + suc (length xs))) None)
-      by true h = refl
-      by false h = h
-
   -- the first place of one item more
-  pub position_push : (xs : List X) (y : X) → position p (xs ++ y ∷ []) ≡ or_first (position p xs) (cond (p y) (Some (length xs)) None)
+  pub position_push : (xs : List X) (y : X) → position p (xs ++ y ∷ []) ≡ option_or (position p xs) (cond (p y) (Some (length xs)) None)
   position_push xs y =
-      position_from-zero p (xs ++ y ∷ []) ∙ from_push 0 xs y
-      ∙ ap (λ o. or_first o (cond (p y) (Some (0 + length xs)) None)) (sym (position_from-zero p xs))
-      ∙ ap (λ k. or_first (position p xs) (cond (p y) (Some k) None)) (omega arith)
+      position_from-zero p (xs ++ y ∷ []) ∙ from-append p 0 xs (y ∷ [])
+      ∙ ap (λ o. option_or o (cond (p y) (Some (0 + length xs)) None)) (sym (position_from-zero p xs))
+      ∙ ap (λ k. option_or (position p xs) (cond (p y) (Some k) None)) (omega arith)
 
   -- where an item stands, or how many there are
   pub number_is : (xs : List X) → unwrap_or (position p xs) (length xs) ≡ position_or_len p xs

@@ -2,7 +2,6 @@
 
 ghost use Rattle.std.specs.Prelude.{◌≡◌, ℕ, List, Some, None, OnOk, OnErr, bytes_eq, if◌then◌else◌};
 ghost use Rattle.name_numbers.specs.Names.{value_of};
-ghost use Rattle.link_index.specs.First.{or_first};
 
 use name_numbers::Named;
 use std::alloc::AllocError;
@@ -15,7 +14,7 @@ pub fn set_first<'a, V: Drop>(
 ) -> Result<(), AllocError>
     ensures given { OnOk result
         ((other : List ℕ) → value_of other table.new
-        ≡ or_first (value_of other table.old) (if bytes_eq other name.entry.now then Some value else None)) }
+        ≡ option_or (value_of other table.old) (if bytes_eq other name.entry.now then Some value else None)) }
     ensures unchanged { OnErr result (table.new ≡ table.old) }
 {
     if table.get(name).is_none() {

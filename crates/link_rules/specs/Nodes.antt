@@ -2,6 +2,7 @@
 use Rattle.std.specs.Prelude.{ℕ, ◌==◌, [], ◌∷◌, find, position, Option, Some, None, unwrap_or, option_map}
 use Rattle.std.specs.Prelude.{bytes_eq, if◌then◌else◌}
 use Rattle.std.specs.List.{slice_get}
+use Rattle.std.specs.Option.{option_or}
 use Rattle.xt_model.specs.Options.{◌>>=◌}
 use Rattle.name_numbers.specs.Names.{Text, value_of}
 use Rattle.verilog_net.specs.declared.netlist.Netlist.{Netlist}
@@ -34,16 +35,11 @@ module _ (netlist : Netlist) where
     wire ← value_of pin instance.pins
     net_of netlist.nets wire
 
-  -- a first net, or else a second
-  abbrev pub or_net : Option ℕ → Option ℕ → Option ℕ
-  or_net (Some net) other = Some net
-  or_net None other = other
-
   abbrev pub cut_net : Option (Text × Text) → Option ℕ
   cut_net None = None
-  cut_net (Some cut) = or_net (pin_net cut.0 cut.1) (net_named cut.0)
+  cut_net (Some cut) = option_or (pin_net cut.0 cut.1) (net_named cut.0)
 
   -- the net of a node, by the first of three ways that finds one: a pin behind the last delimiter of the instance
   -- before it; the net of the name before the last delimiter; the net of the whole name
   unfoldable pub node_net : ℕ → Text → Option ℕ
-  node_net delimiter name = or_net (cut_net (split_last delimiter name)) (net_named name)
+  node_net delimiter name = option_or (cut_net (split_last delimiter name)) (net_named name)

@@ -2,6 +2,7 @@
 use Rattle.std.specs.Prelude.{◌≡◌, refl, ℕ, List, [], ◌∷◌, ◌++◌, length, map, Option, Some, None, position, is_some, option_map, option_to_list, filter_map, flat_map, fold, Bool, true, cond, if◌then◌else◌, unwrap_or}
 use Rattle.std.specs.List.{All, slice_get}
 use Rattle.std.specs.Str.{bytes_eq}
+use Rattle.std.specs.Option.{option_or}
 use Rattle.std.proofs.Common.{sym, ap, ◌∙◌, arith, ◌<◌, ◌≤◌, subst, get_or, append_assoc, length-append}
 use Rattle.std.proofs.lemmas.List.Elements.{All-push}
 use Rattle.name_numbers.specs.Names.{Text, value_of, with_name, number_of}
@@ -15,7 +16,6 @@ use Rattle.link_rules.specs.Ends.{NetEnd, Pin, Port, end_name, sink_name}
 use Rattle.link_rules.specs.Nodes.{text_of}
 use Rattle.link_rules.specs.Wires.{listed}
 use Rattle.link_index.specs.Cells.{at_place}
-use Rattle.link_index.specs.First.{or_first}
 use Rattle.link_index.proofs.FirstLaws.{position_push, number_is, any_is, find_at_place, first_and_rest, rest_of}
 use Rattle.link_wires.specs.Places.{AreNodes, HavePlaces}
 use Rattle.link_rules.specs.Wires.{Between}
@@ -23,14 +23,14 @@ use Rattle.link_wires.proofs.ListLaws.{node_name, all_left, all_right}
 
 -- one node more
 pub nodes_push : (nodes : List Text) (numbers after : List (Text × ℕ)) (n : Text) (m : ℕ) → AreNodes nodes numbers → IsName n → m ≡ length nodes → m < 4294967295
-    → ((other : Text) → value_of other after ≡ or_first (value_of other numbers) (cond (bytes_eq other n) (Some m) None))
+    → ((other : Text) → value_of other after ≡ option_or (value_of other numbers) (cond (bytes_eq other n) (Some m) None))
     → AreNodes (nodes ++ n ∷ []) after
 nodes_push nodes numbers after n m a name count few set = record {
   names = All-push IsName nodes n a.names name;
   few = omega (arith, length-append nodes (n ∷ []));
   each = λ other. set other
-      ∙ ap (λ o. or_first o (cond (bytes_eq other n) (Some m) None)) (a.each other)
-      ∙ ap (λ k. or_first (position (bytes_eq other) nodes) (cond (bytes_eq other n) (Some k) None)) count
+      ∙ ap (λ o. option_or o (cond (bytes_eq other n) (Some m) None)) (a.each other)
+      ∙ ap (λ k. option_or (position (bytes_eq other) nodes) (cond (bytes_eq other n) (Some k) None)) count
       ∙ sym (position_push (bytes_eq other) nodes n);
 }
 

@@ -5,7 +5,7 @@ use Rattle.std.specs.List.{All, slice_get, find, position_or_len}
 use Rattle.std.proofs.lemmas.List.Folds.{find_at}
 use Rattle.std.proofs.lemmas.Int.{ints}
 use Rattle.std.proofs.lemmas.Option.{slice_get-get_or}
-use Rattle.std.proofs.lemmas.List.Elements.{All-cons, All-append, All-nil}
+use Rattle.std.proofs.lemmas.List.Elements.{All-cons, All-append, All-nil, All-map}
 use Rattle.name_numbers.specs.Names.{Text}
 use Rattle.xt_model.specs.Names.{IsName}
 use Rattle.verilog_net.specs.declared.netlist.Netlist.{Netlist}
@@ -17,10 +17,6 @@ use Rattle.link_rules.specs.Sound.{IsQuantity, IsThere, IsSoundRes, IsSoundWire,
 use Rattle.link_rules.specs.Nodes.{text_of}
 use Rattle.link_rules.specs.Wires.{Capacitor, Between, own_first, capacitor_by, capacitor_of, between_of, wire_in}
 use Rattle.link_wires.specs.Wires.{HasNames, HasQuantities}
-
-all_mapped : {X Y : Type 0} (P : Y → Type 0) (f : X → Y) (xs : List X) → All (λ x. P (f x)) xs → All P (map f xs)
-all_mapped P f [] all = All-nil P
-all_mapped P f (x ∷ xs) all = All-cons P (f x) (map f xs) (all 0 x (omega arith)) (all_mapped P f xs (λ i d lt. all (suc i) d (omega (arith, lt))))
 
 -- what is found has what all have
 found_by : {X : Type 0} (P : X → Type 0) (b : Bool) (x : X) (o : Option X) → P x → IfSome o P → IfSome (cond b (Some x) o) P
@@ -71,8 +67,8 @@ module _ (netlist : Netlist) (p : Parasitics) (sound : AreSoundParasitics p) (ne
   wire_named None h = All-nil IsName
   wire_named (Some w) h =
       All-append IsName (map (λ (c : Capacitor). c.node) (map (capacitor_of netlist p net) w.caps)) (flat_map (λ (r : Between). r.a ∷ r.b ∷ []) (map (between_of netlist p) w.resistors))
-      (all_mapped IsName (λ (c : Capacitor). c.node) (map (capacitor_of netlist p net) w.caps)
-      (all_mapped (λ (c : Capacitor). IsName c.node) (capacitor_of netlist p net) w.caps
+      (All-map IsName (λ (c : Capacitor). c.node) (map (capacitor_of netlist p net) w.caps)
+      (All-map (λ (c : Capacitor). IsName c.node) (capacitor_of netlist p net) w.caps
       (λ i d lt. let one = h.caps i d lt in cap_named _ _ _ (text_named p sound _ one.a) (other_named _ one.b))))
       (ends_named w.resistors h.resistors)
 
@@ -87,6 +83,6 @@ module _ (netlist : Netlist) (p : Parasitics) (sound : AreSoundParasitics p) (ne
   }
   wire_valued (Some w) h = record {
     total = h.total;
-    caps = all_mapped (λ (c : Capacitor). IsQuantity c.value) (capacitor_of netlist p net) w.caps (λ i d lt. let one = h.caps i d lt in cap_valued _ _ _ one.value);
-    resistors = all_mapped (λ (r : Between). IsQuantity r.value) (between_of netlist p) w.resistors (λ i d lt. let one = h.resistors i d lt in one.value);
+    caps = All-map (λ (c : Capacitor). IsQuantity c.value) (capacitor_of netlist p net) w.caps (λ i d lt. let one = h.caps i d lt in cap_valued _ _ _ one.value);
+    resistors = All-map (λ (r : Between). IsQuantity r.value) (between_of netlist p) w.resistors (λ i d lt. let one = h.resistors i d lt in one.value);
   }

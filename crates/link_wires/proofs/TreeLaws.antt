@@ -4,7 +4,7 @@ use Rattle.std.specs.Prelude.{ℤ, pos, ◌≤ℤ◌, not, Option, Some, None, I
 use Rattle.std.specs.List.{All, cons_option}
 use Rattle.std.proofs.lemmas.Bool.{ne_eqb}
 use Rattle.std.proofs.lemmas.List.{length-map}
-use Rattle.std.proofs.lemmas.List.Elements.{All-cons, All-append, All-nil}
+use Rattle.std.proofs.lemmas.List.Elements.{All-cons, All-append, All-nil, All-map}
 use Rattle.name_numbers.specs.Names.{Text, number_of}
 use Rattle.elmore_tree.specs.Trees.{IsSoundResistor, IsSoundTap, ground_sum, tap_sum, IsSoundTree}
 use Rattle.link_rules.specs.declared.circuit.Sink.{Sink}
@@ -16,10 +16,6 @@ use Rattle.link_wires.specs.Wires.{charge_sum, AreWithin, AreNatural, HasQuantit
 use Rattle.link_wires.proofs.GroundLaws.{length-rising, sum_natural, ground_total}
 
 -- ---- all items
-all_mapped : {X Y : Type 0} (P : Y → Type 0) (f : X → Y) (xs : List X) → All (λ x. P (f x)) xs → All P (map f xs)
-all_mapped P f [] all = All-nil P
-all_mapped P f (x ∷ xs) all = All-cons P (f x) (map f xs) (all 0 x (omega arith)) (all_mapped P f xs (λ i d lt. all (suc i) d (omega (arith, lt))))
-
 all_option : {Y : Type 0} (P : Y → Type 0) (o : Option Y) (ys : List Y) → IfSome o P → All P ys → All P (cons_option o ys)
 all_option P None ys h all = all
 all_option P (Some y) ys h all = All-cons P y ys h all
@@ -107,7 +103,7 @@ module _ (nodes : List Text) (ends : List Sink) (w : Wire) (numbered : IsNumbere
   load_is = ground_total (charges_of nodes ends w) (node_count nodes w) (charges_within nodes ends w numbered) (charges_natural nodes w q ends caps)
 
   resistors_sound : All (IsSoundResistor (node_count nodes w)) (tree_by nodes ends w).resistors
-  resistors_sound = all_mapped (IsSoundResistor (node_count nodes w)) (resistor_of nodes) w.resistors (λ i d lt.
+  resistors_sound = All-map (IsSoundResistor (node_count nodes w)) (resistor_of nodes) w.resistors (λ i d lt.
       let value = q.resistors i d lt in
       record {
         a = apart i d lt (numbered.a i d lt);
@@ -137,10 +133,10 @@ module _ (nodes : List Text) (ends : List Sink) (w : Wire) (numbered : IsNumbere
     most_nodes = few;
     resistors = resistors_sound;
     grounds = length-map (rising 0 (node_count nodes w)) (sum_at (charges_of nodes ends w)) ∙ length-rising 0 (node_count nodes w);
-    natural = all_mapped (λ g. pos 0 ≤ℤ g) (sum_at (charges_of nodes ends w)) (rising 0 (node_count nodes w))
+    natural = All-map (λ g. pos 0 ≤ℤ g) (sum_at (charges_of nodes ends w)) (rising 0 (node_count nodes w))
         (all_rising (λ k. pos 0 ≤ℤ sum_at (charges_of nodes ends w) k) 0 (node_count nodes w) (λ k lt. sum_natural (charges_of nodes ends w) k (charges_natural nodes w q ends caps)));
     taps = taps_sound;
-    sinks = all_mapped (λ p. p < node_count nodes w) (sink_node w) (rising 0 (length ends))
+    sinks = All-map (λ p. p < node_count nodes w) (sink_node w) (rising 0 (length ends))
         (all_rising (λ k. sink_node w k < node_count nodes w) 0 (length ends) (λ k lt. sink_there nodes ends w numbered k (omega (arith, lt))));
     most_load = rw load_is load;
   }

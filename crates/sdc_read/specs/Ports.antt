@@ -1,6 +1,7 @@
 -- The bits of ports with what constraints say of them.
 use Rattle.std.specs.Prelude.{ℕ, Bool, ◌==◌, ◌&&◌, List, [], ◌∷◌, Option, Some, None, if◌then◌else◌}
 use Rattle.std.specs.Prelude.{ℤ, pos, neg_ℤ, ◌≤ℤ◌, ◌^◌, IfSome}
+use Rattle.std.specs.Option.{option_or}
 use Rattle.sdc_read.specs.declared.ports.PortBit.{PortBit}
 use Rattle.sdc_read.specs.declared.ports.Sides.{Sides}
 use Rattle.sdc_read.specs.declared.ports.PortSides.{PortSides}
@@ -34,27 +35,22 @@ with_sides b v (e ∷ es) = if same_bit b e.0 then (e.0, v) ∷ es else e ∷ wi
 
 -- ---- what is meant
 
--- the number, or the other one where there is none
-abbrev pub or_other : Option ℤ → Option ℤ → Option ℤ
-or_other (Some x) other = Some x
-or_other None other = other
-
 -- a missing side of an edge takes the other side's number
 abbrev pub filled : Sides → Sides
 filled s = record {
-  rise_min = or_other s.rise_min s.rise_max;
-  rise_max = or_other s.rise_max s.rise_min;
-  fall_min = or_other s.fall_min s.fall_max;
-  fall_max = or_other s.fall_max s.fall_min;
+  rise_min = option_or s.rise_min s.rise_max;
+  rise_max = option_or s.rise_max s.rise_min;
+  fall_min = option_or s.fall_min s.fall_max;
+  fall_max = option_or s.fall_max s.fall_min;
 }
 
 -- a missing number is 0
 abbrev pub or_zero : Sides → Sides
 or_zero s = record {
-  rise_min = or_other s.rise_min (Some (pos 0));
-  rise_max = or_other s.rise_max (Some (pos 0));
-  fall_min = or_other s.fall_min (Some (pos 0));
-  fall_max = or_other s.fall_max (Some (pos 0));
+  rise_min = option_or s.rise_min (Some (pos 0));
+  rise_max = option_or s.rise_max (Some (pos 0));
+  fall_min = option_or s.fall_min (Some (pos 0));
+  fall_max = option_or s.fall_max (Some (pos 0));
 }
 
 -- what is meant by what was set for a bit: both sides of an input's edge or none, all four slews, and of an output the

@@ -1,7 +1,8 @@
 //! The bits of ports with what constraints say of them.
 
 ghost use Rattle.std.specs.Prelude.{◌≡◌};
-ghost use Rattle.sdc_read.specs.Ports.{or_other, filled, or_zero, no_sides, unset, settled, same_bit};
+ghost use Rattle.std.specs.Option.{option_or};
+ghost use Rattle.sdc_read.specs.Ports.{filled, or_zero, no_sides, unset, settled, same_bit};
 ghost use Rattle.sdc_read.specs.Ports.{IsTime, IsSize, AreTimes, AreSizes, AreInRange, IsInRange};
 
 /// A bit of a port: the number `decl` of the port's net in its module, and the number of the bit as the range of a bus
@@ -45,14 +46,11 @@ pub struct PortSet {
 
 /// The number, or the other one where there is none.
 fn or_other(number: Option<i64>, other: Option<i64>) -> Option<i64>
-    ensures value { result ≡ or_other number other }
+    ensures value { result ≡ option_or number other }
     ensures times { IsTime number → IsTime other → IsTime result }
     ensures sizes { IsSize number → IsSize other → IsSize result }
 {
-    match number {
-        Some(number) => Some(number),
-        None => other,
-    }
+    number.or(other)
 }
 
 impl PortBit {

@@ -2,6 +2,7 @@
 use Rattle.std.specs.Prelude.{◌≡◌, refl, ℕ, zero, suc, ◌≤◌, ◌^◌, ◌&&◌, nat_lt, Bool, true, false, List, [], ◌∷◌, length, map, ℤ, pos, neg_ℤ, int_le, ◌≤ℤ◌}
 use Rattle.std.specs.Prelude.{Option, Some, None, IfSome, option_map, Result, Ok, Err, if◌then◌else◌}
 use Rattle.std.specs.List.{AllByRecursion}
+use Rattle.std.specs.Option.{option_or}
 use Rattle.std.proofs.Common.{arith, ap, subst}
 use Rattle.std.proofs.lemmas.Bool.{ltb-false, cond_both}
 use Rattle.std.proofs.lemmas.Int.{ints}
@@ -28,7 +29,7 @@ use Rattle.sdc_read.specs.declared.constraints.Constraints.{Constraints}
 use Rattle.sdc_read.specs.declared.ports.PortBit.{PortBit}
 use Rattle.sdc_read.specs.declared.ports.Sides.{Sides}
 use Rattle.sdc_read.specs.declared.ports.PortSides.{PortSides}
-use Rattle.sdc_read.specs.Ports.{Ports, unset, found_sides, with_sides, or_other, filled, or_zero, settled, IsTime, IsSize, AreTimes, AreSizes, AreInRange, AllInRange, IsInRange}
+use Rattle.sdc_read.specs.Ports.{Ports, unset, found_sides, with_sides, filled, or_zero, settled, IsTime, IsSize, AreTimes, AreSizes, AreInRange, AllInRange, IsInRange}
 use Rattle.sdc_read.specs.Changes.{chosen, with_number, changed, role_for, is_input_delay, is_clock, or_unset, change_bit, over_first, bit_at, bit_count, Bits, change_bits, IsChange}
 use Rattle.xt_model.specs.Results.{◌>>=◌}
 use Rattle.sdc_read.specs.Objects.{names_in, port_names, all_of, named_bits, net_bits, has_role, same_role, change_found, change_names, change_if, change_all, change_as, change_objects, knows_clock, source_of, bit_name}
@@ -246,11 +247,11 @@ commands_fine nets (c ∷ cs) s s' h e =
     (λ t k at. commands_fine nets cs t s' k at) e
 
 -- ---- what is meant
-other_time : (a b : Option ℤ) → IsTime a → IsTime b → IsTime (or_other a b)
+other_time : (a b : Option ℤ) → IsTime a → IsTime b → IsTime (option_or a b)
 other_time None b h k = k
 other_time (Some x) b h k = h
 
-other_size : (a b : Option ℤ) → IsSize a → IsSize b → IsSize (or_other a b)
+other_size : (a b : Option ℤ) → IsSize a → IsSize b → IsSize (option_or a b)
 other_size None b h k = k
 other_size (Some x) b h k = h
 

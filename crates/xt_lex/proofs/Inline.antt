@@ -1,6 +1,6 @@
 -- Words and marks stand within one line.
 use Rattle.std.proofs.Common.{◌≡◌, ℕ, suc, ◌+◌, Bool, true, false, ◌&&◌, ◌||◌, not, List, [], ◌∷◌, length, take, drop, Option, Some, None, cond, ◌==◌, sym, ap, ◌∙◌, refl, arith, add-one}
-use Rattle.std.proofs.lemmas.Bool.{false≢true}
+use Rattle.std.proofs.lemmas.Bool.{false≢true, and_parts, or_parts, not-false, false_from_ne_true}
 use Rattle.std.proofs.lemmas.Bool.Decides.{nat_tests}
 use Rattle.std.specs.List.{prefix_len}
 use Rattle.std.specs.Char.{is_ascii_graphic, is_ascii_digit}
@@ -30,29 +30,9 @@ by_test : (P : Front → Type 0) (t : Bool) (f g : Front) → (t ≡ true → P 
 by_test P true f g h k = h refl
 by_test P false f g h k = k refl
 
-is_false : (t : Bool) → (t ≡ true → ⊥) → t ≡ false
-is_false true h = absurd (h refl)
-is_false false h = refl
-
-left_true : (a b : Bool) → (a && b) ≡ true → a ≡ true
-left_true true b e = refl
-left_true false b e = e
-
-right_true : (a b : Bool) → (a && b) ≡ true → b ≡ true
-right_true true b e = e
-right_true false b e = absurd (false≢true e)
-
-left_false : (a b : Bool) → (a || b) ≡ false → a ≡ false
-left_false true b e = e
-left_false false b e = refl
-
-from_not : (a : Bool) → not a ≡ false → a ≡ true
-from_not true e = refl
-from_not false e = sym e
-
 -- a byte that passes a test which the newline fails is none
 not_newline : (p : ℕ → Bool) (b : ℕ) → p 10 ≡ false → p b ≡ true → is_newline b ≡ false
-not_newline p b e f = is_false (is_newline b) (λ g. let k : b ≡ 10 = grind (arith, nat_tests) in false≢true (sym e ∙ (sym (ap p k) ∙ f)))
+not_newline p b e f = false_from_ne_true (is_newline b) (λ g. let k : b ≡ 10 = grind (arith, nat_tests) in false≢true (sym e ∙ (sym (ap p k) ∙ f)))
 
 first_kept : (b : ℕ) (bytes : List ℕ) → is_newline b ≡ false → IsWithinLine bytes → IsWithinLine (b ∷ bytes)
 first_kept b bytes e h line = rw e (h line)
@@ -76,14 +56,14 @@ liberty_word_kept : (bytes : List ℕ) → IsWithinLine (take (liberty_word byte
 liberty_word_kept [] line = refl
 liberty_word_kept (b ∷ more) line =
     step_kept (ends_liberty_word b more) b more (liberty_word more)
-    (λ e. not_newline is_ascii_graphic b refl (from_not (is_ascii_graphic b) (left_false (not (is_ascii_graphic b)) _ e)))
+    (λ e. not_newline is_ascii_graphic b refl (not-false (is_ascii_graphic b) (or_parts (not (is_ascii_graphic b)) _ e).0))
     (liberty_word_kept more) line
 
 bare_word_kept : (in_bit : Bool) (bytes : List ℕ) → IsWithinLine (take (bare_word in_bit bytes) bytes)
 bare_word_kept in_bit [] line = refl
 bare_word_kept in_bit (b ∷ more) line =
     step_kept (ends_bare_word in_bit b more) b more (bare_word (in_bit_after in_bit b) more)
-    (λ e. not_newline is_ascii_graphic b refl (from_not (is_ascii_graphic b) (left_false (not (is_ascii_graphic b)) _ e)))
+    (λ e. not_newline is_ascii_graphic b refl (not-false (is_ascii_graphic b) (or_parts (not (is_ascii_graphic b)) _ e).0))
     (bare_word_kept (in_bit_after in_bit b) more) line
 
 constant_kept : (more : List ℕ) → is_constant more ≡ true → IsWithinLine (take 3 more)
@@ -91,10 +71,10 @@ constant_kept [] e = absurd (false≢true e)
 constant_kept (q ∷ []) e = absurd (false≢true e)
 constant_kept (q ∷ b ∷ []) e = absurd (false≢true e)
 constant_kept (q ∷ b ∷ d ∷ more) e =
-    let rest : (is_base b && (d == 48 || d == 49)) ≡ true = right_true (q == 39) _ e in
-    first_kept q (b ∷ d ∷ []) (not_newline (λ x. x == 39) q refl (left_true (q == 39) _ e))
-    (first_kept b (d ∷ []) (not_newline is_base b refl (left_true (is_base b) _ rest))
-    (first_kept d [] (not_newline (λ x. x == 48 || x == 49) d refl (right_true (is_base b) _ rest)) (λ line. refl)))
+    let rest : (is_base b && (d == 48 || d == 49)) ≡ true = (and_parts (q == 39) _ e).1 in
+    first_kept q (b ∷ d ∷ []) (not_newline (λ x. x == 39) q refl (and_parts (q == 39) _ e).0)
+    (first_kept b (d ∷ []) (not_newline is_base b refl (and_parts (is_base b) _ rest).0)
+    (first_kept d [] (not_newline (λ x. x == 48 || x == 49) d refl (and_parts (is_base b) _ rest).1) (λ line. refl)))
 
 -- other pieces
 other : (b : ℕ) (more : List ℕ) (front : Front) → is_inline front.class ≡ false → Keeps b more front
@@ -118,7 +98,7 @@ verilog_keeps fresh b more =
     by_test (Keeps b more) (is_blank b) _ _ (λ _. other b more _ refl) (λ _.
     by_test (Keeps b more) (not (is_ascii_graphic b)) _ _ (λ _. other b more _ refl) (λ _.
     by_test (Keeps b more) (begins_name b) _ _ (λ _. word b more _ _ e (run_kept is_in_name refl more)) (λ _.
-    by_test (Keeps b more) (b == 49 && is_constant more) _ _ (λ f. word b more _ _ e (constant_kept more (right_true (b == 49) _ f))) (λ _.
+    by_test (Keeps b more) (b == 49 && is_constant more) _ _ (λ f. word b more _ _ e (constant_kept more (and_parts (b == 49) _ f).1)) (λ _.
     by_test (Keeps b more) (is_ascii_digit b) _ _ (λ _. word b more _ _ e (run_kept is_ascii_digit refl more)) (λ _.
     by_test (Keeps b more) (b == 92) _ _ (λ _. other b more _ refl) (λ _.
     by_test (Keeps b more) (b == 47 && begins 47 more) _ _ (λ _. other b more _ refl) (λ _.
@@ -132,7 +112,7 @@ liberty_keeps b more =
     by_test (Keeps b more) (is_white b) _ _ (λ _. other b more _ refl) (λ w.
     by_test (Keeps b more) (b == 92 && begins 10 more) _ _ (λ _. other b more _ refl) (λ _.
     by_test (Keeps b more) (not (is_ascii_graphic b)) _ _ (λ _. other b more _ refl) (λ g.
-    let e : is_newline b ≡ false = not_newline is_ascii_graphic b refl (from_not (is_ascii_graphic b) g) in
+    let e : is_newline b ≡ false = not_newline is_ascii_graphic b refl (not-false (is_ascii_graphic b) g) in
     by_test (Keeps b more) (b == 47 && begins 42 more) _ _ (λ _. enclosed_other b more classes.Comment classes.Unclosed 1 (past_pair 42 47 (drop 1 more)) (length more) refl refl) (λ _.
     by_test (Keeps b more) (b == 34) _ _ (λ _. enclosed_other b more classes.Text classes.Unclosed 0 (past_quote false more) (length more) refl refl) (λ _.
     by_test (Keeps b more) (is_liberty_mark b) _ _ (λ _. mark b more _ e) (λ _. word b more _ _ e (liberty_word_kept more)))))))
@@ -142,7 +122,7 @@ unfolding spef_front
 spef_keeps b more =
     by_test (Keeps b more) (is_white b) _ _ (λ _. other b more _ refl) (λ w.
     by_test (Keeps b more) (not (is_ascii_graphic b)) _ _ (λ _. other b more _ refl) (λ g.
-    let e : is_newline b ≡ false = not_newline is_ascii_graphic b refl (from_not (is_ascii_graphic b) g) in
+    let e : is_newline b ≡ false = not_newline is_ascii_graphic b refl (not-false (is_ascii_graphic b) g) in
     by_test (Keeps b more) (b == 47 && begins 47 more) _ _ (λ _. other b more _ refl) (λ _.
     by_test (Keeps b more) (b == 47 && begins 42 more) _ _ (λ _. enclosed_other b more classes.Comment classes.Unclosed 1 (past_pair 42 47 (drop 1 more)) (length more) refl refl) (λ _.
     by_test (Keeps b more) (b == 34) _ _ (λ _. enclosed_other b more classes.Text classes.Unclosed 0 (past_byte 34 more) (length more) refl refl) (λ _. word b more _ _ e (run_kept is_ascii_graphic refl more))))))
@@ -153,7 +133,7 @@ sdc_keeps fresh b more =
     by_test (Keeps b more) (is_newline b || b == 59) _ _ (λ _. other b more _ refl) (λ w.
     by_test (Keeps b more) (is_blank b) _ _ (λ _. other b more _ refl) (λ _.
     by_test (Keeps b more) (b == 92 && begins 10 more) _ _ (λ _. other b more _ refl) (λ _.
-    let e : is_newline b ≡ false = left_false (is_newline b) (b == 59) w in
+    let e : is_newline b ≡ false = (or_parts (is_newline b) (b == 59) w).0 in
     by_test (Keeps b more) (not (is_ascii_graphic b)) _ _ (λ _. other b more _ refl) (λ _.
     by_test (Keeps b more) (fresh && b == 35) _ _ (λ _. other b more _ refl) (λ _.
     by_test (Keeps b more) (b == 34) _ _ (λ _. enclosed_other b more classes.Text classes.Unclosed 0 (past_byte 34 more) (length more) refl refl) (λ _.

@@ -1,7 +1,7 @@
 -- Which bytes a piece needs that nothing closes, and where none is left.
 use Rattle.std.proofs.Common.{◌≡◌, ℕ, zero, suc, ◌+◌, ◌-◌, ◌≤◌, Bool, true, false, ◌&&◌, ◌||◌, not, List, [], ◌∷◌, length, drop, cond, ◌==◌, sym, ap, subst, ◌∙◌, refl, arith, add-one}
 use Rattle.std.proofs.lemmas.List.{drop-drop}
-use Rattle.std.proofs.lemmas.Bool.{false≢true}
+use Rattle.std.proofs.lemmas.Bool.{false≢true, and_parts, or_parts, false_from_ne_true}
 use Rattle.std.proofs.lemmas.Bool.Decides.{nat_tests}
 use Rattle.std.specs.List.{list_any}
 use Rattle.std.specs.Char.{is_ascii_graphic, is_ascii_digit}
@@ -25,35 +25,15 @@ by_test : (t : Bool) (f g : Front) → (t ≡ true → IsClosed f) → (t ≡ fa
 by_test true f g h k = h refl
 by_test false f g h k = k refl
 
-left_false : (a b : Bool) → (a || b) ≡ false → a ≡ false
-left_false true b e = e
-left_false false b e = refl
-
-right_false : (a b : Bool) → (a || b) ≡ false → b ≡ false
-right_false true b e = cc
-right_false false b e = e
-
-right_true : (a b : Bool) → (a && b) ≡ true → b ≡ true
-right_true true b e = e
-right_true false b e = absurd (false≢true e)
-
-left_true : (a b : Bool) → (a && b) ≡ true → a ≡ true
-left_true true b e = refl
-left_true false b e = e
-
-is_false : (t : Bool) → (t ≡ true → ⊥) → t ≡ false
-is_false true h = absurd (h refl)
-is_false false h = refl
-
 -- bytes that pass no test do not begin with one that passes it
 not_first : (test : ℕ → Bool) (a b : ℕ) (more : List ℕ) → test a ≡ true → list_any test (b ∷ more) ≡ false → (b == a) ≡ true → ⊥
 not_first test a b more e h f =
     let k : b ≡ a = grind (arith, nat_tests) in
-    false≢true (sym (left_false (test b) (list_any test more) h) ∙ (ap test k ∙ e))
+    false≢true (sym (or_parts (test b) (list_any test more) h).0 ∙ (ap test k ∙ e))
 
 not_second : (test : ℕ → Bool) (a b : ℕ) (more : List ℕ) → test a ≡ true → list_any test (b ∷ more) ≡ false → begins a more ≡ true → ⊥
 not_second test a b [] e h f = false≢true f
-not_second test a b (c ∷ more) e h f = not_first test a c more e (right_false (test b) (list_any test (c ∷ more)) h) f
+not_second test a b (c ∷ more) e h f = not_first test a c more e (or_parts (test b) (list_any test (c ∷ more)) h).1 f
 
 liberty_closed : (b : ℕ) (more : List ℕ) → list_any (is_opening Liberty) (b ∷ more) ≡ false → IsClosed (liberty_front b more)
 unfolding liberty_front
@@ -61,7 +41,7 @@ liberty_closed b more h =
     by_test (is_white b) _ _ (λ _. refl) (λ _.
     by_test (b == 92 && begins 10 more) _ _ (λ _. refl) (λ _.
     by_test (not (is_ascii_graphic b)) _ _ (λ _. refl) (λ _.
-    by_test (b == 47 && begins 42 more) _ _ (λ f. absurd (not_second (is_opening Liberty) 42 b more refl h (right_true (b == 47) _ f))) (λ _.
+    by_test (b == 47 && begins 42 more) _ _ (λ f. absurd (not_second (is_opening Liberty) 42 b more refl h (and_parts (b == 47) _ f).1)) (λ _.
     by_test (b == 34) _ _ (λ f. absurd (not_first (is_opening Liberty) 34 b more refl h f)) (λ _.
     by_test (is_liberty_mark b) _ _ (λ _. refl) (λ _. refl))))))
 
@@ -76,8 +56,8 @@ verilog_closed fresh b more h =
     by_test (is_ascii_digit b) _ _ (λ _. refl) (λ _.
     by_test (b == 92) _ _ (λ _. refl) (λ _.
     by_test (b == 47 && begins 47 more) _ _ (λ _. refl) (λ _.
-    by_test (b == 47 && begins 42 more) _ _ (λ f. absurd (not_second (is_opening Verilog) 42 b more refl h (right_true (b == 47) _ f))) (λ _.
-    by_test (b == 40 && begins 42 more) _ _ (λ f. absurd (not_second (is_opening Verilog) 42 b more refl h (right_true (b == 40) _ f))) (λ _.
+    by_test (b == 47 && begins 42 more) _ _ (λ f. absurd (not_second (is_opening Verilog) 42 b more refl h (and_parts (b == 47) _ f).1)) (λ _.
+    by_test (b == 40 && begins 42 more) _ _ (λ f. absurd (not_second (is_opening Verilog) 42 b more refl h (and_parts (b == 40) _ f).1)) (λ _.
     by_test (fresh && b == 96) _ _ (λ _. refl) (λ _. refl)))))))))))
 
 spef_closed : (b : ℕ) (more : List ℕ) → list_any (is_opening Spef) (b ∷ more) ≡ false → IsClosed (spef_front b more)
@@ -86,7 +66,7 @@ spef_closed b more h =
     by_test (is_white b) _ _ (λ _. refl) (λ _.
     by_test (not (is_ascii_graphic b)) _ _ (λ _. refl) (λ _.
     by_test (b == 47 && begins 47 more) _ _ (λ _. refl) (λ _.
-    by_test (b == 47 && begins 42 more) _ _ (λ f. absurd (not_first (is_opening Spef) 47 b more refl h (left_true (b == 47) _ f))) (λ _.
+    by_test (b == 47 && begins 42 more) _ _ (λ f. absurd (not_first (is_opening Spef) 47 b more refl h (and_parts (b == 47) _ f).0)) (λ _.
     by_test (b == 34) _ _ (λ f. absurd (not_first (is_opening Spef) 34 b more refl h f)) (λ _. refl)))))
 
 sdc_closed : (fresh : Bool) (b : ℕ) (more : List ℕ) → list_any (is_opening Sdc) (b ∷ more) ≡ false → IsClosed (sdc_front fresh b more)
@@ -158,10 +138,10 @@ pub none_left_open : (rules : Rules) (fresh : Bool) (bytes : List ℕ) (k : ℕ)
     → is_left_open rules fresh k bytes ≡ false
 none_left_open rules fresh [] zero h = refl
 none_left_open rules fresh [] (suc k) h = refl
-none_left_open rules fresh (b ∷ more) (suc k) h = none_left_open rules fresh more k (right_false (is_opening rules b) _ h)
+none_left_open rules fresh (b ∷ more) (suc k) h = none_left_open rules fresh more k (or_parts (is_opening rules b) _ h).1
 none_left_open rules fresh (b ∷ more) zero h =
     rw (closed_front rules fresh b more h)
-    (none_left_open rules (front_of rules fresh b more).fresh more (front_of rules fresh b more).inner (right_false (is_opening rules b) _ h))
+    (none_left_open rules (front_of rules fresh b more).fresh more (front_of rules fresh b more).inner (or_parts (is_opening rules b) _ h).1)
 
 -- no byte of a rest passes a test that it passes nowhere
 pub none_behind : (test : ℕ → Bool) (bytes : List ℕ) (i : ℕ) → Nowhere (Passes test bytes) i (length bytes) → list_any test (drop i bytes) ≡ false
@@ -169,7 +149,7 @@ none_behind test [] zero h = refl
 none_behind test [] (suc i) h = refl
 none_behind test (b ∷ more) (suc i) h = none_behind test more i (λ k low high p. h (suc k) (omega arith) (omega arith) p)
 none_behind test (b ∷ more) zero h =
-    let first : test b ≡ false = is_false (test b) (λ e. h 0 (omega arith) (omega arith) e) in
+    let first : test b ≡ false = false_from_ne_true (test b) (λ e. h 0 (omega arith) (omega arith) e) in
     rw first (none_behind test more 0 (λ k low high p. h (suc k) (omega arith) (omega arith) p))
 
 -- the same of two bytes that are the text's openings
@@ -181,7 +161,7 @@ none_of_two rules pair bytes i e h =
 none_further : (test : ℕ → Bool) (k : ℕ) (bytes : List ℕ) → list_any test bytes ≡ false → list_any test (drop k bytes) ≡ false
 none_further test zero bytes h = h
 none_further test (suc k) [] h = refl
-none_further test (suc k) (b ∷ more) h = none_further test k more (right_false (test b) _ h)
+none_further test (suc k) (b ∷ more) h = none_further test k more (or_parts (test b) _ h).1
 
 -- nothing is left open behind the last of these bytes
 pub none_past : (rules : Rules) (fresh : Bool) (bytes : List ℕ) (end i : ℕ) → end ≤ i → list_any (is_opening rules) (drop end bytes) ≡ false

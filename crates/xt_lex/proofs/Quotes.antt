@@ -1,23 +1,11 @@
 -- Where a string of Liberty ends, by the first quote or backslash in it.
 use Rattle.std.proofs.Common.{◌≡◌, ℕ, zero, suc, ◌+◌, ◌<◌, Bool, true, false, ◌||◌, List, [], ◌∷◌, length, drop, Option, Some, None, ◌==◌, ◌≢◌, slice_index, sym, ap, ◌∙◌, refl, arith}
-use Rattle.std.proofs.lemmas.Bool.{false≢true}
+use Rattle.std.proofs.lemmas.Bool.{false≢true, or_parts, false_from_ne_true}
 use Rattle.std.proofs.lemmas.Bool.Decides.{nat_tests}
 use Rattle.std.proofs.lemmas.List.{drop-drop}
 use Rattle.memchr.specs.Find.{Nowhere, Passes, is_byte2}
 use Rattle.xt_lex.specs.Runs.{further}
 use Rattle.xt_lex.specs.Liberty.{past_quote}
-
-is_false : (t : Bool) → (t ≡ true → ⊥) → t ≡ false
-is_false true h = absurd (h refl)
-is_false false h = refl
-
-left_false : (a b : Bool) → (a || b) ≡ false → a ≡ false
-left_false true b e = e
-left_false false b e = refl
-
-right_false : (a b : Bool) → (a || b) ≡ false → b ≡ false
-right_false true b e = cc
-right_false false b e = e
 
 right_true : (a b : Bool) → (a || b) ≡ true → a ≡ false → b ≡ true
 right_true true b e f = absurd (false≢true (sym f))
@@ -29,10 +17,10 @@ further_more a b (Some n) = ap Some (omega arith)
 
 -- one byte that is neither
 plain_byte : (b : ℕ) (more : List ℕ) → is_byte2 34 92 b ≡ false → past_quote false (b ∷ more) ≡ further 1 (past_quote false more)
-plain_byte b more h = rw (left_false (b == 34) (b == 92) h, right_false (b == 34) (b == 92) h) refl
+plain_byte b more h = let neither = or_parts (b == 34) (b == 92) h in rw (neither.0, neither.1) refl
 
 first_plain : (b : ℕ) (more : List ℕ) (n : ℕ) → Nowhere (Passes (is_byte2 34 92) (b ∷ more)) 0 (suc n) → is_byte2 34 92 b ≡ false
-first_plain b more n h = is_false (is_byte2 34 92 b) (λ e. h 0 (omega arith) (omega arith) e)
+first_plain b more n h = false_from_ne_true (is_byte2 34 92 b) (λ e. h 0 (omega arith) (omega arith) e)
 
 others_plain : (b : ℕ) (more : List ℕ) (n : ℕ) → Nowhere (Passes (is_byte2 34 92) (b ∷ more)) 0 (suc n) → Nowhere (Passes (is_byte2 34 92) more) 0 n
 others_plain b more n h = λ k low high p. h (suc k) (omega arith) (omega arith) p
@@ -60,7 +48,7 @@ goes_on : (bytes : List ℕ) (k : ℕ) → k < length bytes → Nowhere (Passes 
     → slice_index bytes k ≢ 34 → past_quote false bytes ≡ further (k + 2) (past_quote false (drop (k + 2) bytes))
 goes_on [] k h none mark e = absurd (omega arith)
 goes_on (b ∷ more) zero h none mark ne =
-    let e : (b == 34) ≡ false = is_false (b == 34) (λ f. let k : b ≡ 34 = grind (arith, nat_tests) in ne k) in
+    let e : (b == 34) ≡ false = false_from_ne_true (b == 34) (λ f. let k : b ≡ 34 = grind (arith, nat_tests) in ne k) in
     rw (e, right_true (b == 34) (b == 92) mark e) (ap (further 1) (kept more) ∙ further_more 1 1 (past_quote false (drop 1 more)))
 goes_on (b ∷ more) (suc k) h none mark e =
     let n : suc k + 2 ≡ suc (k + 2) = omega arith in

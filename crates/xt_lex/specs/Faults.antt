@@ -1,5 +1,6 @@
 -- The fault of a text's tokens.
 use Rattle.std.specs.Prelude.{◌≡◌, ℕ, Bool, true, false, List, [], ◌∷◌, Option, Some, None, ◌||◌, if◌then◌else◌}
+use Rattle.std.specs.Option.{option_or}
 use Rattle.xt_lex.specs.declared.class.Class.{Class}
 use Rattle.xt_lex.specs.declared.class.Class.TheVariants as classes
 use Rattle.xt_lex.specs.declared.fault.LexFault.{LexFault}
@@ -21,11 +22,6 @@ is_unclosed classes.Unclosed = true
 is_unclosed classes.UnclosedPlain = true
 is_unclosed _ = false
 
--- the first of two, where there is one
-abbrev pub or_else : Option ℕ → Option ℕ → Option ℕ
-or_else (Some x) o = Some x
-or_else None o = o
-
 -- the line of the first foreign byte, where the bytes begin in this line
 abbrev pub foreign_line : ℕ → List ℕ → Option ℕ
 foreign_line line [] = None
@@ -35,7 +31,7 @@ foreign_line line (b ∷ more) = if is_foreign b then Some line else foreign_lin
 abbrev pub first_foreign : List PieceText → Option ℕ
 first_foreign [] = None
 first_foreign (p ∷ ps) =
-    if may_hold_any p.class then first_foreign ps else or_else (foreign_line p.line p.text) (first_foreign ps)
+    if may_hold_any p.class then first_foreign ps else option_or (foreign_line p.line p.text) (first_foreign ps)
 
 -- some piece is not closed
 abbrev pub any_unclosed : List PieceText → Bool
