@@ -3,7 +3,7 @@ use Rattle.std.proofs.Common.{◌≡◌, ℕ, zero, suc, ◌+◌, ◌*◌, ◌<�
 use Rattle.std.specs.Prelude.{ℤ, pos, ◌≤ℤ◌}
 use Rattle.std.specs.Int.RustNames.{unsigned_abs}
 use Rattle.std.specs.List.{sum_by, All, list_any}
-use Rattle.std.proofs.lemmas.Bool.{cases_lt}
+use Rattle.std.proofs.lemmas.Bool.{cases_lt, cases_Bool, or_left, or_right}
 use Rattle.std.proofs.lemmas.List.{get_or_read, map_more, get_or-map, get_or_past, length-map, ext_get_or}
 use Rattle.std.proofs.lemmas.List.Sums.{sum_by-cons, count_by-le-length}
 use Rattle.std.proofs.lemmas.List.Folds.{list_any_at}
@@ -20,7 +20,7 @@ use Rattle.elmore_tree.specs.Walks.{is_visited, IsGrown, IsWalked, path_of}
 use Rattle.elmore_tree.specs.declared.order.TapOrder.{TapOrder}
 use Rattle.elmore_tree.specs.Orders.{is_tapped, IsTapOrder, IsRowOf, IsPreorderWalk}
 use Rattle.elmore_tree.specs.Gathering.{elmore_sum, cap_sum, IsFirstUnreached, IsAllReached}
-use Rattle.elmore_tree.proofs.Bools.{true_or_false, not_both, or_left, or_right, eqb_same}
+use Rattle.elmore_tree.proofs.Bools.{not_both, eqb_same}
 use Rattle.elmore_tree.proofs.SumLaws.{below_same}
 use Rattle.elmore_tree.proofs.PathLaws.{visited_joined, joined_visited}
 use Rattle.elmore_tree.proofs.GatherLaws.{small, shared_fits, elmore_most}
@@ -122,9 +122,9 @@ part_is_one : (t : TreeParts) (a b : List Bool) → IsPart t a → IsPart t b �
 part_is_one t a b p q = ext_get_or false a b (p.count ∙ sym q.count) (λ i lt. same i)
   where
     same : (i : ℕ) → is_in a i ≡ is_in b i
-    same i = elim (true_or_false (is_in a i)) [
+    same i = elim (cases_Bool (is_in a i)) [
       | inl yes_a ↦ yes_a ∙ sym ((q.each i).1 ((p.each i).0 yes_a))
-      | inr no_a ↦ elim (true_or_false (is_in b i)) [
+      | inr no_a ↦ elim (cases_Bool (is_in b i)) [
         | inl yes_b ↦ not_both (is_in a i) ((p.each i).1 ((q.each i).0 yes_b)) no_a
         | inr no_b ↦ no_a ∙ sym no_b
       ]

@@ -4,7 +4,7 @@ use Rattle.std.specs.Int.RustNames.{unsigned_abs}
 use Rattle.std.specs.Prelude.{ℤ, pos, negsuc, ◌≤ℤ◌}
 use Rattle.std.specs.List.{slice_get}
 use Rattle.std.proofs.lemmas.Int.{ints}
-use Rattle.std.proofs.lemmas.Bool.{cases_lt, cases_eq, false≢true}
+use Rattle.std.proofs.lemmas.Bool.{cases_lt, cases_eq, false≢true, or_left, or_right, or_cases, cases_Bool}
 use Rattle.std.proofs.lemmas.List.{get_or-set_same, get_or-set_other, get_or-replicate, length-set, length-replicate}
 use Rattle.std.proofs.lemmas.Option.{slice_get_within, slice_get_past, slice_get-get_or, get_or_from_slice_get}
 use Rattle.std.proofs.Common.{mul-le-mul_right}
@@ -15,7 +15,7 @@ use Rattle.elmore_tree.specs.Paths.{Joins, is_on}
 use Rattle.elmore_tree.specs.Sums.{sum_below, shared, resistance}
 use Rattle.elmore_tree.specs.Walks.{is_visited, IsGrown, path_to, path_of}
 use Rattle.elmore_tree.specs.Gathering.{elmore_sum, behind, visited_sum, cap_sum, IsGathered, AreSumsOf}
-use Rattle.elmore_tree.proofs.Bools.{or_left, or_right, or_split, or_nothing, true_or_false, not_both, eqb_same, eqb_apart, eqb_is}
+use Rattle.elmore_tree.proofs.Bools.{or_nothing, not_both, eqb_same, eqb_apart, eqb_is}
 use Rattle.elmore_tree.proofs.SumLaws.{below_same, below_added, below_scaled, below_most, below_none, below_bumped, below_one, below_two, term, shared_more, shared_most}
 use Rattle.elmore_tree.proofs.PathLaws.{element_at, visited_more, path_more, path_kept, path_none, path_root, path_short, path_of_end, fresh_on}
 
@@ -108,7 +108,7 @@ module _ (t : TreeParts) (steps : List Step) (g : IsGrown t steps) (sound : IsSo
       let visited : is_visited t (take (suc m) steps) r.to ≡ true = visited_more t steps g m r r.to at_m ∙ or_right (is_visited t (take m steps) r.to) (eqb r.to r.to) (eqb_same r.to) in
       let kept : path_to steps i r.to ≡ path_to steps (suc m) r.to = (path_kept t steps g (suc m) i r.to (omega arith) (omega arith) visited).0 in
       let on : is_on (path_to steps i r.to) r.resistor ≡ true = ap (λ p. is_on p r.resistor) (kept ∙ made) ∙ or_left (eqb r.resistor r.resistor) (is_on (path_to steps m r.from) r.resistor) (eqb_same r.resistor) in
-      elim (true_or_false (eqb s.resistor r.resistor)) [
+      elim (cases_Bool (eqb s.resistor r.resistor)) [
         | inl same ↦ not_both (is_on (path_to steps i r.to) r.resistor) on (rw (← eqb_is s.resistor r.resistor same) (fresh_on t steps g i s r.to at_i))
         | inr differ ↦ differ
       ]
@@ -188,7 +188,7 @@ module _ (t : TreeParts) (steps : List Step) (g : IsGrown t steps) (sound : IsSo
   sums_begin caps sums e = record {
     count = rw e (length-replicate t.nodes 0);
     each = λ k h.
-        let is_root : t.root ≡ k = elim (or_split (eqb t.root k) false h) [ inl same ↦ eqb_is t.root k same | inr never ↦ absurd (false≢true never) ] in
+        let is_root : t.root ≡ k = elim (or_cases (eqb t.root k) false h) [ inl same ↦ eqb_is t.root k same | inr never ↦ absurd (false≢true never) ] in
         let blank : get_or (replicate t.nodes 0) k 0 ≡ 0 = get_or-replicate t.nodes k 0 0 (rw (← is_root) sound.root) in
         let empty : path_of steps k ≡ [] = rw (← is_root) (path_root t steps g (length steps) (omega arith)) in
         let none : elmore_sum t steps caps k ≡ 0 = below_none (λ m. shared t (path_of steps k) (path_of steps m) * get_or caps m 0) t.nodes (λ m lt. rw empty (omega arith)) in
@@ -236,7 +236,7 @@ module _ (t : TreeParts) (steps : List Step) (g : IsGrown t steps) (sound : IsSo
               rw e (get_or-set_same sums s.to v 0 (omega (arith, there.1)) ∙ whole)
           | inr ne ↦
               let other : eqb s.to k ≡ false = eqb_apart s.to k (λ e. ne (sym e)) in
-              let earlier : is_visited t (take i steps) k ≡ true = elim (or_split (is_visited t (take i steps) k) (eqb s.to k) (sym (visited_more t steps g i s k at) ∙ visited)) [
+              let earlier : is_visited t (take i steps) k ≡ true = elim (or_cases (is_visited t (take i steps) k) (eqb s.to k) (sym (visited_more t steps g i s k at) ∙ visited)) [
                 | inl old ↦ old
                 | inr last ↦ not_both (eqb s.to k) last other
               ] in

@@ -1,7 +1,7 @@
 -- Links between the places of a walk's order, and the row of a sink.
 use Rattle.std.proofs.Common.{◌≡◌, ℕ, suc, ◌+◌, ◌<◌, ◌≤◌, ◌^◌, Bool, true, false, cond, eqb, List, [], ◌∷◌, length, take, get_or, set, replicate, Some, min, refl, sym, ap, ◌∙◌, subst, arith, inl, inr}
 use Rattle.std.specs.List.{slice_get}
-use Rattle.std.proofs.lemmas.Bool.{cases_lt, cases_eq, false≢true}
+use Rattle.std.proofs.lemmas.Bool.{cases_lt, cases_eq, false≢true, or_cases}
 use Rattle.std.proofs.lemmas.List.{get_or_read, get_or-set_same, get_or-set_other, get_or-replicate, get_or_past, length-set, length-replicate}
 use Rattle.std.proofs.lemmas.List.Sums.{sum_by-cons}
 use Rattle.std.proofs.lemmas.Option.{slice_get-get_or}
@@ -13,7 +13,7 @@ use Rattle.elmore_tree.specs.Paths.{is_in}
 use Rattle.elmore_tree.specs.Sums.{shared, resistance}
 use Rattle.elmore_tree.specs.Walks.{is_visited, IsGrown, IsPreorder, node_at, end_of, path_of}
 use Rattle.elmore_tree.specs.Orders.{path_resistance, common, is_tapped, AreTapped, ArePlaces, AreResistances, no_link, link_at, IsLinkBack, IsLinkOn, AreLinkedBack, AreLinkedOn, IsTapOrder, IsRowFrom, IsRowOf}
-use Rattle.elmore_tree.proofs.Bools.{or_split, not_both, eqb_is, eqb_apart}
+use Rattle.elmore_tree.proofs.Bools.{not_both, eqb_is, eqb_apart}
 use Rattle.elmore_tree.proofs.PathLaws.{take_whole, path_kept, visited_more, path_of_end, path_root}
 use Rattle.elmore_tree.proofs.OrderLaws.{shared_self}
 use Rattle.elmore_tree.proofs.GatherLaws.{joined_there, shared_fits}
@@ -29,7 +29,7 @@ min_swaps : (a b : ℕ) → min a b ≡ min b a
 min_swaps a b = omega arith
 
 is_root : (t : TreeParts) (k : ℕ) → is_visited t [] k ≡ true → t.root ≡ k
-is_root t k h = elim (or_split (eqb t.root k) false h) [ inl same ↦ eqb_is t.root k same | inr never ↦ absurd (false≢true never) ]
+is_root t k h = elim (or_cases (eqb t.root k) false h) [ inl same ↦ eqb_is t.root k same | inr never ↦ absurd (false≢true never) ]
 
 module _ (t : TreeParts) (steps : List Step) (g : IsGrown t steps) (sound : IsSoundTree t) where
   pub places_begin : (places : List ℕ) → places ≡ replicate t.nodes 0 → ArePlaces t steps 0 places
@@ -58,7 +58,7 @@ module _ (t : TreeParts) (steps : List Step) (g : IsGrown t steps) (sound : IsSo
           | inl e ↦ rw e (ap (node_at t steps) (get_or-set_same places s.to (suc i) 0 (omega (arith, there.1))) ∙ ap (end_of t) at)
           | inr ne ↦
               let other : eqb s.to k ≡ false = eqb_apart s.to k (λ e. ne (sym e)) in
-              let earlier : is_visited t (take i steps) k ≡ true = elim (or_split (is_visited t (take i steps) k) (eqb s.to k) (sym (visited_more t steps g i s k at) ∙ visited)) [
+              let earlier : is_visited t (take i steps) k ≡ true = elim (or_cases (is_visited t (take i steps) k) (eqb s.to k) (sym (visited_more t steps g i s k at) ∙ visited)) [
                 | inl old ↦ old
                 | inr last ↦ not_both (eqb s.to k) last other
               ] in
@@ -99,7 +99,7 @@ module _ (t : TreeParts) (steps : List Step) (g : IsGrown t steps) (sound : IsSo
               rw e (get_or-set_same sums s.to v 0 (omega (arith, there.1)) ∙ whole)
           | inr ne ↦
               let other : eqb s.to k ≡ false = eqb_apart s.to k (λ e. ne (sym e)) in
-              let earlier : is_visited t (take i steps) k ≡ true = elim (or_split (is_visited t (take i steps) k) (eqb s.to k) (sym (visited_more t steps g i s k at) ∙ visited)) [
+              let earlier : is_visited t (take i steps) k ≡ true = elim (or_cases (is_visited t (take i steps) k) (eqb s.to k) (sym (visited_more t steps g i s k at) ∙ visited)) [
                 | inl old ↦ old
                 | inr last ↦ not_both (eqb s.to k) last other
               ] in

@@ -1,7 +1,7 @@
 -- What the paths to three nodes have in common, where the nodes stand in the order of a walk.
 use Rattle.std.proofs.Common.{◌≡◌, ℕ, zero, suc, ◌<◌, ◌≤◌, true, false, eqb, List, ◌∷◌, length, take, Some, refl, sym, ap, ◌∙◌, arith, inl, inr, min, subst}
 use Rattle.std.specs.List.{slice_get}
-use Rattle.std.proofs.lemmas.Bool.{cases_eq}
+use Rattle.std.proofs.lemmas.Bool.{cases_eq, or_left, or_right}
 use Rattle.std.proofs.lemmas.Option.{slice_get_within}
 use Rattle.elmore_tree.specs.declared.walk.Step.{Step}
 use Rattle.elmore_tree.specs.Trees.{TreeParts}
@@ -9,7 +9,7 @@ use Rattle.elmore_tree.specs.Paths.{is_on}
 use Rattle.elmore_tree.specs.Sums.{shared}
 use Rattle.elmore_tree.specs.Walks.{is_visited, IsGrown, IsPreorder, IsAbove, node_at, end_of, path_to, path_of}
 use Rattle.elmore_tree.specs.Orders.{path_resistance, common}
-use Rattle.elmore_tree.proofs.Bools.{or_left, or_right, eqb_same}
+use Rattle.elmore_tree.proofs.Bools.{eqb_same}
 use Rattle.elmore_tree.proofs.SumLaws.{shared_apart, shared_swaps}
 use Rattle.elmore_tree.proofs.PathLaws.{element_at, visited_more, path_kept, path_of_end, fresh_on, path_once}
 use Rattle.elmore_tree.proofs.OrderLaws.{above_same, above_more, above_both, above_nested, above_by, shared_above, resistance_above, shared_less, shared_self}

@@ -1,7 +1,7 @@
 -- Paths in the order of a walk, and the resistance that they have in common.
 use Rattle.std.proofs.Common.{◌≡◌, ℕ, zero, suc, ◌+◌, ◌-◌, ◌<◌, ◌≤◌, true, false, cond, eqb, List, [], ◌∷◌, ◌++◌, length, drop, Some, refl, sym, ap, ◌∙◌, subst, arith, inl, inr, ◌⊎◌}
 use Rattle.std.specs.List.{slice_get, sum_by}
-use Rattle.std.proofs.lemmas.Bool.{cases_lt}
+use Rattle.std.proofs.lemmas.Bool.{cases_lt, or_left, or_right, cases_Bool}
 use Rattle.std.proofs.lemmas.List.{drop-drop, length_push}
 use Rattle.std.proofs.lemmas.List.Sums.{sum_by-cons, sum_by-take-drop}
 use Rattle.std.proofs.lemmas.Option.{slice_get_within, none-some}
@@ -11,7 +11,7 @@ use Rattle.elmore_tree.specs.Paths.{is_on}
 use Rattle.elmore_tree.specs.Sums.{shared, resistance}
 use Rattle.elmore_tree.specs.Walks.{is_visited, path_by, path_to, path_of, node_at, end_of, IsAbove, IsStack}
 use Rattle.elmore_tree.specs.Orders.{path_resistance}
-use Rattle.elmore_tree.proofs.Bools.{or_left, or_right, true_or_false, not_both, eqb_same, eqb_is, slice_get_push}
+use Rattle.elmore_tree.proofs.Bools.{not_both, eqb_same, eqb_is, slice_get_push}
 use Rattle.elmore_tree.proofs.SumLaws.{term, shared_more}
 use Rattle.elmore_tree.proofs.PathLaws.{element_at}
 
@@ -182,7 +182,7 @@ stack_goes t steps rest s w from to = record {
 
     kept : (i : ℕ) (r : Step) → slice_get rest i ≡ Some r → path_of (steps ++ s ∷ []) r.from ≡ path_of steps r.from
     kept i r at =
-        let other : eqb s.to r.from ≡ false = elim (true_or_false (eqb s.to r.from)) [
+        let other : eqb s.to r.from ≡ false = elim (cases_Bool (eqb s.to r.from)) [
           | inl e ↦ not_both (is_visited t steps r.from) (from i r (earlier_pushed rest s i r at)) (rw (eqb_is s.to r.from e) at to)
           | inr differs ↦ differs
         ] in

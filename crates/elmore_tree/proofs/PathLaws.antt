@@ -1,7 +1,7 @@
 -- Paths that the steps of a walk make.
 use Rattle.std.proofs.Common.{◌≡◌, ℕ, zero, suc, ◌+◌, ◌<◌, ◌≤◌, Bool, true, false, cond, eqb, ◌||◌, List, [], ◌∷◌, length, take, get_or, Some, refl, sym, ap, ◌∙◌, subst, arith, inl, inr, ◌⊎◌}
 use Rattle.std.specs.List.{slice_get}
-use Rattle.std.proofs.lemmas.Bool.{cases_lt, cases_eq, false≢true}
+use Rattle.std.proofs.lemmas.Bool.{cases_lt, cases_eq, false≢true, or_left, or_right, or_parts, or_cases, cases_Bool}
 use Rattle.std.proofs.lemmas.List.Folds.{list_any_more}
 use Rattle.std.proofs.lemmas.List.{take_all}
 use Rattle.std.proofs.lemmas.Option.{slice_get_within, slice_get_cases, slice_get_past, get_or_from_slice_get}
@@ -10,7 +10,7 @@ use Rattle.elmore_tree.specs.declared.walk.Step.{Step}
 use Rattle.elmore_tree.specs.Trees.{TreeParts}
 use Rattle.elmore_tree.specs.Paths.{Joins, is_on, IsPath, IsJoined}
 use Rattle.elmore_tree.specs.Walks.{leads_to, is_visited, IsGrown, IsWalked, path_by, path_to}
-use Rattle.elmore_tree.proofs.Bools.{or_left, or_right, or_none, or_split, or_assoc, true_or_false, not_both, eqb_same, eqb_is}
+use Rattle.elmore_tree.proofs.Bools.{or_assoc, not_both, eqb_same, eqb_is}
 use Rattle.elmore_tree.proofs.SumLaws.{IsOnce}
 
 pub element_at : {X : Type 0} (xs : List X) (i : ℕ) → i < length xs → (x : X) × (slice_get xs i ≡ Some x)
@@ -55,10 +55,10 @@ module _ (t : TreeParts) (steps : List Step) (g : IsGrown t steps) where
       let s = found.0 in
       let old : is_visited t (take i steps) b ≡ true → is_visited t (take (suc i) steps) b ≡ true = λ h. visited_more i s b found.1 ∙ or_left (is_visited t (take i steps) b) (eqb s.to b) h in
       let on_it : is_on (cond (eqb s.to k) (s.resistor ∷ path_to steps i s.from) (path_to steps i k)) j ≡ true = ap (λ p. is_on p j) (sym (path_more i s k found.1)) ∙ on in
-      elim (true_or_false (eqb s.to k)) [
+      elim (cases_Bool (eqb s.to k)) [
         | inl last ↦
             let split : is_on (s.resistor ∷ path_to steps i s.from) j ≡ true = rw last at on_it in
-            elim (or_split (eqb s.resistor j) (is_on (path_to steps i s.from) j) split) [
+            elim (or_cases (eqb s.resistor j) (is_on (path_to steps i s.from) j) split) [
               | inl same ↦
                   let joins_s : Joins t.resistors s.resistor a b = rw (eqb_is s.resistor j same) joins in
                   elim (same_ends t.resistors s.resistor a b s.from s.to joins_s (g.joins i s found.1)) [
@@ -74,21 +74,21 @@ module _ (t : TreeParts) (steps : List Step) (g : IsGrown t steps) where
   pub fresh_on : (i : ℕ) (s : Step) (k : ℕ) → slice_get steps i ≡ Some s → is_on (path_to steps i k) s.resistor ≡ false
   fresh_on i s k at =
       let lt : i < length steps = slice_get_within steps i s at in
-      elim (true_or_false (is_on (path_to steps i k) s.resistor)) [
+      elim (cases_Bool (is_on (path_to steps i k) s.resistor)) [
         | inl on ↦ not_both (is_visited t (take i steps) s.to) (on_visited i s.resistor k s.from s.to (omega arith) on (g.joins i s at)) (g.to i s at)
         | inr off ↦ off
       ]
 
   pub path_is : (i k : ℕ) → i ≤ length steps → is_visited t (take i steps) k ≡ true → IsPath t k (path_to steps i k)
   path_is zero k le h =
-      elim (or_split (eqb t.root k) false h) [
+      elim (or_cases (eqb t.root k) false h) [
         | inl e ↦ sym (eqb_is t.root k e)
         | inr never ↦ absurd (false≢true never)
       ]
   path_is (suc i) k le h =
       let found = element_at steps i (omega arith) in
       let s = found.0 in
-      elim (true_or_false (eqb s.to k)) [
+      elim (cases_Bool (eqb s.to k)) [
         | inl last ↦
             let e : s.to ≡ k = eqb_is s.to k last in
             let joins : Joins t.resistors s.resistor s.from k = rw (← e) (g.joins i s found.1) in
@@ -96,7 +96,7 @@ module _ (t : TreeParts) (steps : List Step) (g : IsGrown t steps) where
             let P : List ℕ → Type 0 = λ p. IsPath t k p in
             subst P (sym (path_more i s k found.1 ∙ ap (λ b. cond b (s.resistor ∷ path_to steps i s.from) (path_to steps i k)) last)) whole
         | inr other ↦
-            let earlier : is_visited t (take i steps) k ≡ true = elim (or_split (is_visited t (take i steps) k) (eqb s.to k) (sym (visited_more i s k found.1) ∙ h)) [
+            let earlier : is_visited t (take i steps) k ≡ true = elim (or_cases (is_visited t (take i steps) k) (eqb s.to k) (sym (visited_more i s k found.1) ∙ h)) [
               | inl v ↦ v
               | inr v ↦ not_both (eqb s.to k) v other
             ] in
@@ -107,7 +107,7 @@ module _ (t : TreeParts) (steps : List Step) (g : IsGrown t steps) where
   -- a node that is visited keeps its path and stays visited
   step_keeps : (i : ℕ) (s : Step) (k : ℕ) → slice_get steps i ≡ Some s → is_visited t (take i steps) k ≡ true → (path_to steps (suc i) k ≡ path_to steps i k) × (is_visited t (take (suc i) steps) k ≡ true)
   step_keeps i s k at h =
-      let other : eqb s.to k ≡ false = elim (true_or_false (eqb s.to k)) [
+      let other : eqb s.to k ≡ false = elim (cases_Bool (eqb s.to k)) [
         | inl e ↦ not_both (is_visited t (take i steps) k) h (rw (← eqb_is s.to k e) (g.to i s at))
         | inr differs ↦ differs
       ] in
@@ -131,7 +131,7 @@ module _ (t : TreeParts) (steps : List Step) (g : IsGrown t steps) where
   path_none (suc i) k le h =
       let found = element_at steps i (omega arith) in
       let s = found.0 in
-      let parts : (is_visited t (take i steps) k ≡ false) × (eqb s.to k ≡ false) = or_none (is_visited t (take i steps) k) (eqb s.to k) (sym (visited_more i s k found.1) ∙ h) in
+      let parts : (is_visited t (take i steps) k ≡ false) × (eqb s.to k ≡ false) = or_parts (is_visited t (take i steps) k) (eqb s.to k) (sym (visited_more i s k found.1) ∙ h) in
       path_more i s k found.1 ∙ ap (λ b. cond b (s.resistor ∷ path_to steps i s.from) (path_to steps i k)) parts.1 ∙ path_none i k (omega arith) parts.0
 
   pub path_root : (i : ℕ) → i ≤ length steps → path_to steps i t.root ≡ []
@@ -143,7 +143,7 @@ module _ (t : TreeParts) (steps : List Step) (g : IsGrown t steps) where
       let found = element_at steps i (omega arith) in
       let s = found.0 in
       let P : List ℕ → Type 0 = λ p. IsOnce p in
-      elim (true_or_false (eqb s.to k)) [
+      elim (cases_Bool (eqb s.to k)) [
         | inl last ↦
             let both : IsOnce (s.resistor ∷ path_to steps i s.from) = (fresh_on i s s.from found.1, path_once i s.from (omega arith)) in
             subst P (sym (path_more i s k found.1 ∙ ap (λ b. cond b (s.resistor ∷ path_to steps i s.from) (path_to steps i k)) last)) both
@@ -155,7 +155,7 @@ module _ (t : TreeParts) (steps : List Step) (g : IsGrown t steps) where
   path_short (suc i) k le =
       let found = element_at steps i (omega arith) in
       let s = found.0 in
-      elim (true_or_false (eqb s.to k)) [
+      elim (cases_Bool (eqb s.to k)) [
         | inl last ↦
             let e : length (path_to steps (suc i) k) ≡ length (s.resistor ∷ path_to steps i s.from) = ap length (path_more i s k found.1 ∙ ap (λ b. cond b (s.resistor ∷ path_to steps i s.from) (path_to steps i k)) last) in
             let rest = path_short i s.from (omega arith) in

@@ -1,7 +1,7 @@
 -- The resistors at each node, and the node across one of them.
 use Rattle.std.proofs.Common.{◌≡◌, ◌≢◌, ℕ, zero, suc, ◌+◌, ◌<◌, ◌≤◌, Bool, true, false, cond, eqb, ◌||◌, List, [], ◌∷◌, ◌++◌, length, take, get_or, set, Some, refl, sym, ap, ◌∙◌, subst, arith, inl, inr, ◌⊎◌}
 use Rattle.std.specs.List.{slice_get}
-use Rattle.std.proofs.lemmas.Bool.{cases_lt, cases_eq}
+use Rattle.std.proofs.lemmas.Bool.{cases_lt, cases_eq, or_left, or_right, or_cases, cases_Bool}
 use Rattle.std.proofs.lemmas.List.{get_or_read, get_or-set_same, get_or-set_other, get_or_append_left, length-set}
 use Rattle.std.proofs.lemmas.List.Folds.{list_any_more, list_any_at}
 use Rattle.std.proofs.lemmas.Option.{slice_get_past, slice_get-get_or}
@@ -9,7 +9,7 @@ use Rattle.elmore_tree.specs.declared.part.Resistor.{Resistor}
 use Rattle.elmore_tree.specs.Trees.{TreeParts, IsSoundResistor, IsSoundTree}
 use Rattle.elmore_tree.specs.Paths.{Joins, is_on}
 use Rattle.elmore_tree.specs.Walks.{Touches, row_of, AreRows, AreRowsOf}
-use Rattle.elmore_tree.proofs.Bools.{or_left, or_right, or_split, true_or_false, not_both, eqb_same, eqb_is, any_push}
+use Rattle.elmore_tree.proofs.Bools.{not_both, eqb_same, eqb_is, any_push}
 
 pub on_push : (xs : List ℕ) (n j : ℕ) → is_on (xs ++ n ∷ []) j ≡ (is_on xs j || eqb n j)
 on_push xs n j = any_push (λ i. eqb i j) xs n
@@ -61,7 +61,7 @@ added_touch t rows k n lt here touch j i h =
     elim (cases_eq i k) [
       | inl e ↦
           let at_k : is_on (row_of (added rows k n) k) j ≡ true = rw e at h in
-          elim (or_split (is_on (row_of rows k) j) (eqb n j) (sym (added_there rows k n j lt) ∙ at_k)) [
+          elim (or_cases (is_on (row_of rows k) j) (eqb n j) (sym (added_there rows k n j lt) ∙ at_k)) [
             | inl old ↦ rw e (touch j k old)
             | inr new ↦ let P : ℕ → Type 0 = λ m. Touches t.resistors m k in rw e (subst P (eqb_is n j new) here)
           ]
@@ -125,7 +125,7 @@ is_on_more xs i j lt = list_any_more (λ m. eqb m j) xs i 0 lt
 pub across_joins : (t : TreeParts) (j : ℕ) (r : Resistor) (node : ℕ) → slice_get t.resistors j ≡ Some r → Touches t.resistors j node
     → Joins t.resistors j node (cond (eqb r.a node) r.b r.a)
 across_joins t j r node at h =
-    elim (true_or_false (eqb r.a node)) [
+    elim (cases_Bool (eqb r.a node)) [
       | inl same ↦ rw (at, same) (inl (eqb_is r.a node same, refl))
       | inr differs ↦ elim (touched_at t j r node at h) [
         | inl is_a ↦ not_both (eqb r.a node) (rw is_a (eqb_same node)) differs
@@ -138,7 +138,7 @@ across_is t j r node b at h =
     let ends : ((r.a ≡ node) × (r.b ≡ b)) ⊎ ((r.a ≡ b) × (r.b ≡ node)) = rw at at h in
     elim ends [
       | inl w ↦ rw w.0 (rw (eqb_same node) w.1)
-      | inr w ↦ elim (true_or_false (eqb r.a node)) [
+      | inr w ↦ elim (cases_Bool (eqb r.a node)) [
         | inl same ↦ rw same (w.1 ∙ (sym (eqb_is r.a node same) ∙ w.0))
         | inr differs ↦ rw differs w.0
       ]

@@ -1,11 +1,11 @@
 -- Sums over nodes and over paths.
 use Rattle.std.proofs.Common.{◌≡◌, ◌≢◌, ℕ, zero, suc, ◌+◌, ◌*◌, ◌<◌, ◌≤◌, ◌^◌, false, cond, eqb, ◌||◌, List, [], ◌∷◌, length, refl, sym, ap, ◌∙◌, arith, inl, inr}
-use Rattle.std.proofs.lemmas.Bool.{cases_eq}
+use Rattle.std.proofs.lemmas.Bool.{cases_eq, or_parts, cases_Bool}
 use Rattle.std.proofs.lemmas.List.Sums.{sum_by-cons}
 use Rattle.elmore_tree.specs.Trees.{TreeParts}
 use Rattle.elmore_tree.specs.Paths.{is_on}
 use Rattle.elmore_tree.specs.Sums.{sum_below, shared, resistance}
-use Rattle.elmore_tree.proofs.Bools.{or_none, true_or_false, not_both, eqb_same, eqb_apart, eqb_is}
+use Rattle.elmore_tree.proofs.Bools.{not_both, eqb_same, eqb_apart, eqb_is}
 
 -- ---- sums over the numbers below n
 pub below_same : (f h : ℕ → ℕ) (n : ℕ) → ((k : ℕ) → k < n → f k ≡ h k) → sum_below f n ≡ sum_below h n
@@ -97,7 +97,7 @@ IsOnce (j ∷ p) = (is_on p j ≡ false) × IsOnce p
 pub shared_apart : (t : TreeParts) (j : ℕ) (p q : List ℕ) → is_on p j ≡ false → shared t p (j ∷ q) ≡ shared t p q
 shared_apart t j [] q h = refl
 shared_apart t j (i ∷ p) q h =
-    let parts : (eqb i j ≡ false) × (is_on p j ≡ false) = or_none (eqb i j) (is_on p j) h in
+    let parts : (eqb i j ≡ false) × (is_on p j ≡ false) = or_parts (eqb i j) (is_on p j) h in
     let differ : eqb j i ≡ false = eqb_apart j i (λ e. not_both (eqb i j) (rw e (eqb_same i)) parts.0) in
     let one : term t (j ∷ q) i ≡ term t q i = ap (λ b. cond (b || is_on q i) (resistance t i) 0) differ in
     let rest : shared t p (j ∷ q) ≡ shared t p q = shared_apart t j p q parts.1 in
@@ -110,7 +110,7 @@ shared_with t j [] q once h = omega arith
 shared_with t j (i ∷ p) q once h =
     let a = shared_more t i p (j ∷ q) in
     let b = shared_more t i p q in
-    elim (true_or_false (eqb i j)) [
+    elim (cases_Bool (eqb i j)) [
       | inl same ↦
           let e : i ≡ j = eqb_is i j same in
           let gone : is_on p j ≡ false = rw (← e) once.0 in
@@ -142,7 +142,7 @@ shared_most t [] q most = omega arith
 shared_most t (j ∷ p) q most =
     let a = shared_more t j p q in
     let rest : shared t p q ≤ length p * 2 ^ 40 = shared_most t p q most in
-    let one : term t q j ≤ 2 ^ 40 = elim (true_or_false (is_on q j)) [
+    let one : term t q j ≤ 2 ^ 40 = elim (cases_Bool (is_on q j)) [
       | inl on ↦ rw on (most j)
       | inr off ↦ rw off (omega arith)
     ] in

@@ -3,7 +3,7 @@ use Rattle.std.proofs.Common.{◌≡◌, ◌≢◌, ℕ, zero, suc, ◌+◌, ◌
 use Rattle.std.specs.Prelude.{ℤ, pos}
 use Rattle.std.specs.Int.RustNames.{unsigned_abs}
 use Rattle.std.specs.List.{slice_get, list_any}
-use Rattle.std.proofs.lemmas.Bool.{cases_lt, false≢true}
+use Rattle.std.proofs.lemmas.Bool.{cases_lt, false≢true, or_left, or_right, or_cases, cases_Bool}
 use Rattle.std.proofs.lemmas.Bool.Decides.{nat_tests}
 use Rattle.std.proofs.lemmas.List.{get_or-map}
 use Rattle.std.proofs.lemmas.Option.{slice_get-get_or, slice_get_past, get_or_from_slice_get}
@@ -17,7 +17,7 @@ use Rattle.elmore_tree.specs.Forms.{IsFormOf, IsTakenTree}
 use Rattle.elmore_tree.specs.Paths.{Joins, is_on, IsPath, IsJoined, is_in, resistors_in}
 use Rattle.elmore_tree.specs.Sums.{shared, sum_below, base_of, coefficient_of, ArePaths, SinkSums, sink_sums}
 use Rattle.elmore_tree.specs.Walks.{is_visited, IsGrown, IsWalked, path_of}
-use Rattle.elmore_tree.proofs.Bools.{or_left, or_right, or_split, true_or_false, not_both, eqb_same, eqb_apart, eqb_is}
+use Rattle.elmore_tree.proofs.Bools.{not_both, eqb_same, eqb_apart, eqb_is}
 use Rattle.elmore_tree.proofs.SumLaws.{IsOnce, below_same, below_bumped}
 use Rattle.elmore_tree.proofs.PathLaws.{element_at, path_of_end, path_root, path_is, joined_visited, take_whole, path_kept}
 use Rattle.elmore_tree.proofs.GatherLaws.{joined_there, resistor_apart}
@@ -73,7 +73,7 @@ module _ (t : TreeParts) (steps : List Step) (g : IsGrown t steps) (sound : IsSo
   by_step (suc i) j le h =
       let d : Step = record { from = 0; resistor = 0; to = 0 } in
       let s : Step = get_or steps i d in
-      elim (or_split (eqb s.resistor j) (is_on (gone_by steps i) j) h) [
+      elim (or_cases (eqb s.resistor j) (is_on (gone_by steps i) j) h) [
         | inl here ↦ (i, s, omega arith, slice_get-get_or steps i d (omega arith), eqb_is s.resistor j here)
         | inr earlier ↦ let found = by_step i j (omega arith) earlier in let lt = found.2 in (found.0, found.1, omega arith, found.3, found.4)
       ]
@@ -84,7 +84,7 @@ module _ (t : TreeParts) (steps : List Step) (g : IsGrown t steps) (sound : IsSo
       let d : Step = record { from = 0; resistor = 0; to = 0 } in
       let s : Step = get_or steps i d in
       let at : slice_get steps i ≡ Some s = slice_get-get_or steps i d (omega arith) in
-      let fresh : is_on (gone_by steps i) s.resistor ≡ false = elim (true_or_false (is_on (gone_by steps i) s.resistor)) [
+      let fresh : is_on (gone_by steps i) s.resistor ≡ false = elim (cases_Bool (is_on (gone_by steps i) s.resistor)) [
         | inl on ↦
             let found = by_step i s.resistor (omega arith) on in
             let apart = resistor_apart t steps g sound found.0 i found.1 s found.2 found.3 at in
@@ -117,12 +117,12 @@ module _ (t : TreeParts) (reached : List Bool) (steps : List Step) (sound : IsSo
   every_gone j a b joins visited =
       let n : ℕ = length steps in
       let js : List ℕ = gone_by steps n in
-      elim (true_or_false (is_on js j)) [
+      elim (cases_Bool (is_on js j)) [
         | inl on ↦ on
         | inr off ↦
             let f : ℕ → ℕ = λ k. get_or (map (passing reached) t.resistors) k 0 in
             let many : length (j ∷ js) ≤ sum_below f (length t.resistors) = several f (length t.resistors) (j ∷ js) (off, gone_once t steps w.grown sound n (omega arith)) (λ k on.
-            elim (or_split (eqb j k) (is_on js k) on) [
+            elim (or_cases (eqb j k) (is_on js k) on) [
               | inl same ↦ let P : ℕ → Type 0 = λ i. (i < length t.resistors) × (f i ≡ 1) in subst P (eqb_is j k same) (passes j a b joins visited)
               | inr other ↦
                   let found = by_step t steps w.grown sound n k (omega arith) other in
@@ -162,7 +162,7 @@ module _ (t : TreeParts) (reached : List Bool) (steps : List Step) (sound : IsSo
 
     same_base : (p : ℕ) → is_needed t p ≡ true → base_of t paths p ≡ base_of t (path_of steps) p
     same_base p need = below_same (λ k. shared t (paths p) (paths k) * ground_at t k) (λ k. shared t (path_of steps p) (path_of steps k) * ground_at t k) t.nodes (λ k lt.
-        elim (true_or_false (ltb 0 (ground_at t k))) [
+        elim (cases_Bool (ltb 0 (ground_at t k))) [
           | inl some ↦
               let here = agree k (or_left (ltb 0 (ground_at t k)) (list_any (λ q. eqb q k) t.sinks || list_any (λ (tap : Tap). eqb tap.node k) t.taps) some) in
               ap (λ q. shared t q (paths k) * ground_at t k) (agree p need) ∙ ap (λ q. shared t (path_of steps p) q * ground_at t k) here

@@ -1,7 +1,7 @@
 -- A walk keeps what it has found.
 use Rattle.std.proofs.Common.{◌≡◌, ℕ, zero, suc, ◌+◌, ◌<◌, ◌≤◌, Bool, true, false, cond, eqb, ◌||◌, List, [], ◌∷◌, ◌++◌, length, take, get_or, set, replicate, Some, refl, sym, ap, ◌∙◌, subst, arith, inl, inr}
 use Rattle.std.specs.List.{slice_get, sum_by}
-use Rattle.std.proofs.lemmas.Bool.{cases_lt, cases_eq, false≢true}
+use Rattle.std.proofs.lemmas.Bool.{cases_lt, cases_eq, false≢true, or_left, or_right, or_from, or_cases, or_parts, cases_Bool}
 use Rattle.std.proofs.lemmas.List.{get_or-set_same, get_or-set_other, get_or-replicate, get_or_past, length-set, length-replicate, length_push, take-append-le}
 use Rattle.std.proofs.lemmas.List.Sums.{sum_by-set, count_by-le-length}
 use Rattle.std.proofs.lemmas.List.Folds.{sum_by-replicate}
@@ -12,7 +12,7 @@ use Rattle.elmore_tree.specs.Trees.{TreeParts}
 use Rattle.elmore_tree.specs.Paths.{Joins, is_in, nodes_in}
 use Rattle.elmore_tree.specs.Walks.{leads_to, is_visited, IsWalk, IsSpreadAt, IsSpread, IsWalked, node_at}
 use Rattle.elmore_tree.proofs.OrderLaws.{stack_begins, stack_reaches, stack_goes}
-use Rattle.elmore_tree.proofs.Bools.{or_left, or_right, or_false, or_split, or_none, or_past, or_assoc, or_nothing, true_or_false, not_both, eqb_same, eqb_apart, eqb_is, any_push, slice_get_push}
+use Rattle.elmore_tree.proofs.Bools.{or_past, or_assoc, or_nothing, not_both, eqb_same, eqb_apart, eqb_is, any_push, slice_get_push}
 
 pub leads_push : (xs : List Step) (s : Step) (k : ℕ) → leads_to (xs ++ s ∷ []) k ≡ (leads_to xs k || eqb s.to k)
 leads_push xs s k = any_push (λ (r : Step). eqb r.to k) xs s
@@ -45,7 +45,7 @@ walk_begins t blank reached lt is_blank is =
               | inr past ↦ get_or_past (replicate t.nodes false) k false (omega arith)
             ] in
             let unvisited : eqb t.root k ≡ false = eqb_apart t.root k (λ e. ne (sym e)) in
-            other ∙ blank_there ∙ sym (or_false (is_visited t [] k) false (or_false (eqb t.root k) false unvisited refl) refl)
+            other ∙ blank_there ∙ sym (or_from (is_visited t [] k) false (or_from (eqb t.root k) false unvisited refl) refl)
       ];
       grown = record {
         joins = λ i s at. absurd (none-some s at);
@@ -68,7 +68,7 @@ walk_reaches t reached steps pending s w joins there from last unmarked =
     let more : nodes_in (set reached s.to true) ≡ nodes_in reached + 1 = one_more_marked reached s.to (omega arith) unmarked in
     let len : length (pending ++ s ∷ []) ≡ length pending + 1 = length_push pending s in
     let sizes : nodes_in reached ≡ 1 + length steps + length pending = w.sizes in
-    let apart : (is_visited t steps s.to ≡ false) × (leads_to pending s.to ≡ false) = or_none (is_visited t steps s.to) (leads_to pending s.to) (sym (w.marks s.to) ∙ unmarked) in
+    let apart : (is_visited t steps s.to ≡ false) × (leads_to pending s.to ≡ false) = or_parts (is_visited t steps s.to) (leads_to pending s.to) (sym (w.marks s.to) ∙ unmarked) in
     record {
       count = length-set reached s.to true ∙ counts;
       sizes = omega arith;
@@ -147,13 +147,13 @@ walk_goes t reached steps rest s w =
       joins = λ i r at. w.joins i r (earlier i r at);
       from = λ i r at. visited_push t steps s r.from ∙ or_left (is_visited t steps r.from) (eqb s.to r.from) (w.from i r (earlier i r at));
       to = λ i r at.
-          let apart : eqb s.to r.to ≡ false = elim (true_or_false (eqb s.to r.to)) [
+          let apart : eqb s.to r.to ≡ false = elim (cases_Bool (eqb s.to r.to)) [
             | inl e ↦
                 let led : leads_to rest s.to ≡ true = led_by rest i r s.to at (sym (eqb_is s.to r.to e)) in
                 not_both (leads_to rest s.to) led its_once
             | inr differ ↦ differ
           ] in
-          visited_push t steps s r.to ∙ or_false (is_visited t steps r.to) (eqb s.to r.to) (w.to i r (earlier i r at)) apart;
+          visited_push t steps s r.to ∙ or_from (is_visited t steps r.to) (eqb s.to r.to) (w.to i r (earlier i r at)) apart;
       once = λ i r at.
           let lt : i < length rest = slice_get_within rest i r at in
           ap (λ xs. leads_to xs r.to) (sym (take-append-le i rest (s ∷ []) (omega arith))) ∙ w.once i r (earlier i r at);
@@ -195,7 +195,7 @@ last_there t reached steps rest s w = within_marks t reached s.to w.count (visit
 pub spread_more : (t : TreeParts) (old new : List Bool) (steps : List Step) (s : Step) → IsSpread t old steps → ((k : ℕ) → is_in old k ≡ true → is_in new k ≡ true)
     → IsSpreadAt t new s.to → IsSpread t new (steps ++ s ∷ [])
 spread_more t old new steps s before keeps here = record {
-  each = λ a h. elim (or_split (is_visited t steps a) (eqb s.to a) (sym (visited_push t steps s a) ∙ h)) [
+  each = λ a h. elim (or_cases (is_visited t steps a) (eqb s.to a) (sym (visited_push t steps s a) ∙ h)) [
     | inl earlier ↦ record { each = λ j b joins. keeps b ((before.each a earlier).each j b joins) }
     | inr last ↦ let P : ℕ → Type 0 = λ m. IsSpreadAt t new m in subst P (eqb_is s.to a last) here
   ];
@@ -205,7 +205,7 @@ pub spread_first : (t : TreeParts) (reached : List Bool) (steps : List Step) →
 spread_first t reached steps none here = record {
   each = λ a h.
       let unstepped : is_visited t [] a ≡ true = rw none at h in
-      elim (or_split (eqb t.root a) false unstepped) [
+      elim (or_cases (eqb t.root a) false unstepped) [
         | inl e ↦ let P : ℕ → Type 0 = λ m. IsSpreadAt t reached m in subst P (eqb_is t.root a e) here
         | inr never ↦ absurd (false≢true never)
       ];

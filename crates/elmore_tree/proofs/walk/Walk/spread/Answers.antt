@@ -1,5 +1,6 @@
 use Rattle.std.proofs.Common.{◌<◌, length, get_or, sym, ◌∙◌, arith, inl, inr, rules}
-use Rattle.elmore_tree.proofs.Bools.{or_split, eqb_is}
+use Rattle.std.proofs.lemmas.Bool.{or_cases}
+use Rattle.elmore_tree.proofs.Bools.{eqb_is}
 use Rattle.elmore_tree.proofs.Rows.{is_on_at, is_on_more, touched_within, across_joins_at, across_is_at}
 use Rattle.elmore_tree.proofs.walk.Walk.spread.Goals as goal
 
@@ -26,7 +27,7 @@ loop-number-preserved c =
       walk = c.in_ok-reach.ensures.walk;
       steps = c.in_ok-reach.ensures.steps ∙ c.loop-number.invariant.steps;
       keeps = λ k h. c.in_ok-reach.ensures.keeps k (c.loop-number.invariant.keeps k h);
-      each = λ j b on joins. elim (or_split _ _ (sym (is_on_more c.args.around.now c.loop-number.number-index j (omega arith)) ∙ on)) [
+      each = λ j b on joins. elim (or_cases _ _ (sym (is_on_more c.args.around.now c.loop-number.number-index j (omega arith)) ∙ on)) [
         | inl earlier ↦ c.in_ok-reach.ensures.keeps b (c.loop-number.invariant.each j b earlier joins)
         | inr last ↦
             let here = rw (← eqb_is _ j last) at joins in
