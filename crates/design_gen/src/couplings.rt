@@ -5,7 +5,7 @@ ghost use Rattle.design_gen.specs.Couples.{Couple, Coupled, with_couple, pair_ne
 ghost use Rattle.design_gen.specs.Laws.{IsCount};
 ghost use Rattle.design_gen.specs.Rows.{HoldCouplings, IsCoupledAt};
 
-use crate::rows::{empty_couplings, push_coupling};
+use crate::rows::{empty_rows, push_item};
 use drawn_numbers::Source;
 use std::alloc::{AllocError, Global};
 use xt_model::{Coupling, NetId};
@@ -29,7 +29,7 @@ fn couple(
     let (one, other) = (first as usize, second as usize);
     if rows[one].len() < MOST_COUPLINGS && rows[other].len() < MOST_COUPLINGS {
         let cap = i64::from(cap);
-        push_coupling(
+        push_item(
             rows,
             one,
             Coupling {
@@ -37,7 +37,7 @@ fn couple(
                 cap,
             },
         )?;
-        push_coupling(
+        push_item(
             rows,
             other,
             Coupling {
@@ -81,7 +81,7 @@ pub(crate) fn draw_couplings(
         HoldCouplings (map (λ r. r.items) rows.items) (coupled nets source.old.state nets).couples) }
     ensures count { IfOk result (λ rows. length rows.items ≡ nets) }
 {
-    let mut rows = empty_couplings(alloc, nets)?;
+    let mut rows = empty_rows(alloc, nets)?;
     for net in 0..nets {
         pair_net(source, &mut rows, nets, net)?;
     }

@@ -6,7 +6,7 @@ ghost use Rattle.design_gen.specs.Lists.{each_below};
 ghost use Rattle.design_gen.specs.Taps.{place_of};
 ghost use Rattle.design_gen.specs.Rows.{HoldPins};
 
-use crate::rows::{empty_pins, push_pin};
+use crate::rows::{empty_rows, push_item};
 use std::alloc::{AllocError, Global};
 
 /// The input pins that are tied to each net, in order, and the place of each pin among those of its driver.
@@ -30,12 +30,12 @@ pub(crate) fn sinks_by_driver(
     ensures places { IfOk result (λ s.
         s.places.items ≡ each_below (place_of (slice_index drivers.now)) (length drivers.now)) }
 {
-    let mut rows = empty_pins(alloc, nets)?;
+    let mut rows = empty_rows(alloc, nets)?;
     let mut places = Vec::new(alloc);
     for pin in 0..drivers.len() {
         let driver = drivers[pin] as usize;
         places.push(rows[driver].len() as u32)?;
-        push_pin(&mut rows, driver, pin as u32)?;
+        push_item(&mut rows, driver, pin as u32)?;
     }
     Ok(Sinks { rows, places })
 }

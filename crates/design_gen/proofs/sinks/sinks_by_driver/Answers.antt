@@ -29,11 +29,11 @@ loop-pin-preserved c =
     let e = place_is (λ r. r.items) c.loop-pin.rows.items (slice_index c.args.drivers.now) c.loop-pin.pin (get_or c.args.drivers.now c.loop-pin.pin 0) c.len.result
     c.index.result.now refl p c.loop-pin.invariant.rows c.index.ensures (omega (arith, c.len.ensures, c.index.result.now.ok.0)) in
     let old = length-map c.loop-pin.rows.items (λ r. r.items) in
-    let new = length-map c.push_pin.new.rows.items (λ r. r.items) in
-    let same = ap (λ xs. length xs) c.in_ok-push_pin.ensures ∙ length-set (map (λ r. r.items) c.loop-pin.rows.items) (get_or c.args.drivers.now c.loop-pin.pin 0) _ in
+    let new = length-map c.push_item.new.rows.items (λ r. r.items) in
+    let same = ap (λ xs. length xs) c.in_ok-push_item.ensures ∙ length-set (map (λ r. r.items) c.loop-pin.rows.items) (get_or c.args.drivers.now c.loop-pin.pin 0) _ in
     record {
-      rows = pin_appended (map (λ r. r.items) c.loop-pin.rows.items) (map (λ r. r.items) c.push_pin.new.rows.items) (slice_index c.args.drivers.now) c.loop-pin.pin
-          (get_or c.args.drivers.now c.loop-pin.pin 0) refl (omega (arith, p, old)) c.loop-pin.invariant.rows c.in_ok-push_pin.ensures;
+      rows = pin_appended (map (λ r. r.items) c.loop-pin.rows.items) (map (λ r. r.items) c.push_item.new.rows.items) (slice_index c.args.drivers.now) c.loop-pin.pin
+          (get_or c.args.drivers.now c.loop-pin.pin 0) refl (omega (arith, p, old)) c.loop-pin.invariant.rows c.in_ok-push_item.ensures;
       count = omega (arith, old, new, same, c.loop-pin.invariant.count);
       places = places_turn (place_of (slice_index c.args.drivers.now)) c.loop-pin.pin c.len.result c.loop-pin.places.items c.push.new.self.items
           c.loop-pin.invariant.places e c.in_ok-push.ensures.items;

@@ -1,6 +1,6 @@
 use Rattle.std.proofs.Common.{◌∙◌, ap, ◌++◌, [], ◌∷◌}
 use Rattle.design_gen.proofs.RowLaws.{pushed}
-use Rattle.design_gen.proofs.rows.push_pin.Goals as goal
+use Rattle.design_gen.proofs.rows.push_item.Goals as goal
 
 pub returns : goal.returns
 returns c =

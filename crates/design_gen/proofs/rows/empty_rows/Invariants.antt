@@ -1,6 +1,6 @@
 use Rattle.std.proofs.Common.{◌≡◌, [], length}
 use Rattle.std.specs.List.{All}
-use Rattle.design_gen.proofs.rows.empty_pins.Given as goal
+use Rattle.design_gen.proofs.rows.empty_rows.Given as goal
 
 abbrev pub invariant-loop-i : goal.invariant-loop-i
 invariant-loop-i l = record {
