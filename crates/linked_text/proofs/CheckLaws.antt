@@ -12,7 +12,8 @@ use Rattle.xt_model.specs.Limits.{most_delay}
 use Rattle.xt_model.specs.Names.{IsName}
 use Rattle.xt_model.specs.Sound.{IsBetween}
 use Rattle.text_lines.specs.Lines.{Line}
-use Rattle.linked_text.specs.Linked.{check_kind, table_field, delay_field, check_line}
+use Rattle.linked_text.specs.Linked.{table_field, delay_field, check_line}
+use Rattle.text_lines.specs.Words.{check_word}
 use Rattle.linked_text.specs.Fields.{nine, between, count, delay, hold_of, or_dash, is_name}
 use Rattle.linked_text.specs.Fits.{IsSmaller}
 use Rattle.linked_text.specs.EachLine.{Around, has_sink, has_table, numbered, holds, flop_in, port_in, check_in}
@@ -25,14 +26,14 @@ use Rattle.linked_text.proofs.LineLaws.{IsPlain, IsLine}
 
 -- ---- the kind
 
-hold_takes : (f : List ℕ) (b : Bool) → hold_of f ≡ Some b → f ≡ check_kind b
+hold_takes : (f : List ℕ) (b : Bool) → hold_of f ≡ Some b → f ≡ check_word b
 hold_takes f b h = two_words f (codes "hold") (codes "setup") b h
 
-hold_again : (b : Bool) → hold_of (check_kind b) ≡ Some b
+hold_again : (b : Bool) → hold_of (check_word b) ≡ Some b
 hold_again true = refl
 hold_again false = refl
 
-clear_hold : (b : Bool) → Clear (check_kind b)
+clear_hold : (b : Bool) → Clear (check_word b)
 clear_hold true = (refl, (refl, (refl, (refl, tt))))
 clear_hold false = (refl, (refl, (refl, (refl, (refl, tt)))))
 
@@ -172,7 +173,7 @@ flop_from around l c a0 a1 a2 a3 a4 a5 a6 a7 a8 k dn ds cn cs r g line word kind
     let rise = table_takes a7 r e7 in
     let fall = table_takes a8 g e8 in
     let whole : l ≡ check_line (Flop a2 k (record { 0 = dn }) ds (record { 0 = cn }) cs r g) =
-    line ∙ same_nine a0 a1 a2 a3 a4 a5 a6 a7 a8 (codes "flop") (check_kind k) a2 (decimal dn) (decimal ds) (decimal cn) (decimal cs) (table_field r) (table_field g)
+    line ∙ same_nine a0 a1 a2 a3 a4 a5 a6 a7 a8 (codes "flop") (check_word k) a2 (decimal dn) (decimal ds) (decimal cn) (decimal cs) (table_field r) (table_field g)
     word (hold_takes a1 k kind) refl datum.0 datum_sink.0 clock.0 clock_sink.0 rise.0 fall.0 in
     let fits : FitsFlop around a2 dn ds cn cs r g = record { period = t.0; name = name_sound a2 u.0; datum = u.1; clock = t2; rise = v.0; fall = v.1; datum32 = datum.1; datum_sink32 = datum_sink.1; clock32 = clock.1; clock_sink32 = clock_sink.1; rise32 = rise.1; fall32 = fall.1 } in
     subst (λ (y : CheckPoint). (l ≡ check_line y) × FitsCheck around y) made (whole, fits)
@@ -227,7 +228,7 @@ port_takes around l c e =
     let rise = delay_takes f.0.5 r.0 (numbered_ok r.1) in
     let fall = delay_takes f.0.6 g.0 (numbered_ok g.1) in
     let made : CheckPoint = Port f.0.2 k.0 (record { 0 = n.0 }) s.0 r.0 g.0 in
-    let line : l ≡ check_line made = seven_is l f.0 (worded_ok f.1) ∙ same_seven f.0.0 f.0.1 f.0.2 f.0.3 f.0.4 f.0.5 f.0.6 (codes "port") (check_kind k.0) f.0.2 (decimal n.0) (decimal s.0) (delay_field r.0) (delay_field g.0)
+    let line : l ≡ check_line made = seven_is l f.0 (worded_ok f.1) ∙ same_seven f.0.0 f.0.1 f.0.2 f.0.3 f.0.4 f.0.5 f.0.6 (codes "port") (check_word k.0) f.0.2 (decimal n.0) (decimal s.0) (delay_field r.0) (delay_field g.0)
     (is_word _ _ (word_ok w.1)) (hold_takes f.0.1 k.0 (worded_ok k.1)) refl net.0 sink.0 rise.0 fall.0 in
     let fits : FitsPort around f.0.2 n.0 s.0 r.0 g.0 = record { period = t.0; name = name_sound f.0.2 u.0; there = u.1; net32 = net.1; sink32 = sink.1; rise = rise.1; fall = fall.1 } in
     subst (λ (y : CheckPoint). (l ≡ check_line y) × FitsCheck around y) (ok_is made c h.2) (line, fits)

@@ -19,7 +19,8 @@ use Rattle.xt_model.specs.Quads.{bottom, is_live}
 use Rattle.xt_model.specs.Limits.{most_cap, most_product, most_slew, most_time}
 use Rattle.xt_model.specs.Sound.{IsTime, IsSlew, IsCap, IsProduct, IsConstraint, IsGiven}
 use Rattle.name_numbers.specs.Names.{has_name}
-use Rattle.text_lines.specs.Lines.{Line, edge_word}
+use Rattle.text_lines.specs.Lines.{Line}
+use Rattle.text_lines.specs.Words.{edge_word}
 use Rattle.linked_text.specs.declared.head.NetHead.{NetHead}
 use Rattle.linked_text.specs.Linked.{kind_field, given_line, coupling_line, sink_line, arc_line}
 use Rattle.linked_text.specs.Fields.{two, cap, product, time, slew, is_name}

@@ -9,7 +9,8 @@ use Rattle.std.proofs.lemmas.Int.{ints}
 use Rattle.xt_model.specs.declared.edge.Edge.{Edge}
 use Rattle.xt_model.specs.declared.edge.Edge.TheVariants.{Rise, Fall}
 use Rattle.xt_model.specs.Names.{IsName}
-use Rattle.text_lines.specs.Lines.{Line, edge_word}
+use Rattle.text_lines.specs.Lines.{Line}
+use Rattle.text_lines.specs.Words.{edge_word}
 use Rattle.linked_text.specs.Fits.{IsSmaller}
 use Rattle.linked_text.specs.Fields.{between, count, size, each, edge_of, kind_of}
 use Rattle.linked_text.specs.Linked.{kind_field}

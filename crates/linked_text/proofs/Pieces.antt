@@ -15,19 +15,12 @@ use Rattle.xt_model.specs.declared.check.CheckPoint.{CheckPoint}
 use Rattle.xt_model.specs.Quads.{is_live}
 use Rattle.xt_model.specs.Miller.{MillerNumbers}
 use Rattle.xt_model.specs.Parts.{Parts}
-use Rattle.text_lines.specs.Lines.{Line, line_text, text_of, edge_word}
-use Rattle.linked_text.specs.Linked.{head_line, counts_line, period_line, is_classical, miller_lines, numbers_line, row_lines, table_lines, net_line, given_line, given_lines, coupling_line, sink_line, arc_line, net_lines, check_line, linked}
-use Rattle.linked_text.specs.Writing.{field, spaced}
-
--- a field was appended, and then more
-pub field_then : (o p q a b more : List ℕ) (m : ℕ) → a ≡ b → p ≡ o ++ field a m → q ≡ p ++ more → q ≡ o ++ (b ++ m ∷ more)
-unfolding field
-field_then o p q a b more m w e f = rw (f, e, w) (simp append_assoc)
-
--- the last field was appended
-pub field_last : (o p a b : List ℕ) (m : ℕ) → a ≡ b → p ≡ o ++ field a m → p ≡ o ++ (b ++ m ∷ [])
-unfolding field
-field_last o p a b m w e = rw (e, w) refl
+use Rattle.text_lines.specs.Lines.{Line, line_text, text_of}
+use Rattle.text_lines.specs.Words.{edge_word}
+use Rattle.linked_text.specs.Linked.{head_line, counts_line, period_line, numbers_line, row_lines, table_lines, net_line, given_line, given_lines, coupling_line, sink_line, arc_line, net_lines, check_line, linked}
+use Rattle.text_lines.specs.Miller.{miller_lines}
+use Rattle.linked_text.specs.Writing.{spaced}
+use Rattle.text_lines.specs.Fields.{field}
 
 -- ---- numbers behind a field
 
@@ -101,10 +94,6 @@ body_pieces n couplings sinks arcs o p q r s w1 w2 w3 e1 e2 e3 e4 =
     flat_map-append line_text gs (ks ++ (ss ++ bs)) ∙ rw (flat_map-append line_text ks (ss ++ bs), flat_map-append line_text ss bs, lines_each coupling_line n.couplings, lines_each sink_line n.sinks, lines_each arc_line n.arcs) refl in
     let regroup : (((o ++ text_of gs) ++ flat_map (λ k. line_text (coupling_line k)) n.couplings) ++ flat_map (λ k. line_text (sink_line k)) n.sinks) ++ flat_map (λ a. line_text (arc_line a)) n.arcs ≡ o ++ (text_of gs ++ (flat_map (λ k. line_text (coupling_line k)) n.couplings ++ (flat_map (λ k. line_text (sink_line k)) n.sinks ++ flat_map (λ a. line_text (arc_line a)) n.arcs))) = simp append_assoc in
     rw (e4, e3, e2, e1, w1, w2, w3) (regroup ∙ ap (λ (t : List ℕ). o ++ t) (sym text))
-
--- the line of Miller numbers
-pub miller_line : (m : MillerNumbers) → is_classical m ≡ false → text_of (miller_lines m) ≡ codes "miller" ++ 32 ∷ (decimal m.low ++ 32 ∷ (decimal m.mid ++ 32 ∷ (decimal m.high ++ 10 ∷ [])))
-miller_line m other = rw other (simp append_assoc)
 
 -- all of it
 pub whole_pieces : (d : Parts) (m : MillerNumbers) (tables : List Table) (heads nets : List Net) (checks : List CheckPoint) (o p q r s t u v w x : List ℕ)

@@ -21,7 +21,8 @@ use Rattle.linked_text.specs.declared.head.Counts.{Counts}
 use Rattle.linked_text.specs.declared.head.NetHead.{NetHead}
 use Rattle.linked_text.specs.declared.fault.Fault.{Fault}
 use Rattle.linked_text.specs.declared.fault.Fault.TheVariants as faults
-use Rattle.linked_text.specs.Linked.{is_classical, miller_lines, table_lines, net_line, net_lines, check_line, linked}
+use Rattle.linked_text.specs.Linked.{is_classical, table_lines, net_line, net_lines, check_line, linked}
+use Rattle.text_lines.specs.Miller.{miller_lines}
 use Rattle.linked_text.specs.EachLine.{version_in, counts_in, period_in, miller_in, check_in, end_in}
 use Rattle.linked_text.specs.Meaning.{Read, line_at, many_at, refuse, counts_at, miller_at, table_at, heads_at, nets_at, checks_at, no_sums, parts_at, end_at, closed_by, Ends, Comes, Means}
 use Rattle.linked_text.specs.Answers.{IsTextOf}

@@ -18,7 +18,8 @@ use Rattle.xt_model.specs.declared.check.CheckPoint.TheVariants.{Flop, Port}
 use Rattle.xt_model.specs.Quads.{bottom, is_live}
 use Rattle.xt_model.specs.Miller.{MillerNumbers}
 use Rattle.name_numbers.specs.Names.{has_name}
-use Rattle.text_lines.specs.Lines.{Line, edge_word}
+use Rattle.text_lines.specs.Lines.{Line}
+use Rattle.text_lines.specs.Words.{edge_word}
 use Rattle.linked_text.specs.declared.head.NetHead.{NetHead}
 use Rattle.linked_text.specs.declared.head.Counts.{Counts}
 use Rattle.linked_text.specs.Linked.{is_classical}

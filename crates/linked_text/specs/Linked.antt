@@ -17,7 +17,9 @@ use Rattle.xt_model.specs.Quads.{is_live}
 use Rattle.xt_model.specs.Miller.{MillerNumbers}
 pub use Rattle.xt_model.specs.Miller.{is_classical}
 use Rattle.xt_model.specs.Parts.{Parts}
-use Rattle.text_lines.specs.Lines.{Line, edge_word}
+use Rattle.text_lines.specs.Lines.{Line}
+use Rattle.text_lines.specs.Words.{edge_word, check_word}
+use Rattle.text_lines.specs.Miller.{miller_lines}
 
 -- version 1 has the classical Miller numbers, version 2 all others
 abbrev pub version_word : Bool → List ℕ
@@ -37,11 +39,6 @@ period_field (Some t) = signed_decimal t
 
 abbrev pub period_line : Parts → Line
 period_line d = codes "period" ∷ period_field d.period ∷ []
-
--- the Miller numbers in quarters; version 1 has no such line
-abbrev pub miller_lines : MillerNumbers → List Line
-miller_lines m =
-    if is_classical m then [] else (codes "miller" ∷ decimal m.low ∷ decimal m.mid ∷ decimal m.high ∷ []) ∷ []
 
 -- a word and then numbers
 abbrev pub numbers_line : List ℕ → List ℤ → Line
@@ -96,9 +93,6 @@ arc_line a =
 abbrev pub net_lines : Net → List Line
 net_lines n = given_lines n n.arcs ++ (map coupling_line n.couplings ++ (map sink_line n.sinks ++ map arc_line n.arcs))
 
-abbrev pub check_kind : Bool → List ℕ
-check_kind hold = if hold then codes "hold" else codes "setup"
-
 abbrev pub table_field : Option ℕ → List ℕ
 table_field None = codes "-"
 table_field (Some t) = decimal t
@@ -109,10 +103,10 @@ delay_field (Some t) = signed_decimal t
 
 abbrev pub check_line : CheckPoint → Line
 check_line (Flop name hold datum datum_sink clock clock_sink rise fall) =
-    codes "flop" ∷ check_kind hold ∷ name ∷ decimal datum.0 ∷ decimal datum_sink
+    codes "flop" ∷ check_word hold ∷ name ∷ decimal datum.0 ∷ decimal datum_sink
     ∷ decimal clock.0 ∷ decimal clock_sink ∷ table_field rise ∷ table_field fall ∷ []
 check_line (Port name hold net sink rise fall) =
-    codes "port" ∷ check_kind hold ∷ name ∷ decimal net.0 ∷ decimal sink ∷ delay_field rise ∷ delay_field fall ∷ []
+    codes "port" ∷ check_word hold ∷ name ∷ decimal net.0 ∷ decimal sink ∷ delay_field rise ∷ delay_field fall ∷ []
 
 -- the lines of a design: its counts, its period, its Miller numbers, its tables, the heads of its nets, their
 -- bodies, its checks

@@ -1,10 +1,6 @@
 -- The pieces in which a linked text is written.
-use Rattle.std.specs.Prelude.{ℕ, List, [], ◌∷◌, ◌++◌, ℤ}
+use Rattle.std.specs.Prelude.{ℕ, List, ◌∷◌, ℤ}
 use Rattle.std.specs.Fmt.{signed_decimal}
-
--- a field and the byte behind it
-unfoldable pub field : List ℕ → ℕ → List ℕ
-field bytes mark = bytes ++ mark ∷ []
 
 -- a number behind a space
 abbrev pub spaced : ℤ → List ℕ

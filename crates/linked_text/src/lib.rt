@@ -17,11 +17,11 @@ mod parts;
 mod read_line;
 mod table_lines;
 mod tables;
-mod text;
 mod write;
 mod write_check;
 mod write_net;
 mod write_table;
+mod writer;
 
 pub use design::{has_numbered_lines, read_linked};
 pub use fault::{Fault, LineStop, LinkedFault, Stop};

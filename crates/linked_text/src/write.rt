@@ -2,17 +2,18 @@
 
 ghost use Rattle.std.specs.Prelude.{◌≡◌, ◌++◌, OnOk, IfOk};
 ghost use Rattle.text_lines.specs.Lines.{line_text, text_of};
-ghost use Rattle.linked_text.specs.Linked.{head_line, counts_line, period_line, linked, miller_lines};
+ghost use Rattle.linked_text.specs.Linked.{head_line, counts_line, period_line, linked};
 
-use crate::text::{push_number, push_word, write_each};
 use crate::write_check::CheckWriter;
 use crate::write_net::{BodyWriter, HeadWriter};
 use crate::write_table::TableWriter;
+use crate::writer::write_each;
 use std::alloc::{AllocError, Global};
+use text_lines::{push_miller, push_number, push_word};
 use xt_model::{Design, Miller, NoMemory};
 
 /// Appends the name and the version of the format.
-#[tactic(auto, unfolding(crate::specs::Writing::field))]
+#[tactic(auto, unfolding(text_lines::specs::Fields::field))]
 fn push_head(out: &mut Vec<u8>, miller: &Miller) -> Result<(), AllocError>
     ensures { OnOk result (out.new.items ≡ out.old.items ++ line_text (head_line miller.now)) }
 {
@@ -35,7 +36,7 @@ fn push_counts(out: &mut Vec<u8>, design: &Design) -> Result<(), AllocError>
 }
 
 /// Appends the line of the clock period.
-#[tactic(auto, unfolding(crate::specs::Writing::field))]
+#[tactic(auto, unfolding(text_lines::specs::Fields::field))]
 fn push_period(out: &mut Vec<u8>, design: &Design) -> Result<(), AllocError>
     ensures { OnOk result (out.new.items ≡ out.old.items ++ line_text (period_line design.now)) }
 {
@@ -44,20 +45,6 @@ fn push_period(out: &mut Vec<u8>, design: &Design) -> Result<(), AllocError>
         None => push_word(out, b"none", b'\n'),
         Some(time) => push_number(out, time, b'\n'),
     }
-}
-
-/// Appends the line of the Miller numbers, which the classical ones do not have.
-fn push_miller(out: &mut Vec<u8>, miller: &Miller) -> Result<(), AllocError>
-    ensures { OnOk result (out.new.items ≡ out.old.items ++ text_of (miller_lines miller.now)) }
-{
-    if miller.is_classical() {
-        return Ok(());
-    }
-    push_word(out, b"miller", b' ')?;
-    push_number(out, miller.low(), b' ')?;
-    push_number(out, miller.mid(), b' ')?;
-    push_number(out, miller.high(), b'\n')?;
-    Ok(())
 }
 
 /// Appends all lines.

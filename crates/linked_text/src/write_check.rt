@@ -2,19 +2,13 @@
 
 ghost use Rattle.std.specs.Prelude.{◌≡◌, ◌++◌, Bool, OnOk, List, ℕ};
 ghost use Rattle.text_lines.specs.Lines.{line_text};
-ghost use Rattle.linked_text.specs.Linked.{check_kind, check_line, delay_field, table_field};
-ghost use Rattle.linked_text.specs.Writing.{field};
+ghost use Rattle.linked_text.specs.Linked.{check_line, delay_field, table_field};
+ghost use Rattle.text_lines.specs.Fields.{field};
 
-use crate::text::{Writer, push_number, push_word};
+use crate::writer::Writer;
 use std::alloc::AllocError;
+use text_lines::{check_word, push_number, push_word};
 use xt_model::CheckPoint;
-
-/// The word for a kind of check.
-fn kind_word(hold: bool) -> &'static [u8]
-    ensures { result.now ≡ check_kind hold }
-{
-    if hold { b"hold" } else { b"setup" }
-}
 
 /// Appends the number of a table, or that there is none.
 fn push_table(out: &mut Vec<u8>, table: Option<u32>, mark: u8) -> Result<(), AllocError>
@@ -57,7 +51,7 @@ impl Writer for CheckWriter {
                 fall,
             } => {
                 push_word(out, b"flop", b' ')?;
-                push_word(out, kind_word(*hold), b' ')?;
+                push_word(out, check_word(*hold), b' ')?;
                 push_word(out, name.bytes(), b' ')?;
                 push_number(out, datum.0, b' ')?;
                 push_number(out, *datum_sink, b' ')?;
@@ -76,7 +70,7 @@ impl Writer for CheckWriter {
                 fall,
             } => {
                 push_word(out, b"port", b' ')?;
-                push_word(out, kind_word(*hold), b' ')?;
+                push_word(out, check_word(*hold), b' ')?;
                 push_word(out, name.bytes(), b' ')?;
                 push_number(out, net.0, b' ')?;
                 push_number(out, *sink, b' ')?;

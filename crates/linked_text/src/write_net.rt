@@ -6,9 +6,9 @@ ghost use Rattle.linked_text.specs.Linked.{net_line, given_line, given_lines, co
 ghost use Rattle.linked_text.specs.Linked.{kind_field, net_lines};
 ghost use Rattle.linked_text.specs.Writing.{spaced};
 
-use crate::text::{Writer, push_bare_number, push_number, push_word, write_each};
+use crate::writer::{Writer, write_each};
 use std::alloc::AllocError;
-use text_lines::edge_word;
+use text_lines::{edge_word, push_bare_number, push_number, push_word};
 use xt_model::{Coupling, Edge, Net, Quad, SinkPin, TimingArc};
 
 /// The word for a kind of net.

@@ -6,8 +6,9 @@ ghost use Rattle.text_lines.specs.Lines.{line_text, text_of};
 ghost use Rattle.linked_text.specs.Linked.{numbers_line, row_lines, table_lines};
 ghost use Rattle.linked_text.specs.Writing.{spaced};
 
-use crate::text::{Writer, push_bare_number, push_number, push_word, write_each};
+use crate::writer::{Writer, write_each};
 use std::alloc::AllocError;
+use text_lines::{push_bare_number, push_number, push_word};
 use xt_model::Table;
 
 /// Writes numbers, each behind a space.

@@ -1,7 +1,6 @@
 -- The pieces of a report make up its text.
 use Rattle.std.proofs.Common.{◌≡◌, ℕ, ◌+◌, ◌<◌, Bool, true, false, List, [], ◌∷◌, ◌++◌, length, drop, get_or, map, codes, refl, append_assoc, Some}
 use Rattle.std.specs.Prelude.{if◌then◌else◌}
-use Rattle.std.specs.Fmt.{decimal}
 use Rattle.std.specs.List.{slice_get}
 use Rattle.std.proofs.lemmas.Grind.{flat_map-append}
 use Rattle.std.proofs.lemmas.Option.{slice_get-get_or}
@@ -10,14 +9,15 @@ use Rattle.xt_model.specs.declared.quad.Quad.{Quad}
 use Rattle.xt_model.specs.declared.quad.Pair.{Pair}
 use Rattle.xt_model.specs.declared.net.Net.{Net}
 use Rattle.xt_model.specs.Quads.{is_live}
-use Rattle.xt_model.specs.Miller.{MillerNumbers, is_classical}
 use Rattle.xt_model.specs.Parts.{Parts}
-use Rattle.text_lines.specs.Lines.{Line, line_text, text_of, edge_word}
+use Rattle.text_lines.specs.Lines.{Line, line_text, text_of}
+use Rattle.text_lines.specs.Words.{edge_word}
 use Rattle.aggressor_report.specs.declared.guilt.Guilt.{Guilt}
 use Rattle.aggressor_report.proofs.Turns.{turn}
-use Rattle.report_text.specs.Report.{window_line, window_lines, is_unconstrained, unconstrained_lines, guilty_line, miller_lines}
+use Rattle.report_text.specs.Report.{window_line, window_lines, is_unconstrained, unconstrained_lines, guilty_line}
 use Rattle.report_text.specs.Names.{name_or_nothing}
-use Rattle.report_text.specs.Fields.{field, quad_text}
+use Rattle.report_text.specs.Fields.{quad_text}
+use Rattle.text_lines.specs.Fields.{field}
 use Rattle.report_text.specs.Pieces.{windows_text, unconstrained_text}
 
 -- the bytes of a net that is there are its name
@@ -52,10 +52,6 @@ pub entries_turn : (d : Parts) (entries : List Guilt) (i : ℕ) (x : Guilt) (o p
     → o ++ text_of (map (guilty_line d) (drop i entries)) ≡ whole → p ++ text_of (map (guilty_line d) (drop (i + 1) entries)) ≡ whole
 entries_turn d entries i x o p whole within appended h =
     turn (λ _ gs. text_of (map (guilty_line d) gs)) (λ _ g. line_text (guilty_line d g)) (entries_next d) entries i (get_or entries i x) o p whole (slice_get-get_or entries i x within) appended h
-
--- the line of Miller numbers that are not the classical ones
-pub miller_line : (m : MillerNumbers) → is_classical m ≡ false → text_of (miller_lines m) ≡ codes "miller" ++ 32 ∷ (decimal m.low ++ 32 ∷ (decimal m.mid ++ 32 ∷ (decimal m.high ++ 10 ∷ [])))
-miller_line m other = rw other (simp append_assoc)
 
 -- all lines, piece by piece
 pub report_pieces : (o p q r m s t u c v : List ℕ) (title size clock : Line) (miller windows unconstrained guilty checked : List Line)

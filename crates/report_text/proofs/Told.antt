@@ -16,7 +16,8 @@ use Rattle.xt_model.specs.Parts.{Parts}
 use Rattle.xt_model.specs.Sound.{HasSink, IsSound, IsSoundCheck}
 use Rattle.xt_model.specs.Assign.{Assignment}
 use Rattle.xt_number.specs.Thousandths.{thousandths}
-use Rattle.text_lines.specs.Lines.{Line, line_text, text_of, edge_word}
+use Rattle.text_lines.specs.Lines.{Line, line_text, text_of}
+use Rattle.text_lines.specs.Words.{edge_word, check_word}
 use Rattle.sink_windows.specs.declared.sink.SinkWindow.{SinkWindow}
 use Rattle.sink_windows.specs.Sinks.{wire_in, with_wire, sink_window}
 use Rattle.slack_report.specs.declared.slack.Slack.{Slack}
@@ -27,7 +28,7 @@ use Rattle.aggressor_report.specs.declared.path.PathStep.{PathStep}
 use Rattle.aggressor_report.specs.Passages.{end_of}
 use Rattle.aggressor_report.specs.Paths.{IsPath, Lead}
 use Rattle.report_text.specs.declared.worst.WorstPath.{WorstPath}
-use Rattle.report_text.specs.Checks.{kind_word, slack_line, check_line}
+use Rattle.report_text.specs.Checks.{slack_line, check_line}
 use Rattle.report_text.specs.Paths.{worst_line, IsOfDesign}
 use Rattle.report_text.specs.Worst.{IsWorstOf, IsWorstPath}
 
@@ -42,19 +43,19 @@ check_sound d read n x s same within is = subst (IsSoundCheck d) (sym (rw same a
 -- ---- lines
 
 pub idle_told : (name : List ℕ) (hold : Bool) (s : Slack) → s.idle ≡ true
-    → line_text (slack_line name hold s) ≡ codes "check" ++ 32 ∷ (name ++ 32 ∷ (edge_word s.edge ++ 32 ∷ (kind_word hold ++ 32 ∷ (codes "idle" ++ 10 ∷ []))))
+    → line_text (slack_line name hold s) ≡ codes "check" ++ 32 ∷ (name ++ 32 ∷ (edge_word s.edge ++ 32 ∷ (check_word hold ++ 32 ∷ (codes "idle" ++ 10 ∷ []))))
 idle_told name hold s idle = rw idle refl
 
 pub slacks_told : (name : List ℕ) (hold : Bool) (s : Slack) → s.idle ≡ false
     → line_text (slack_line name hold s)
-    ≡ codes "check" ++ 32 ∷ (name ++ 32 ∷ (edge_word s.edge ++ 32 ∷ (kind_word hold ++ 32 ∷ (thousandths s.greatest ++ 32 ∷ (thousandths s.least ++ 10 ∷ [])))))
+    ≡ codes "check" ++ 32 ∷ (name ++ 32 ∷ (edge_word s.edge ++ 32 ∷ (check_word hold ++ 32 ∷ (thousandths s.greatest ++ 32 ∷ (thousandths s.least ++ 10 ∷ [])))))
 slacks_told name hold s active = rw active refl
 
 pub check_told : (d : Parts) (s : Slack) (p : CheckPoint) (name : List ℕ) (hold : Bool) → slice_get d.checks s.point ≡ Some p → name ≡ point_name p → hold ≡ is_hold p → slack_line name hold s ≡ check_line d s
 check_told d s p name hold there e f = rw (there, e, f) refl
 
 pub worst_told : (d : Parts) (s : Slack) (p : CheckPoint) → slice_get d.checks s.point ≡ Some p
-    → line_text (worst_line d s) ≡ codes "path" ++ 32 ∷ (kind_word (is_hold p) ++ 32 ∷ (point_name p ++ 32 ∷ (edge_word s.edge ++ 32 ∷ (thousandths s.greatest ++ 10 ∷ []))))
+    → line_text (worst_line d s) ≡ codes "path" ++ 32 ∷ (check_word (is_hold p) ++ 32 ∷ (point_name p ++ 32 ∷ (edge_word s.edge ++ 32 ∷ (thousandths s.greatest ++ 10 ∷ []))))
 worst_told d s p there = rw there refl
 
 -- ---- the wire to a check

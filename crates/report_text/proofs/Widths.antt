@@ -13,7 +13,7 @@ use Rattle.report_text.specs.Summary.{windows_of, edge_windows, can_switch, tota
 use Rattle.report_text.specs.Pieces.{switching}
 use Rattle.text_lines.specs.Lines.{Line, line_text, text_of}
 use Rattle.xt_number.specs.Thousandths.{thousandths}
-use Rattle.report_text.specs.Fields.{field}
+use Rattle.text_lines.specs.Fields.{field}
 use Rattle.aggressor_report.proofs.Turns.{turn, turns_end, some_within}
 use Rattle.aggressor_report.proofs.Turns.{picked_next}
 

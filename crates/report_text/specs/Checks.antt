@@ -3,19 +3,17 @@ use Rattle.std.specs.Prelude.{ℕ, Bool, if◌then◌else◌, List, [], ◌∷�
 use Rattle.std.specs.List.{slice_get}
 use Rattle.xt_model.specs.declared.check.CheckPoint.{CheckPoint}
 use Rattle.xt_model.specs.Parts.{Parts}
-use Rattle.text_lines.specs.Lines.{Line, edge_word}
+use Rattle.text_lines.specs.Lines.{Line}
+use Rattle.text_lines.specs.Words.{edge_word, check_word}
 use Rattle.xt_number.specs.Thousandths.{thousandths}
 use Rattle.slack_report.specs.declared.slack.Slack.{Slack}
 use Rattle.slack_report.specs.Points.{is_hold, point_name}
 
-abbrev pub kind_word : Bool → List ℕ
-kind_word hold = if hold then codes "hold" else codes "setup"
-
 -- a check of the point of this name: its slack in the greatest windows and in the least, or that it is idle
 abbrev pub slack_line : List ℕ → Bool → Slack → Line
 slack_line name hold s =
-    if s.idle then codes "check" ∷ name ∷ edge_word s.edge ∷ kind_word hold ∷ codes "idle" ∷ []
-    else codes "check" ∷ name ∷ edge_word s.edge ∷ kind_word hold ∷ thousandths s.greatest ∷ thousandths s.least ∷ []
+    if s.idle then codes "check" ∷ name ∷ edge_word s.edge ∷ check_word hold ∷ codes "idle" ∷ []
+    else codes "check" ∷ name ∷ edge_word s.edge ∷ check_word hold ∷ thousandths s.greatest ∷ thousandths s.least ∷ []
 
 abbrev pub point_line : Slack → Option CheckPoint → Line
 point_line s None = []

@@ -1,11 +1,8 @@
 -- The fields of a line.
-use Rattle.std.specs.Prelude.{ℕ, List, [], ◌∷◌, ◌++◌}
+use Rattle.std.specs.Prelude.{ℕ, List, ◌∷◌, ◌++◌}
 use Rattle.xt_model.specs.declared.quad.Quad.{Quad}
+use Rattle.text_lines.specs.Fields.{field}
 use Rattle.xt_number.specs.Thousandths.{thousandths}
-
--- a field and the byte behind it
-unfoldable pub field : List ℕ → ℕ → List ℕ
-field bytes mark = bytes ++ mark ∷ []
 
 -- the four bounds of a window as fields, with the byte behind the last
 abbrev pub quad_text : Quad → ℕ → List ℕ

@@ -4,7 +4,8 @@ use Rattle.std.specs.Prelude.{IfSome}
 use Rattle.std.specs.List.{All, slice_get}
 use Rattle.xt_model.specs.declared.check.CheckPoint.{CheckPoint}
 use Rattle.xt_model.specs.Parts.{Parts}
-use Rattle.text_lines.specs.Lines.{Line, edge_word}
+use Rattle.text_lines.specs.Lines.{Line}
+use Rattle.text_lines.specs.Words.{edge_word, check_word}
 use Rattle.xt_number.specs.Thousandths.{thousandths}
 use Rattle.slack_report.specs.declared.slack.Slack.{Slack}
 use Rattle.slack_report.specs.Points.{is_hold, point_name}
@@ -12,13 +13,12 @@ use Rattle.aggressor_report.specs.declared.path.Path.{Path}
 use Rattle.aggressor_report.specs.declared.path.PathStep.{PathStep}
 use Rattle.report_text.specs.declared.worst.WorstPath.{WorstPath}
 use Rattle.report_text.specs.declared.checked.Checked.{Checked}
-use Rattle.report_text.specs.Checks.{kind_word}
 use Rattle.report_text.specs.Names.{name_at}
 
 abbrev pub worst_point_line : Slack → Option CheckPoint → Line
 worst_point_line s None = []
 worst_point_line s (Some p) =
-    codes "path" ∷ kind_word (is_hold p) ∷ point_name p ∷ edge_word s.edge ∷ thousandths s.greatest ∷ []
+    codes "path" ∷ check_word (is_hold p) ∷ point_name p ∷ edge_word s.edge ∷ thousandths s.greatest ∷ []
 
 -- which check it is, with its slack
 abbrev pub worst_line : Parts → Slack → Line

@@ -10,12 +10,13 @@ use Rattle.xt_model.specs.declared.quad.Pair.{Pair}
 use Rattle.xt_model.specs.declared.net.Coupling.{Coupling}
 use Rattle.xt_model.specs.declared.net.Net.{Net}
 use Rattle.xt_model.specs.Quads.{is_live}
-use Rattle.xt_model.specs.Miller.{MillerNumbers, is_classical}
 use Rattle.xt_model.specs.Parts.{Parts}
 use Rattle.xt_model.specs.Levels.{IsDepth, IsPairCount, bound_of}
 use Rattle.xt_model.specs.Assign.{assigned}
 use Rattle.xt_meaning.specs.Fixpoint.{IsLeastFixpoint, IsGreatestFixpoint}
-use Rattle.text_lines.specs.Lines.{Line, text_of, edge_word}
+use Rattle.text_lines.specs.Lines.{Line, text_of}
+use Rattle.text_lines.specs.Words.{edge_word}
+use Rattle.text_lines.specs.Miller.{miller_lines}
 use Rattle.xt_number.specs.Thousandths.{thousandths}
 use Rattle.aggressor_report.specs.declared.mark.Mark.{Mark}
 use Rattle.aggressor_report.specs.declared.mark.Mark.TheVariants.{No, Possible, Sure}
@@ -44,11 +45,6 @@ period_word (Some t) = thousandths t
 
 abbrev pub clock_line : Parts → Line
 clock_line d = codes "period" ∷ period_word d.period ∷ []
-
--- the Miller numbers in quarters; the classical ones have no line
-abbrev pub miller_lines : MillerNumbers → List Line
-miller_lines m =
-    if is_classical m then [] else (codes "miller" ∷ decimal m.low ∷ decimal m.mid ∷ decimal m.high ∷ []) ∷ []
 
 abbrev pub quad_fields : Quad → Line
 quad_fields q = thousandths q.tlo ∷ thousandths q.thi ∷ thousandths q.slo ∷ thousandths q.shi ∷ []

@@ -3,31 +3,24 @@
 ghost use Rattle.std.specs.Prelude.{◌≡◌, ◌++◌, ◌<◌, length, OnOk};
 ghost use Rattle.std.specs.List.{All};
 ghost use Rattle.text_lines.specs.Lines.{line_text, text_of};
-ghost use Rattle.report_text.specs.Checks.{check_line, check_lines, kind_word, slack_line};
+ghost use Rattle.report_text.specs.Checks.{check_line, check_lines, slack_line};
 
-use crate::fields::{push_time, push_word};
+use crate::fields::push_time;
 use crate::points::point_of;
 use slack_report::{Slack, is_hold, point_name};
 use std::alloc::AllocError;
-use text_lines::edge_word;
+use text_lines::{check_word, edge_word, push_word};
 use xt_model::Design;
 
-/// The word for a kind of check.
-pub fn kind_word(hold: bool) -> &'static [u8]
-    ensures { result.now ≡ kind_word hold }
-{
-    if hold { b"hold" } else { b"setup" }
-}
-
 /// Appends the line of a check of the point of this name.
-#[tactic(auto, unfolding(crate::specs::Fields::field))]
+#[tactic(auto, unfolding(text_lines::specs::Fields::field))]
 fn push_slack(out: &mut Vec<u8>, name: &[u8], hold: bool, slack: &Slack) -> Result<(), AllocError>
     ensures { OnOk result (out.new.items ≡ out.old.items ++ line_text (slack_line name.now hold slack.now)) }
 {
     push_word(out, b"check", b' ')?;
     push_word(out, name, b' ')?;
     push_word(out, edge_word(slack.edge), b' ')?;
-    push_word(out, kind_word(hold), b' ')?;
+    push_word(out, check_word(hold), b' ')?;
     if slack.idle {
         push_word(out, b"idle", b'\n')?;
         return Ok(());

@@ -1,31 +1,14 @@
-//! The fields of a line: each is followed by a space, or by the newline that ends the line.
+//! Times, capacitances and windows as fields of a line.
 
 ghost use Rattle.std.specs.Prelude.{◌≡◌, ◌++◌, OnOk};
 ghost use Rattle.xt_number.specs.Thousandths.{thousandths};
-ghost use Rattle.report_text.specs.Fields.{field, quad_text};
+ghost use Rattle.report_text.specs.Fields.{quad_text};
+ghost use Rattle.text_lines.specs.Fields.{field};
 
-use itoa::{Buffer, Integer};
 use std::alloc::AllocError;
+use text_lines::push_word;
 use xt_model::Quad;
 use xt_number::{cap_text, time_text};
-
-/// Appends a word and the byte behind it.
-#[tactic(auto, unfolding(crate::specs::Fields::field))]
-pub fn push_word(out: &mut Vec<u8>, word: &[u8], mark: u8) -> Result<(), AllocError>
-    ensures { OnOk result (out.new.items ≡ out.old.items ++ field word.now mark) }
-{
-    out.extend_from_slice(word)?;
-    out.push(mark)?;
-    Ok(())
-}
-
-/// Appends a whole number and the byte behind it.
-pub fn push_number<I: Integer>(out: &mut Vec<u8>, number: I, mark: u8) -> Result<(), AllocError>
-    ensures { OnOk result (out.new.items ≡ out.old.items ++ field (I.text number) mark) }
-{
-    let mut buffer = Buffer::new();
-    push_word(out, buffer.format(number).as_bytes(), mark)
-}
 
 /// Appends a time, given in fs, in ps, and the byte behind it.
 pub fn push_time(out: &mut Vec<u8>, time: i64, mark: u8) -> Result<(), AllocError>

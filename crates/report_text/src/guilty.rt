@@ -6,10 +6,10 @@ ghost use Rattle.text_lines.specs.Lines.{line_text, text_of};
 ghost use Rattle.aggressor_report.specs.Guilt.{coupling_of, guilty};
 ghost use Rattle.report_text.specs.Report.{guilty_line, mark_word};
 
-use crate::fields::{push_cap, push_word};
+use crate::fields::push_cap;
 use aggressor_report::{Guilt, Mark, guilty};
 use std::alloc::{AllocError, Global};
-use text_lines::edge_word;
+use text_lines::{edge_word, push_word};
 use xt_model::{Coupling, Design, NoMemory, Windows};
 
 /// The word of a mark.

@@ -6,14 +6,13 @@ ghost use Rattle.text_lines.specs.Lines.{line_text, text_of};
 ghost use Rattle.report_text.specs.Paths.{IsOfDesign, end_line, path_lines, source_line, step_line, worst_line};
 ghost use Rattle.report_text.specs.Paths.{worst_lines};
 
-use crate::checks::kind_word;
-use crate::fields::{push_time, push_word};
+use crate::fields::push_time;
 use crate::points::point_of;
 use crate::worst::WorstPath;
 use aggressor_report::{Path, PathStep};
 use slack_report::{Slack, is_hold, point_name};
 use std::alloc::AllocError;
-use text_lines::edge_word;
+use text_lines::{check_word, edge_word, push_word};
 use xt_model::Design;
 
 /// Appends the line that tells which check it is.
@@ -23,7 +22,7 @@ fn push_worst(out: &mut Vec<u8>, design: &Design, slack: &Slack) -> Result<(), A
 {
     let point = point_of(design, slack);
     push_word(out, b"path", b' ')?;
-    push_word(out, kind_word(is_hold(point)), b' ')?;
+    push_word(out, check_word(is_hold(point)), b' ')?;
     push_word(out, point_name(point), b' ')?;
     push_word(out, edge_word(slack.edge), b' ')?;
     push_time(out, slack.greatest, b'\n')?;

@@ -13,13 +13,13 @@ ghost use Rattle.report_text.specs.Report.{IsReportOf, guilty_line, report, unle
 ghost use Rattle.report_text.specs.Kinds.{of_checks};
 
 use crate::checked::{Checked, push_checked};
-use crate::fields::push_word;
 use crate::guilty::push_guilty;
 use crate::kind::ReportKind;
-use crate::size::{push_clock, push_miller, push_size, push_title};
+use crate::size::{push_clock, push_size, push_title};
 use crate::unconstrained::push_unconstrained;
 use crate::windows::push_windows;
 use std::alloc::{AllocError, Global};
+use text_lines::{push_miller, push_word};
 use xt_model::{Design, NoMemory, Windows};
 
 /// Appends the lines on windows, unless the report is of the checks alone.

@@ -3,15 +3,16 @@
 ghost use Rattle.std.specs.Prelude.{◌≡◌, ◌++◌, length, OnOk};
 ghost use Rattle.std.specs.List.{sum_by};
 ghost use Rattle.xt_model.specs.Levels.{IsDepth, IsPairCount};
-ghost use Rattle.text_lines.specs.Lines.{line_text, text_of};
-ghost use Rattle.report_text.specs.Report.{title_line, size_line, clock_line, miller_lines};
+ghost use Rattle.text_lines.specs.Lines.{line_text};
+ghost use Rattle.report_text.specs.Report.{title_line, size_line, clock_line};
 
-use crate::fields::{push_number, push_time, push_word};
+use crate::fields::push_time;
 use std::alloc::AllocError;
-use xt_model::{Design, Miller};
+use text_lines::{push_number, push_word};
+use xt_model::Design;
 
 /// Appends the name and the version of the format.
-#[tactic(auto, unfolding(crate::specs::Fields::field))]
+#[tactic(auto, unfolding(text_lines::specs::Fields::field))]
 pub fn push_title(out: &mut Vec<u8>) -> Result<(), AllocError>
     ensures { OnOk result (out.new.items ≡ out.old.items ++ line_text title_line) }
 {
@@ -56,7 +57,7 @@ pub fn push_size(
 }
 
 /// Appends the line of the clock period.
-#[tactic(auto, unfolding(crate::specs::Fields::field))]
+#[tactic(auto, unfolding(text_lines::specs::Fields::field))]
 pub fn push_clock(out: &mut Vec<u8>, design: &Design) -> Result<(), AllocError>
     ensures { OnOk result (out.new.items ≡ out.old.items ++ line_text (clock_line design.now)) }
 {
@@ -65,18 +66,4 @@ pub fn push_clock(out: &mut Vec<u8>, design: &Design) -> Result<(), AllocError>
         None => push_word(out, b"none", b'\n'),
         Some(time) => push_time(out, time, b'\n'),
     }
-}
-
-/// Appends the line of the Miller numbers, in quarters, which the classical ones do not have.
-pub fn push_miller(out: &mut Vec<u8>, miller: &Miller) -> Result<(), AllocError>
-    ensures { OnOk result (out.new.items ≡ out.old.items ++ text_of (miller_lines miller.now)) }
-{
-    if miller.is_classical() {
-        return Ok(());
-    }
-    push_word(out, b"miller", b' ')?;
-    push_number(out, miller.low(), b' ')?;
-    push_number(out, miller.mid(), b' ')?;
-    push_number(out, miller.high(), b'\n')?;
-    Ok(())
 }

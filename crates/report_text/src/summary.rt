@@ -7,15 +7,15 @@ ghost use Rattle.report_text.specs.Summary.{count_line, summary, summary_by};
 ghost use Rattle.xt_number.specs.Thousandths.{thousandths};
 
 use crate::edge_windows::{EdgeWindows, live_windows, total_widths, wider_count};
-use crate::fields::{push_number, push_word};
 use crate::size::push_size;
 use aggressor_report::guilty;
 use std::alloc::{AllocError, Global};
+use text_lines::{push_number, push_word};
 use xt_model::{Design, NoMemory, Windows};
 use xt_number::time_text;
 
 /// Appends the name and the version of the format.
-#[tactic(auto, unfolding(crate::specs::Fields::field))]
+#[tactic(auto, unfolding(text_lines::specs::Fields::field))]
 fn push_title(out: &mut Vec<u8>) -> Result<(), AllocError>
     ensures { OnOk result (out.new.items ≡ out.old.items
         ++ line_text (codes "xtalk" ∷ codes "gen" ∷ codes "1" ∷ [])) }
@@ -40,7 +40,7 @@ fn push_counts(out: &mut Vec<u8>, edges: &[EdgeWindows], guilty: usize) -> Resul
 }
 
 /// Appends a line of a word and a time, given in fs, in ps.
-#[tactic(auto, unfolding(crate::specs::Fields::field))]
+#[tactic(auto, unfolding(text_lines::specs::Fields::field))]
 fn push_total(out: &mut Vec<u8>, word: &[u8], time: i128) -> Result<(), AllocError>
     ensures { OnOk result (out.new.items ≡ out.old.items ++ line_text (word.now ∷ thousandths time ∷ [])) }
 {

@@ -5,8 +5,8 @@ ghost use Rattle.text_lines.specs.Lines.{text_of};
 ghost use Rattle.report_text.specs.Report.{is_unconstrained, unconstrained_lines};
 ghost use Rattle.report_text.specs.Pieces.{unconstrained_text};
 
-use crate::fields::push_word;
 use std::alloc::AllocError;
+use text_lines::push_word;
 use xt_model::Net;
 
 /// Whether the net is an input port's, and nothing is given for it.
@@ -17,7 +17,7 @@ fn is_unconstrained(net: &Net) -> bool
 }
 
 /// Appends the line of a net that is unconstrained, and nothing for another.
-#[tactic(auto, unfolding(crate::specs::Fields::field))]
+#[tactic(auto, unfolding(text_lines::specs::Fields::field))]
 fn push_net(out: &mut Vec<u8>, net: &Net) -> Result<(), AllocError>
     ensures { OnOk result (out.new.items ≡ out.old.items ++ unconstrained_text net.now) }
 {

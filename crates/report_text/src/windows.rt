@@ -7,9 +7,9 @@ ghost use Rattle.text_lines.specs.Lines.{line_text, text_of};
 ghost use Rattle.report_text.specs.Report.{window_line, window_lines};
 ghost use Rattle.report_text.specs.Pieces.{windows_text};
 
-use crate::fields::{push_quad, push_word};
+use crate::fields::push_quad;
 use std::alloc::AllocError;
-use text_lines::edge_word;
+use text_lines::{edge_word, push_word};
 use xt_model::{Edge, Net, Quad, Windows};
 
 /// The window of an edge of a net.
@@ -22,7 +22,7 @@ pub fn window(windows: &Windows, net: usize, edge: Edge) -> Quad
 }
 
 /// Appends the line of the two windows of an edge of a net.
-#[tactic(auto, unfolding(crate::specs::Fields::field))]
+#[tactic(auto, unfolding(text_lines::specs::Fields::field))]
 fn push_window(
     out: &mut Vec<u8>,
     name: &[u8],

@@ -1,17 +1,10 @@
-//! Texts as lines of fields.
+//! Texts as lines of fields, and the fields and lines that several texts have.
 #![tactic(auto)]
 
-ghost use Rattle.std.specs.Prelude.{◌≡◌};
-ghost use Rattle.text_lines.specs.Lines.{edge_word};
+mod fields;
+mod miller;
+mod words;
 
-use xt_model::Edge;
-
-/// The word for an edge.
-pub fn edge_word(edge: Edge) -> &'static [u8]
-    ensures { result.now ≡ edge_word edge }
-{
-    match edge {
-        Edge::Rise => b"rise",
-        Edge::Fall => b"fall",
-    }
-}
+pub use fields::{push_bare_number, push_number, push_word};
+pub use miller::push_miller;
+pub use words::{check_word, edge_word};

@@ -1,6 +1,6 @@
 use Rattle.std.proofs.Common.{refl, ap, length}
 use Rattle.std.specs.Fmt.{decimal}
-use Rattle.linked_text.proofs.Pieces.{field_then, field_last}
+use Rattle.text_lines.proofs.Pieces.{field_then, field_last}
 use Rattle.linked_text.proofs.write.push_counts.Goals as goal
 
 pub returns : goal.returns

@@ -3,7 +3,8 @@ use Rattle.std.specs.Fmt.{signed_decimal}
 use Rattle.std.proofs.lemmas.Int.{to_z-of_z}
 use mir.Val.{SFits}
 use Rattle.xt_model.specs.Quads.{is_live}
-use Rattle.linked_text.proofs.Pieces.{field_then, field_last, live_line, quiet_line}
+use Rattle.linked_text.proofs.Pieces.{live_line, quiet_line}
+use Rattle.text_lines.proofs.Pieces.{field_then, field_last}
 use Rattle.linked_text.proofs.write_net.push_given.Goals as goal
 
 pub returns-then-not-live : goal.returns-then-not-live

@@ -2,7 +2,7 @@ use Rattle.std.proofs.Common.{refl, ap, sym, ◌∙◌, ◌++◌, rules, w64}
 use Rattle.std.proofs.lemmas.Int.{to_z-of_z}
 use mir.Val.{SFits}
 use Rattle.xt_number.specs.Thousandths.{thousandths}
-use Rattle.report_text.proofs.Lines.{field_then, field_last}
+use Rattle.text_lines.proofs.Pieces.{field_then, field_last}
 use Rattle.report_text.proofs.Told.{slacks_told}
 use Rattle.report_text.proofs.checks.push_slack.Goals as goal
 
@@ -14,7 +14,7 @@ returns c =
     field_then _ _ _ _ _ _ _ refl c.in_ok-push_word.ensures
     (field_then _ _ _ _ _ _ _ refl c.in_ok-push_word-2.ensures
     (field_then _ _ _ _ _ _ _ c.edge_word.ensures c.in_ok-push_word-3.ensures
-    (field_then _ _ _ _ _ _ _ c.kind_word.ensures c.in_ok-push_word-4.ensures
+    (field_then _ _ _ _ _ _ _ c.check_word.ensures c.in_ok-push_word-4.ensures
     (field_then _ _ _ _ _ _ _ (ap thousandths (to_z-of_z w64 s.greatest greatest)) c.in_ok-push_time.ensures
     (field_last _ _ _ _ _ (ap thousandths (to_z-of_z w64 s.least least)) c.in_ok-push_time-2.ensures)))))
     ∙ ap (λ text. c.args.out.now.items ++ text) (sym (slacks_told c.args.name.now c.args.hold s c.if-slack.false))

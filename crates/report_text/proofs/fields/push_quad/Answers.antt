@@ -2,7 +2,8 @@ use Rattle.std.proofs.Common.{rules, w64, ap}
 use Rattle.std.proofs.lemmas.Int.{to_z-of_z}
 use mir.Val.{SFits}
 use Rattle.xt_number.specs.Thousandths.{thousandths}
-use Rattle.report_text.proofs.Lines.{field_then, field_same}
+use Rattle.report_text.proofs.Lines.{field_same}
+use Rattle.text_lines.proofs.Pieces.{field_then}
 use Rattle.report_text.proofs.fields.push_quad.Goals as goal
 
 pub returns : goal.returns

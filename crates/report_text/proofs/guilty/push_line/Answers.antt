@@ -4,7 +4,7 @@ use mir.Val.{SFits}
 use Rattle.text_lines.specs.Lines.{line_text}
 use Rattle.xt_number.specs.Thousandths.{thousandths}
 use Rattle.report_text.specs.Report.{coupling_line}
-use Rattle.report_text.proofs.Lines.{field_then, field_last}
+use Rattle.text_lines.proofs.Pieces.{field_then, field_last}
 use Rattle.report_text.proofs.Pieces.{name_is}
 use Rattle.report_text.proofs.guilty.push_line.Goals as goal
 

@@ -2,7 +2,7 @@ use Rattle.std.proofs.Common.{refl, ap, rules, w64}
 use Rattle.std.proofs.lemmas.Int.{to_z-of_z}
 use mir.Val.{SFits}
 use Rattle.xt_number.specs.Thousandths.{thousandths}
-use Rattle.report_text.proofs.Lines.{field_then, field_last}
+use Rattle.text_lines.proofs.Pieces.{field_then, field_last}
 use Rattle.report_text.proofs.Pieces.{name_is}
 use Rattle.report_text.proofs.paths.push_step.Goals as goal
 

@@ -2,8 +2,8 @@ use Rattle.std.proofs.Common.{refl, ap, sym, ◌∙◌, ◌++◌, rules, w64}
 use Rattle.std.proofs.lemmas.Int.{to_z-of_z}
 use mir.Val.{SFits}
 use Rattle.xt_number.specs.Thousandths.{thousandths}
-use Rattle.report_text.specs.Checks.{kind_word}
-use Rattle.report_text.proofs.Lines.{field_then, field_last}
+use Rattle.text_lines.specs.Words.{check_word}
+use Rattle.text_lines.proofs.Pieces.{field_then, field_last}
 use Rattle.report_text.proofs.Told.{worst_told}
 use Rattle.report_text.proofs.paths.push_worst.Goals as goal
 
@@ -13,7 +13,7 @@ returns c =
     let s = c.args.slack.now in
     let greatest : SFits w64 s.greatest = search rules in
     field_then _ _ _ _ _ _ _ refl c.in_ok-push_word.ensures
-    (field_then _ _ _ _ _ _ _ (c.kind_word.ensures ∙ ap kind_word c.is_hold.ensures) c.in_ok-push_word-2.ensures
+    (field_then _ _ _ _ _ _ _ (c.check_word.ensures ∙ ap check_word c.is_hold.ensures) c.in_ok-push_word-2.ensures
     (field_then _ _ _ _ _ _ _ c.point_name.ensures c.in_ok-push_word-3.ensures
     (field_then _ _ _ _ _ _ _ c.edge_word.ensures c.in_ok-push_word-4.ensures
     (field_last _ _ _ _ _ (ap thousandths (to_z-of_z w64 s.greatest greatest)) c.in_ok-push_time.ensures))))

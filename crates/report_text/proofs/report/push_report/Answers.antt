@@ -1,7 +1,8 @@
 use Rattle.std.proofs.Common.{◌++◌, map, ap, ◌∙◌}
 use Rattle.text_lines.specs.Lines.{text_of}
 use Rattle.aggressor_report.specs.Guilt.{guilty}
-use Rattle.report_text.specs.Report.{title_line, size_line, clock_line, miller_lines, window_lines, unconstrained_lines, guilty_line, unless_checks, checked_lines}
+use Rattle.report_text.specs.Report.{title_line, size_line, clock_line, window_lines, unconstrained_lines, guilty_line, unless_checks, checked_lines}
+use Rattle.text_lines.specs.Miller.{miller_lines}
 use Rattle.report_text.specs.Kinds.{of_checks}
 use Rattle.report_text.proofs.Pieces.{report_pieces}
 use Rattle.report_text.proofs.report.push_report.Goals as goal

@@ -1,7 +1,7 @@
 use Rattle.std.proofs.Common.{refl, ap, length}
 use Rattle.std.specs.Fmt.{decimal}
 use Rattle.report_text.proofs.Bound.{bound_is}
-use Rattle.report_text.proofs.Lines.{field_then, field_last}
+use Rattle.text_lines.proofs.Pieces.{field_then, field_last}
 use Rattle.report_text.proofs.size.push_size.Goals as goal
 
 pub returns : goal.returns

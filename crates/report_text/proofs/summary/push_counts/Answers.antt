@@ -1,6 +1,6 @@
 use Rattle.std.proofs.Common.{refl, ap}
 use Rattle.std.specs.Fmt.{decimal}
-use Rattle.report_text.proofs.Lines.{field_then, field_last}
+use Rattle.text_lines.proofs.Pieces.{field_then, field_last}
 use Rattle.report_text.proofs.summary.push_counts.Goals as goal
 
 pub returns : goal.returns

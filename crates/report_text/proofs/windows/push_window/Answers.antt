@@ -1,6 +1,7 @@
 use Rattle.std.proofs.Common.{◌≡◌, true, ◌++◌, refl, sym, ap, ◌∙◌, rules}
 use Rattle.xt_model.specs.Quads.{is_live}
-use Rattle.report_text.proofs.Lines.{field_then, piece_then}
+use Rattle.report_text.proofs.Lines.{piece_then}
+use Rattle.text_lines.proofs.Pieces.{field_then}
 use Rattle.report_text.proofs.Pieces.{window_live}
 use Rattle.report_text.proofs.windows.push_window.Goals as goal
 

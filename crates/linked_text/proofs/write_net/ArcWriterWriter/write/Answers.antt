@@ -1,5 +1,5 @@
 use Rattle.std.proofs.Common.{refl}
-use Rattle.linked_text.proofs.Pieces.{field_then, field_last}
+use Rattle.text_lines.proofs.Pieces.{field_then, field_last}
 use Rattle.linked_text.proofs.write_net.ArcWriterWriter.write.Goals as goal
 
 pub returns : goal.returns

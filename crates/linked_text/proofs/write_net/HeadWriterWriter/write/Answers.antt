@@ -2,7 +2,7 @@ use Rattle.std.proofs.Common.{refl, ap, rules, w64}
 use Rattle.std.specs.Fmt.{decimal, signed_decimal}
 use Rattle.std.proofs.lemmas.Int.{to_z-of_z}
 use mir.Val.{SFits}
-use Rattle.linked_text.proofs.Pieces.{field_then, field_last}
+use Rattle.text_lines.proofs.Pieces.{field_then, field_last}
 use Rattle.linked_text.proofs.write_net.HeadWriterWriter.write.Goals as goal
 
 pub returns : goal.returns

@@ -3,7 +3,8 @@ use Rattle.std.specs.Int.{w128}
 use Rattle.std.specs.Fmt.{signed_decimal}
 use Rattle.std.proofs.lemmas.Int.{to_z-of_z}
 use mir.Val.{SFits}
-use Rattle.linked_text.proofs.Pieces.{field_then, numbers_then}
+use Rattle.linked_text.proofs.Pieces.{numbers_then}
+use Rattle.text_lines.proofs.Pieces.{field_then}
 use Rattle.linked_text.proofs.write_net.SinkWriterWriter.write.Goals as goal
 
 pub returns : goal.returns

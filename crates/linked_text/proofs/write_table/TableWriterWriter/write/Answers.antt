@@ -1,5 +1,6 @@
 use Rattle.std.proofs.Common.{refl}
-use Rattle.linked_text.proofs.Pieces.{field_then, field_last, table_pieces}
+use Rattle.linked_text.proofs.Pieces.{table_pieces}
+use Rattle.text_lines.proofs.Pieces.{field_then, field_last}
 use Rattle.linked_text.proofs.write_table.TableWriterWriter.write.Goals as goal
 
 pub returns : goal.returns
