@@ -1,27 +1,21 @@
--- What a call does, from its words and its files to its status.
+-- What a call does, from its words and its files to its status and its line.
 use Rattle.std.specs.Prelude.{◌≡◌, ℕ, ◌+◌, ◌⊎◌, ◌≤◌, ◌++◌, [], ◌∷◌, List, length, take, codes}
-use Rattle.std.specs.Prelude.{Option, Some, None, IsSome, MatchOption}
-use Rattle.std.specs.Fmt.{decimal, signed_decimal}
+use Rattle.std.specs.Prelude.{Option, IsSome, MatchOption}
+use Rattle.std.specs.Fmt.{decimal}
 use Rattle.xt_model.specs.Codes.{code_text}
-use Rattle.xt_model.specs.declared.fault.LimitKind.{LimitKind}
-use Rattle.xt_model.specs.declared.fault.LimitKind.TheVariants as kinds
-use Rattle.envelope.specs.declared.fault.What.{What}
-use Rattle.envelope.specs.declared.fault.What.TheVariants.{Time, Slew}
 use Rattle.xt_io.specs.Outside.{Rose, ChangesOnly, IsPrefixAppended, appended}
 use Rattle.xtalk_top.specs.Outcome.{Contents, Outcome, prints, refuses, unread, most_bytes}
+use Rattle.xtalk_top.specs.Report.{ReportMeans}
 use Rattle.xtalk_top.specs.Solve.{SolveMeans}
 use Rattle.xtalk_top.specs.Replay.{ReplayMeans}
-use Rattle.xtalk_top.specs.Gen.{GenMeans}
-use Rattle.xtalk_top.specs.Report.{ReportMeans}
 use Rattle.xtalk_top.specs.Link.{LinkMeans}
-use Rattle.link_rules.specs.declared.fault.LinkRefusal.{LinkRefusal}
-use Rattle.link_rules.specs.declared.fault.LinkRefusal.TheVariants as refusals
-use Rattle.xtalk_top.specs.declared.refusal.Unlinked.TheVariants as unlinked
+use Rattle.xtalk_top.specs.Gen.{GenMeans}
+use Rattle.xtalk_top.specs.FailureWords.{beyond_words, limit_words, link_words}
 use Rattle.xtalk_top.specs.Words.{Text, job_of}
 use Rattle.xtalk_top.specs.declared.words.Job.{Job}
 use Rattle.xtalk_top.specs.declared.words.Job.TheVariants.{Report, Solve, Replay, Link, Gen}
-use Rattle.xtalk_top.specs.declared.refusal.PassedLimit.{PassedLimit}
 use Rattle.xtalk_top.specs.declared.refusal.DesignRefusal.TheVariants.{Limit}
+use Rattle.xtalk_top.specs.declared.refusal.Unlinked.TheVariants as unlinked
 use Rattle.xtalk_top.specs.declared.refusal.TextRefusal.TheVariants.{At, Beyond}
 use Rattle.xtalk_top.specs.declared.refusal.FileRefusal.TheVariants.{TooLong, Content}
 use Rattle.xtalk_top.specs.declared.refusal.Refusal.TheVariants.{Words, File, Linking, Design}
@@ -73,71 +67,19 @@ IsFailure Meant Fault CutOff Unwritten = (text : Text) × Meant (prints text) ×
 
 -- ---- its status and its line
 
-abbrev pub what_word : What → Text
-what_word Time = codes "time"
-what_word Slew = codes "slew"
-
--- a name and a space, where there is a name
-abbrev pub name_field : Option Text → Text
-name_field None = []
-name_field (Some name) = name ++ codes " "
-
--- the word for what has a limit
-abbrev pub kind_word : LimitKind → Text
-kind_word kinds.Nets = codes "nets"
-kind_word kinds.Instances = codes "instances"
-kind_word kinds.Nodes = codes "nodes"
-kind_word kinds.Load = codes "load"
-kind_word kinds.Couplings = codes "couplings"
-kind_word kinds.Coefficients = codes "coefficients"
-kind_word kinds.Arcs = codes "arcs"
-kind_word kinds.Tables = codes "tables"
-kind_word kinds.Checks = codes "checks"
-kind_word kinds.Reads = codes "reads"
-
--- `limit: WHAT NAME VALUE`, or without a name
-abbrev pub limit_line : PassedLimit → Text
-limit_line l = codes "limit: " ++ (what_word l.what ++ (codes " " ++ (name_field l.name ++ signed_decimal l.value)))
-
--- the same of a limit that a linked text passes
-abbrev pub beyond_line : LimitKind → Option Text → ℕ → Text
-beyond_line what name value = codes "limit: " ++ (kind_word what ++ (codes " " ++ (name_field name ++ decimal value)))
-
--- a code with one name, or with two
-abbrev pub one_name : Text → Text → Text
-one_name code name = code ++ (codes " " ++ name)
-
-abbrev pub two_names : Text → Text → Text → Text
-two_names code first second = code ++ (codes " " ++ (first ++ (codes " " ++ second)))
-
--- the first of several names
-abbrev pub first_name : List Text → Text
-first_name [] = []
-first_name (name ∷ more) = name
-
--- the code of a refusal of linking with its names: of a loop of arcs the first net that is told
-abbrev pub link_words : LinkRefusal → Text
-link_words (refusals.K1 instance cell) = two_names (codes "K1") instance cell
-link_words (refusals.K2 instance pin) = two_names (codes "K2") instance pin
-link_words (refusals.K3 net) = one_name (codes "K3") net
-link_words (refusals.K4 nets) = one_name (codes "K4") (first_name nets)
-link_words (refusals.K5 net) = one_name (codes "K5") net
-link_words (refusals.K6 net node) = two_names (codes "K6") net node
-link_words (refusals.K7 check) = one_name (codes "K7") check
-link_words (refusals.K9 instance cell) = two_names (codes "K9") instance cell
-
--- the exit status of each failure, and its line on the error stream
+-- the exit status of each failure, and its line on the error stream: 2 for words, 3 for a text, 4 for linking, 5 for a
+-- limit, 6 for a file that cannot be read, 7 for an output that cannot be written, 8 for want of memory
 abbrev pub status_and_line : Failure → ℕ × Text
 status_and_line (NoText (Refused Words)) = (2, codes "xtalk: bad command line")
 status_and_line (NoText (Refused (File file (Content (At line code))))) =
     (3, file ++ (codes ":" ++ (decimal line ++ (codes ": " ++ code_text code))))
 status_and_line (NoText (Refused (File file (Content (Beyond what name value))))) =
-    (5, beyond_line what name value)
+    (5, beyond_words what name value)
 status_and_line (NoText (Refused (File file TooLong))) =
     (5, codes "limit: file " ++ (file ++ (codes " " ++ decimal (most_bytes + 1))))
 status_and_line (NoText (Refused (Linking (unlinked.Refused why)))) = (4, codes "link: " ++ link_words why)
-status_and_line (NoText (Refused (Linking (unlinked.Beyond what name value)))) = (5, beyond_line what name value)
-status_and_line (NoText (Refused (Design (Limit passed)))) = (5, limit_line passed)
+status_and_line (NoText (Refused (Linking (unlinked.Beyond what name value)))) = (5, beyond_words what name value)
+status_and_line (NoText (Refused (Design (Limit passed)))) = (5, limit_words passed)
 status_and_line (NoText (Unread file)) = (6, codes "read fault: " ++ file)
 status_and_line Unwritten = (7, codes "write fault")
 status_and_line (NoText NoMemory) = (8, codes "out of memory")

@@ -9,4 +9,5 @@ pub mod Solve
 pub mod Replay
 pub mod Link
 pub mod Gen
+pub mod FailureWords
 pub mod Call

@@ -2,8 +2,9 @@
 
 ghost use Rattle.std.specs.Prelude.{◌≡◌, ℕ, ◌≤◌, List, [], ◌∷◌, ◌++◌, OnOk, OnErr, codes};
 ghost use Rattle.xt_io.specs.Outside.{Rose, appended, IsPrefixAppended};
-ghost use Rattle.xtalk_top.specs.Call.{line_of, status_of, beyond_line, what_word, kind_word, name_field, WritesLine};
-ghost use Rattle.xtalk_top.specs.Call.{first_name, link_words, one_name, two_names};
+ghost use Rattle.xtalk_top.specs.Call.{line_of, status_of, WritesLine};
+ghost use Rattle.xtalk_top.specs.FailureWords.{beyond_words, first_name, kind_word, link_words, name_field};
+ghost use Rattle.xtalk_top.specs.FailureWords.{one_name, two_names, what_word};
 ghost use Rattle.xtalk_top.specs.declared.refusal.Failure.TheVariants.{NoText};
 ghost use Rattle.xtalk_top.specs.declared.refusal.Stop.TheVariants.{Refused};
 ghost use Rattle.xtalk_top.specs.declared.refusal.Refusal.TheVariants.{File, Design};
@@ -278,9 +279,9 @@ fn write_beyond<E: Sink>(
     value: u128,
 ) -> Result<(), Failed>
     ensures ok { OnOk result (E.written err.new ≡ appended (E.written err.old)
-        (beyond_line what name.now value ++ 10 ∷ [])) }
+        (beyond_words what name.now value ++ 10 ∷ [])) }
     ensures err { OnErr result (IsPrefixAppended (E.written err.old) (E.written err.new)
-        (beyond_line what name.now value ++ 10 ∷ [])) }
+        (beyond_words what name.now value ++ 10 ∷ [])) }
     ensures failed { OnErr result (Rose (E.faults err.old) (E.faults err.new)) }
 {
     let mut buffer = Buffer::new();

@@ -1,7 +1,7 @@
 use Rattle.std.proofs.Common.{◌∙◌, refl, ◌∷◌, [], codes}
 use Rattle.std.specs.Fmt.{decimal}
 use Rattle.std.proofs.lemmas.Result.{on_err_weaker, err_from_is_err_and}
-use Rattle.xtalk_top.specs.Call.{kind_word, name_field}
+use Rattle.xtalk_top.specs.FailureWords.{kind_word, name_field}
 use Rattle.xtalk_top.proofs.Pieces.{begins, goes_on, limit_pieces}
 use Rattle.xtalk_top.proofs.refuse.write_beyond.Goals as goal
 

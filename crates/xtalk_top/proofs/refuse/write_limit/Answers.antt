@@ -4,7 +4,7 @@ use Rattle.std.specs.Fmt.{signed_decimal}
 use Rattle.std.proofs.lemmas.Int.{to_z-of_z}
 use Rattle.std.proofs.lemmas.Result.{on_err_weaker, on_ok_weaker, err_from_is_err_and}
 use mir.Val.{SFits}
-use Rattle.xtalk_top.specs.Call.{what_word, name_field}
+use Rattle.xtalk_top.specs.FailureWords.{what_word, name_field}
 use Rattle.xtalk_top.proofs.Pieces.{begins, goes_on, both, limit_pieces}
 use Rattle.xtalk_top.proofs.refuse.write_limit.Goals as goal
 
