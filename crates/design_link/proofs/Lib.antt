@@ -1,12 +1,12 @@
-pub mod Lists
-pub mod GivenLaws
-pub mod PinLaws
-pub mod CoupleLaws
-pub mod FillLaws
-pub mod LoopLaws
-pub mod SoundDesigns
-pub mod MadeLaws
-pub mod LinkLaws
+mod Lists
+mod GivenLaws
+mod PinLaws
+mod CoupleLaws
+mod FillLaws
+mod LoopLaws
+mod SoundDesigns
+mod MadeLaws
+mod LinkLaws
 mod SizeLaws
 mod GatherLaws
 mod CoefficientLaws

@@ -1,18 +1,18 @@
-pub mod Texts
-pub mod Bytes
-pub mod NameLaws
-pub mod Values
-pub mod SpefTokens
-pub mod SpefNames
-pub mod SpefStates
-pub mod SpefTexts
-pub mod VerilogTokens
-pub mod BitNames
-pub mod OwnNames
-pub mod VerilogStates
-pub mod VerilogTexts
-pub mod LibraryUnits
-pub mod LibraryCells
-pub mod SoundNetlists
-pub mod Sounds
-pub mod SdcPorts
+mod Texts
+mod Bytes
+mod NameLaws
+mod Values
+mod SpefTokens
+mod SpefNames
+mod SpefStates
+mod SpefTexts
+mod VerilogTokens
+mod BitNames
+mod OwnNames
+mod VerilogStates
+mod VerilogTexts
+mod LibraryUnits
+mod LibraryCells
+mod SoundNetlists
+mod Sounds
+mod SdcPorts
