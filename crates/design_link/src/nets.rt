@@ -64,7 +64,7 @@ fn net_of(alloc: Global, pins: NetPins, wire: NetWire) -> Result<Net, AllocError
         arcs,
     } = pins;
     let NetWire { couplings, tree: _ } = wire;
-    let _bytes = name.bytes();
+    prove!(!name.bytes().is_empty());
     if sinks.len() > u32::MAX as usize {
         return Err(AllocError);
     }

@@ -41,8 +41,12 @@ pub fn sink_node<'a>(nodes: &Nodes<'a>, wire: &WireParts<'a>, sink: usize) -> u3
     requires { has_resistors wire.now ≡ true → 1 + sink < length nodes.now }
     ensures { result ≡ sink_node wire.now sink }
 {
-    let _count = nodes.len();
-    if are_apart(wire) { 1 + sink as u32 } else { 0 }
+    if are_apart(wire) {
+        prove!(sink < nodes.len() as usize);
+        1 + sink as u32
+    } else {
+        0
+    }
 }
 
 /// Adds the ground of a capacitor without a coupling.
