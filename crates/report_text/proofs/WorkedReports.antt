@@ -11,6 +11,7 @@ use Rattle.xt_model.proofs.WorkedDesigns.{cross, cross_windows, load_pair, on_ri
 use Rattle.slack_report.specs.Slacks.{slacks}
 use Rattle.xt_number.specs.Thousandths.{thousandths}
 use Rattle.text_lines.specs.Lines.{text_of}
+use Rattle.report_text.specs.declared.kind.ReportKind.TheVariants.{All, Checks}
 use Rattle.report_text.specs.declared.checked.Checked.{Checked}
 use Rattle.report_text.specs.declared.worst.WorstPath.{WorstPath}
 use Rattle.report_text.specs.Report.{report}
@@ -23,7 +24,7 @@ unchecked = record { slacks = []; setup = None; hold = None }
 abbrev lines : List (List ℕ) → List ℕ
 lines ls = flat_map (λ l. l ++ 10 ∷ []) ls
 
-cross_report : text_of (report false cross 2 2 (cross_windows (pos 1700)) (cross_windows (pos 1500)) unchecked) ≡ lines (
+cross_report : text_of (report All cross 2 2 (cross_windows (pos 1700)) (cross_windows (pos 1500)) unchecked) ≡ lines (
     (codes "xtalk 1") ∷
     (codes "nets 4 couplings 2 pairs 2 levels 2 bound 18") ∷
     (codes "period none") ∷
@@ -41,7 +42,7 @@ cross_report : text_of (report false cross 2 2 (cross_windows (pos 1700)) (cross
 unfolding thousandths digits
 cross_report = refl
 
-pair_report : text_of (report false (load_pair (pos 100)) 1 2 pair_low pair_high unchecked) ≡ lines (
+pair_report : text_of (report All (load_pair (pos 100)) 1 2 pair_low pair_high unchecked) ≡ lines (
     (codes "xtalk 1") ∷
     (codes "nets 4 couplings 2 pairs 1 levels 2 bound 10") ∷
     (codes "period none") ∷
@@ -67,7 +68,7 @@ thrice = record (load_pair (pos 100)) { miller = record { low = 0; mid = 4; high
 abbrev thrice_high : List Pair
 thrice_high = pair_windows (pos 100) (quad (pos 1000) (pos 1400) (pos 0) (pos 0)) (quad (pos 1100) (pos 1500) (pos 0) (pos 0))
 
-thrice_report : text_of (report false thrice 1 2 pair_low thrice_high unchecked) ≡ lines (
+thrice_report : text_of (report All thrice 1 2 pair_low thrice_high unchecked) ≡ lines (
     (codes "xtalk 1") ∷
     (codes "nets 4 couplings 2 pairs 1 levels 2 bound 10") ∷
     (codes "period none") ∷
@@ -86,7 +87,7 @@ thrice_report : text_of (report false thrice 1 2 pair_low thrice_high unchecked)
 unfolding thousandths digits
 thrice_report = refl
 
-thrice_checks : text_of (report true thrice 1 2 pair_low thrice_high unchecked) ≡ lines (
+thrice_checks : text_of (report Checks thrice 1 2 pair_low thrice_high unchecked) ≡ lines (
     (codes "xtalk 1") ∷
     (codes "nets 4 couplings 2 pairs 1 levels 2 bound 10") ∷
     (codes "period none") ∷
@@ -127,7 +128,7 @@ port_checks = record {
   hold = Some (port_path 1 (pos 1102) (pos 1000));
 }
 
-port_report : text_of (report false ports 0 1 port_windows port_windows port_checks) ≡ lines (
+port_report : text_of (report All ports 0 1 port_windows port_windows port_checks) ≡ lines (
     (codes "xtalk 1") ∷
     (codes "nets 1 couplings 0 pairs 0 levels 1 bound 1") ∷
     (codes "period 10.000") ∷

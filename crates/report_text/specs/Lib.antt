@@ -4,6 +4,5 @@ pub mod Worst
 pub mod Paths
 pub mod Report
 pub mod Fields
-pub mod Kinds
 pub mod Pieces
 pub mod Summary

@@ -23,6 +23,8 @@ use Rattle.aggressor_report.specs.declared.mark.Mark.TheVariants.{No, Possible, 
 use Rattle.aggressor_report.specs.declared.guilt.Guilt.{Guilt}
 use Rattle.aggressor_report.specs.Guilt.{coupling_of, guilty}
 use Rattle.report_text.specs.declared.checked.Checked.{Checked}
+use Rattle.report_text.specs.declared.kind.ReportKind.{ReportKind}
+use Rattle.report_text.specs.declared.kind.ReportKind.TheVariants.{All, Checks}
 use Rattle.report_text.specs.Names.{name_at}
 use Rattle.report_text.specs.Checks.{check_lines}
 use Rattle.report_text.specs.Worst.{IsChecked}
@@ -91,37 +93,38 @@ abbrev pub guilty_line : Parts → Guilt → Line
 guilty_line d g = coupling_line d g (coupling_of d g)
 
 -- lines that a report of the checks alone leaves out
-abbrev pub unless_checks : Bool → List Line → List Line
-unless_checks checks lines = if checks then [] else lines
+abbrev pub unless_checks : ReportKind → List Line → List Line
+unless_checks All lines = lines
+unless_checks Checks lines = []
 
 -- the lines on checks, and on the worst of each kind
 abbrev pub checked_lines : Parts → Checked → List Line
 checked_lines d c = check_lines d c.slacks ++ (worst_lines d c.setup ++ worst_lines d c.hold)
 
 -- the lines of a report; one of the checks alone has no windows and no couplings
-abbrev pub report : Bool → Parts → ℕ → ℕ → List Pair → List Pair → Checked → List Line
-report checks d pairs depth low high checked =
+abbrev pub report : ReportKind → Parts → ℕ → ℕ → List Pair → List Pair → Checked → List Line
+report kind d pairs depth low high checked =
     title_line ∷ size_line d pairs depth ∷ clock_line d
     ∷ (miller_lines d.miller
-    ++ (unless_checks checks (window_lines low high 0 d.nets)
+    ++ (unless_checks kind (window_lines low high 0 d.nets)
     ++ (unconstrained_lines d.nets
-    ++ (unless_checks checks (map (guilty_line d) (guilty d low high))
+    ++ (unless_checks kind (map (guilty_line d) (guilty d low high))
     ++ (checked_lines d checked ++ ((codes "end" ∷ []) ∷ []))))))
 
--- the text is the report of a design and these least and greatest windows, whole or of the checks alone
-pub record IsReportOf (checks : Bool) (d : Parts) (low high : List Pair) (text : List ℕ) : Type 0 where
+-- the text is the report of this kind of a design and these least and greatest windows
+pub record IsReportOf (kind : ReportKind) (d : Parts) (low high : List Pair) (text : List ℕ) : Type 0 where
   pub pairs : ℕ
   pub depth : ℕ
   pub checked : Checked
   pub is_pairs : IsPairCount d.nets pairs
   pub is_depth : IsDepth d.nets depth
   pub is_checked : IsChecked d low high checked
-  pub written : text ≡ text_of (report checks d pairs depth low high checked)
+  pub written : text ≡ text_of (report kind d pairs depth low high checked)
 
--- the text is the report of the design's least and greatest fixpoint
-pub record IsReport (checks : Bool) (d : Parts) (text : List ℕ) : Type 0 where
+-- the text is the report of this kind of the design's least and greatest fixpoint
+pub record IsReport (kind : ReportKind) (d : Parts) (text : List ℕ) : Type 0 where
   pub low : List Pair
   pub high : List Pair
   pub is_least : IsLeastFixpoint d low
   pub is_greatest : IsGreatestFixpoint d high
-  pub written : IsReportOf checks d low high text
+  pub written : IsReportOf kind d low high text

@@ -10,7 +10,6 @@ ghost use Rattle.text_lines.specs.Lines.{text_of};
 ghost use Rattle.aggressor_report.specs.Guilt.{guilty};
 ghost use Rattle.report_text.specs.Paths.{AreOfDesign};
 ghost use Rattle.report_text.specs.Report.{IsReportOf, guilty_line, report, unless_checks, window_lines};
-ghost use Rattle.report_text.specs.Kinds.{of_checks};
 
 use crate::checked::{Checked, push_checked};
 use crate::guilty::push_guilty;
@@ -32,13 +31,13 @@ fn push_windows_of(
 ) -> Result<(), AllocError>
     requires low { length low.now ≡ length design.now.nets }
     requires high { length high.now ≡ length design.now.nets }
-    ensures { let lines = unless_checks (of_checks kind) (window_lines low.now high.now 0 design.now.nets) in
+    ensures { let lines = unless_checks kind (window_lines low.now high.now 0 design.now.nets) in
         OnOk result (out.new.items ≡ out.old.items ++ text_of lines) }
 {
-    if kind.is_of_checks() {
-        return Ok(());
+    match kind {
+        ReportKind::All => push_windows(out, design.nets(), low, high),
+        ReportKind::Checks => Ok(()),
     }
-    push_windows(out, design.nets(), low, high)
 }
 
 /// Appends the lines on couplings, unless the report is of the checks alone.
@@ -53,13 +52,13 @@ fn push_guilty_of(
     requires low { length low.now ≡ length design.now.nets }
     requires high { length high.now ≡ length design.now.nets }
     ensures { let entries = guilty design.now low.now high.now in
-        let lines = unless_checks (of_checks kind) (map (guilty_line design.now) entries) in
+        let lines = unless_checks kind (map (guilty_line design.now) entries) in
         OnOk result (out.new.items ≡ out.old.items ++ text_of lines) }
 {
-    if kind.is_of_checks() {
-        return Ok(());
+    match kind {
+        ReportKind::All => push_guilty(out, alloc, design, low, high),
+        ReportKind::Checks => Ok(()),
     }
-    push_guilty(out, alloc, design, low, high)
 }
 
 /// Appends all lines: `pairs` of coupled nets, and `levels`.
@@ -79,7 +78,7 @@ fn push_report(
     requires low { length low.now ≡ length design.now.nets }
     requires high { length high.now ≡ length design.now.nets }
     requires checked { AreOfDesign design.now checked.now }
-    ensures { let lines = report (of_checks kind) design.now pairs levels low.now high.now checked.now in
+    ensures { let lines = report kind design.now pairs levels low.now high.now checked.now in
         OnOk result (out.new.items ≡ out.old.items ++ text_of lines) }
 {
     push_title(out)?;
@@ -109,7 +108,7 @@ pub fn write_report(
     requires high_count { length high.now ≡ length design.now.nets }
     requires high_within { IsWithinEnvelope design.now high.now }
     requires closed { (n : ℕ) (e : Edge) → step design.now high.now n e ≡ assigned high.now n e }
-    ensures { IfOk result (λ text. IsReportOf (of_checks kind) design.now low.now high.now text.items) }
+    ensures { IfOk result (λ text. IsReportOf kind design.now low.now high.now text.items) }
 {
     let checked = Checked::of(alloc, design, low, high)?;
     let mut out = Vec::new(alloc);

@@ -15,7 +15,6 @@ use Rattle.xt_meaning.specs.Envelope.{IsWidest, IsAccepted}
 use Rattle.xt_meaning.specs.Fixpoint.{IsContained, IsFixpoint}
 use Rattle.report_text.specs.Report.{IsReport}
 use Rattle.envelope.specs.Firsts.{IsFirstPassed}
-use Rattle.report_text.specs.Kinds.{of_checks}
 use Rattle.report_text.specs.declared.kind.ReportKind.{ReportKind}
 use Rattle.transitions.specs.Transitions.{Transition, AreConsistent}
 use Rattle.transitions.specs.Laws.{LieWithin}
@@ -103,7 +102,7 @@ pub record AreBounds (d : Parts) (low high : List Pair) : Type 0 where
 -- the text is the report, of this kind, of the design's least and greatest fixpoint; every fixpoint contains the least
 -- and lies within the greatest; and all transitions that explain one another lie within the greatest
 pub record IsSolution (kind : ReportKind) (d : Parts) (text : Text) : Type 0 where
-  pub report : IsReport (of_checks kind) d text
+  pub report : IsReport kind d text
   pub bounds : AreBounds d report.low report.high
 
 -- a design that is solved: its envelope passes a limit; or it keeps the limits, and such a text is printed

@@ -3,7 +3,6 @@ use Rattle.text_lines.specs.Lines.{text_of}
 use Rattle.aggressor_report.specs.Guilt.{guilty}
 use Rattle.report_text.specs.Report.{title_line, size_line, clock_line, window_lines, unconstrained_lines, guilty_line, unless_checks, checked_lines}
 use Rattle.text_lines.specs.Miller.{miller_lines}
-use Rattle.report_text.specs.Kinds.{of_checks}
 use Rattle.report_text.proofs.Pieces.{report_pieces}
 use Rattle.report_text.proofs.report.push_report.Goals as goal
 
@@ -12,9 +11,9 @@ returns c =
     let d = c.args.design.now in
     let low = c.args.low.now in
     let high = c.args.high.now in
-    let checks = of_checks c.args.kind in
+    let kind = c.args.kind in
     report_pieces _ _ _ _ _ _ _ _ _ _ title_line (size_line d c.args.pairs c.args.levels) (clock_line d) (miller_lines d.miller)
-    (unless_checks checks (window_lines low high 0 d.nets)) (unconstrained_lines d.nets) (unless_checks checks (map (guilty_line d) (guilty d low high))) (checked_lines d c.args.checked.now)
+    (unless_checks kind (window_lines low high 0 d.nets)) (unconstrained_lines d.nets) (unless_checks kind (map (guilty_line d) (guilty d low high))) (checked_lines d c.args.checked.now)
     c.in_ok-push_title.ensures c.in_ok-push_size.ensures c.in_ok-push_clock.ensures
     (c.in_ok-push_miller.ensures ∙ ap (λ m. c.push_clock.new.out.items ++ text_of (miller_lines m)) c.miller.ensures.value)
     c.in_ok-push_windows_of.ensures

@@ -1,5 +1,4 @@
 use Rattle.std.proofs.Common.{refl, inr}
-use Rattle.report_text.specs.Kinds.{of_checks}
 use Rattle.report_text.specs.Report.{IsReport}
 use Rattle.xtalk_top.proofs.design_report.report.Goals as goal
 
@@ -16,7 +15,7 @@ write_report-requires c =
 
 pub returns-in-Ok-clause-ok : goal.returns-in-Ok-clause-ok
 returns-in-Ok-clause-ok c =
-    let report : IsReport (of_checks c.args.kind) c.args.design.now c.in-Ok.text.items = record {
+    let report : IsReport c.args.kind c.args.design.now c.in-Ok.text.items = record {
       low = c.in_ok-found.found.low;
       high = c.in_ok-found.found.high;
       is_least = c.in_ok-found.ensures.least;
