@@ -4,6 +4,7 @@ ghost use Rattle.std.specs.Prelude.{◌≡◌, ℕ, ◌+◌, ◌%◌, ◌<◌, �
 ghost use Rattle.std.specs.List.{All};
 ghost use Rattle.xt_model.specs.declared.net.NetId.{NetId};
 ghost use Rattle.xt_model.specs.Levels.{IsOrder};
+ghost use Rattle.xt_model.specs.Limits.{most_workers};
 ghost use Rattle.net_eval.specs.ReadLists.{AreReadLists};
 ghost use Rattle.chaos_core.specs.Tasks.{idle, task_of};
 ghost use Rattle.chaos_core.specs.Runs.{IsDone};
@@ -66,7 +67,7 @@ fn any_open(workers: &[Worker]) -> bool
 fn place_after(number: usize, ahead: usize, count: usize) -> usize
     requires number { number < count }
     requires ahead { ahead < count }
-    requires few { count ≤ 64 }
+    requires few { count ≤ most_workers }
     ensures place { result ≡ (number + ahead) % count }
     ensures inside { result < count }
 {
@@ -76,7 +77,7 @@ fn place_after(number: usize, ahead: usize, count: usize) -> usize
 /// The first worker that is not done, from a place upwards, and from the last worker on to the first.
 fn next_open(workers: &[Worker], number: usize) -> usize
     requires number { number < length workers.now }
-    requires few { length workers.now ≤ 64 }
+    requires few { length workers.now ≤ most_workers }
     requires open { HasOpen (map task_of workers.now) }
     ensures picked { IsPicked (map task_of workers.now) number result }
     ensures inside { result < length workers.now }
@@ -102,7 +103,7 @@ fn pick(
     requires design { board.old.setting.design ≡ design.now }
     requires direction { board.old.setting.way ≡ direction }
     requires lists { AreReadLists design.now lists.now }
-    requires few { length workers.old ≤ 64 }
+    requires few { length workers.old ≤ most_workers }
     requires open { HasOpen (map task_of workers.old) }
     requires fits { All (IsFitting (knowledge_of board.old) lists.now) workers.old }
     requires late { count_open (map task_of workers.old) ≤ (knowledge_of board.old).late }
@@ -131,7 +132,7 @@ pub(crate) fn round(
     requires design { board.old.setting.design ≡ design.now }
     requires direction { board.old.setting.way ≡ direction }
     requires lists { AreReadLists design.now lists.now }
-    requires few { length workers.old ≤ 64 }
+    requires few { length workers.old ≤ most_workers }
     requires rooms { All (HasRoom lists.now) workers.old }
     ensures setting { board.new.setting ≡ board.old.setting }
     ensures count { length workers.new ≡ length workers.old }

@@ -4,6 +4,7 @@ ghost use Rattle.std.specs.Prelude.{◌≡◌, ℕ, ◌<◌, ◌≤◌, List, le
 ghost use Rattle.std.specs.List.{All};
 ghost use Rattle.xt_model.specs.declared.direction.Direction.TheVariants.{Narrow};
 ghost use Rattle.xt_model.specs.Levels.{IsOrder};
+ghost use Rattle.xt_model.specs.Limits.{most_workers};
 ghost use Rattle.xt_model.specs.Build.{IsRoundBound};
 ghost use Rattle.xt_model.specs.Assign.{assigned};
 ghost use Rattle.xt_meaning.specs.Barrier.{IsFittingStart};
@@ -45,7 +46,7 @@ fn settle_on(
     requires start { board.old.words ≡ numbers_of board.old.setting.start }
     requires lists { AreReadLists design.now lists.now }
     requires some { 0 < length workers.old }
-    requires few { length workers.old ≤ 64 }
+    requires few { length workers.old ≤ most_workers }
     requires rooms { All (HasRoom lists.now) workers.old }
     ensures extreme { IfOk result (λ settled. IsExtremeFixpoint direction design.now settled.windows) }
     ensures rounds { IfOk result (λ settled. (order : List ℕ) → IsOrder design.now.nets order
@@ -83,7 +84,7 @@ pub fn settle_picked(
     requires start { IsFittingStart direction design.now start.now }
     requires lists { AreReadLists design.now lists.now }
     requires some { 1 ≤ workers }
-    requires few { workers ≤ 64 }
+    requires few { workers ≤ most_workers }
     ensures extreme { IfOk result (λ settled. IsExtremeFixpoint direction design.now settled.windows) }
     ensures rounds { IfOk result (λ settled. (order : List ℕ) → IsOrder design.now.nets order
         → Settles (record { design = design.now; way = direction; start = start.now })

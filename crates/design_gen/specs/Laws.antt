@@ -1,5 +1,6 @@
 -- Laws of generated designs.
 use Rattle.std.specs.Prelude.{ℕ, ◌≤◌, List}
+use Rattle.xt_model.specs.Limits.{most_generated}
 use Rattle.xt_model.specs.Sound.{IsSound}
 use Rattle.xt_model.specs.Levels.{IsLoop}
 use Rattle.design_gen.specs.Generated.{generated}
@@ -7,7 +8,7 @@ use Rattle.design_gen.specs.Generated.{generated}
 -- a count of nets that a design is generated for
 pub record IsCount (nets : ℕ) : Type 0 where
   pub some : 1 ≤ nets
-  pub most : nets ≤ 100000
+  pub most : nets ≤ most_generated
 
 -- the parts of every generated design are sound
 abbrev pub GeneratedIsSound : Type 0

@@ -3,7 +3,6 @@ use Rattle.std.specs.Prelude.{◌≡◌, ◌≤◌, List, [], ◌∷◌, length,
 use Rattle.std.specs.List.{All, AllByRecursion}
 use Rattle.std.proofs.Common.{arith, ◌∙◌, inl, inr}
 use Rattle.std.proofs.lemmas.List.Elements.{recursion_from_All, All-from_recursion}
-use Rattle.xt_model.specs.Limits.{most_nets}
 use Rattle.xt_model.specs.declared.fault.LimitKind.TheVariants as limits
 use Rattle.verilog_net.specs.declared.netlist.Netlist.{Netlist}
 use Rattle.verilog_net.specs.declared.netlist.PortRole.{PortRole}
@@ -18,7 +17,8 @@ use Rattle.link_rules.specs.Bare.{Inputs, bare_parts}
 use Rattle.link_rules.specs.Bare as bare
 use Rattle.link_rules.specs.Bits.{Bit, bits}
 use Rattle.link_rules.specs.Circuit.{Numbered, numbered, load_in, pin_sink, port_sinks, sinks_of, net_pins, circuit_of}
-use Rattle.link_rules.specs.Limits.{passed, most_instances, count_fault, size_fault}
+use Rattle.xt_model.specs.Limits.{most_nets, most_instances}
+use Rattle.link_rules.specs.Limits.{passed, count_fault, size_fault}
 use Rattle.link_rules.specs.Link.{Links, ArePinsTaken, AreWiresTaken}
 use Rattle.link_rules.specs.Pins.{Connected, inputs_on}
 use Rattle.link_rules.specs.Refusals.{instance_fault, driver_fault}

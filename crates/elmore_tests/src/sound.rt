@@ -5,12 +5,9 @@ ghost use Rattle.std.specs.List.{All};
 ghost use Rattle.elmore_tree.specs.Trees.{IsSoundResistor, IsSoundTap, IsSoundTree, ground_sum, tap_sum};
 
 use elmore_tree::{Resistor, Tap};
-
-const MOST_NODES: usize = 65_536;
+use xt_model::limits::{MOST_CAP, MOST_NODES};
 
 const MOST_VALUE: i64 = 1 << 40;
-
-const MOST_LOAD: u64 = 1 << 46;
 
 /// Whether both ends of a resistor are below `nodes`, and its value is in range.
 fn is_sound_resistor(nodes: usize, resistor: &Resistor) -> bool
@@ -56,7 +53,7 @@ fn is_within_load(ground: &[i64], taps: &[Tap]) -> bool
     ensures { IsTrue result ↔ (ground_sum ground.now + 2 * tap_sum taps.now ≤ 2 ^ 46) }
 {
     let tapped = taps_in_all(taps).saturating_mul(2);
-    ground_in_all(ground).saturating_add(tapped) <= MOST_LOAD
+    ground_in_all(ground).saturating_add(tapped) <= MOST_CAP as u64
 }
 
 /// Whether there are 1 to 65,536 nodes, each with a capacitance to ground of 0 or more.

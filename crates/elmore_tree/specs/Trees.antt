@@ -3,6 +3,7 @@ use Rattle.std.specs.Prelude.{◌≡◌, ℕ, ◌+◌, ◌*◌, ◌<◌, ◌≤�
 use Rattle.std.specs.Prelude.{◌==◌, ◌||◌}
 use Rattle.std.specs.Int.RustNames.{unsigned_abs}
 use Rattle.std.specs.List.{All, sum_by, list_any, slice_index_or}
+use Rattle.xt_model.specs.Limits.{most_nodes}
 use Rattle.elmore_tree.specs.declared.part.Resistor.{Resistor}
 use Rattle.elmore_tree.specs.declared.part.Tap.{Tap}
 
@@ -40,7 +41,7 @@ tap_sum taps = sum_by (λ t. unsigned_abs t.cap) taps
 -- numbers name nodes that are there, quantities keep their ranges, and so does the load with each tap twice
 pub record IsSoundTree (t : TreeParts) : Type 0 where
   pub root : t.root < t.nodes
-  pub most_nodes : t.nodes ≤ 65536
+  pub most_nodes : t.nodes ≤ most_nodes
   pub resistors : All (IsSoundResistor t.nodes) t.resistors
   pub grounds : length t.ground ≡ t.nodes
   pub natural : All (λ g. pos 0 ≤ℤ g) t.ground

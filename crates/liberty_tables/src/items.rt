@@ -6,6 +6,8 @@ ghost use Rattle.std.specs.Char.{is_ascii_graphic};
 ghost use Rattle.xt_model.specs.Names.{IsName};
 ghost use Rattle.liberty_tables.specs.Contents.{separates, items_from, is_name};
 
+use xt_model::limits::MOST_TEXT_NAME;
+
 /// Whether a byte stands between items: white space, and between numbers a comma too.
 #[inline]
 fn separates(commas: bool, byte: u8) -> bool
@@ -53,5 +55,5 @@ pub fn is_name(name: &[u8]) -> bool
     ensures exact { result ≡ is_name name.now }
     ensures sound { result ≡ true → IsName name.now }
 {
-    !name.is_empty() && (name.len() <= 1024 && is_printable(name))
+    !name.is_empty() && (name.len() <= MOST_TEXT_NAME && is_printable(name))
 }

@@ -36,10 +36,9 @@ impl<'a> Model for NetIndex<'a> {
 impl<'a> NetIndex<'a> {
     ghost use Rattle.std.specs.Prelude.{◌≤◌, length, IfOk, IfSome, option_map, Some};
     ghost use Rattle.std.specs.List.{slice_get};
-    ghost use Rattle.xt_model.specs.Limits.{most_nets};
+    ghost use Rattle.xt_model.specs.Limits.{most_nets, most_instances};
     ghost use Rattle.xt_model.specs.Names.{IsName};
     ghost use Rattle.link_rules.specs.Bits.{bits, net_of};
-    ghost use Rattle.link_rules.specs.Limits.{most_instances};
     ghost use Rattle.link_rules.specs.Nodes.{net_named, pin_net, node_net};
     ghost use Rattle.link_rules.specs.Sound.{IsSoundNetlist};
 

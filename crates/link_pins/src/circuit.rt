@@ -1,7 +1,7 @@
 //! All nets by their pins, and the check points.
 
 ghost use Rattle.std.specs.Prelude.{◌≡◌, ◌≤◌, length};
-ghost use Rattle.link_rules.specs.Limits.{most_instances};
+ghost use Rattle.xt_model.specs.Limits.{most_instances};
 ghost use Rattle.link_rules.specs.Sound.{IsSoundLibrary, AreSoundConstraints};
 ghost use Rattle.link_pins.specs.Answers.{Connects};
 

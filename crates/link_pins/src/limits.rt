@@ -8,10 +8,7 @@ use link_index::count_bits;
 use link_rules::LinkFault;
 use verilog_net::Netlist;
 use xt_model::LimitKind;
-use xt_model::limits::MOST_NETS;
-
-/// Instances of a netlist.
-const MOST_INSTANCES: usize = 262_144;
+use xt_model::limits::{MOST_INSTANCES, MOST_NETS};
 
 /// Tests the limits of nets and of instances.
 #[tactic(auto, unfolding(link_rules::specs::Limits::count_fault))]

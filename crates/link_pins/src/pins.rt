@@ -3,7 +3,7 @@
 ghost use Rattle.std.specs.Prelude.{◌≡◌, ◌≤◌, ◌++◌, length, map, filter_map, Some, IsSome, IfOk, OnOk};
 ghost use Rattle.std.specs.List.{All, slice_get};
 ghost use Rattle.std.specs.Option.{IsSomeAnd, option_to_list};
-ghost use Rattle.link_rules.specs.Limits.{most_instances};
+ghost use Rattle.xt_model.specs.Limits.{most_instances};
 ghost use Rattle.link_rules.specs.Pins.{connected, is_input, is_output};
 ghost use Rattle.link_index.specs.Cells.{cell_place};
 ghost use Rattle.link_pins.specs.Places.{IsPlaced};

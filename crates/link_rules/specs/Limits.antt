@@ -4,7 +4,7 @@ use Rattle.name_numbers.specs.Names.{Text}
 use Rattle.xt_model.specs.declared.fault.LimitKind.{LimitKind}
 use Rattle.xt_model.specs.declared.fault.LimitKind.TheVariants as limits
 use Rattle.xt_model.specs.Limits.{most_nets, most_tables, most_checks, most_couplings, most_coefficients, most_arcs}
-use Rattle.xt_model.specs.Limits.{most_reads}
+use Rattle.xt_model.specs.Limits.{most_reads, most_instances}
 use Rattle.xt_model.specs.Parts.{Parts}
 use Rattle.xt_model.specs.Sound.{coefficients_of, reads_of}
 use Rattle.verilog_net.specs.declared.netlist.Netlist.{Netlist}
@@ -12,14 +12,6 @@ use Rattle.elmore_tree.specs.Trees.{TreeParts, ground_sum, tap_sum}
 use Rattle.link_rules.specs.declared.fault.LinkFault.{LinkFault}
 use Rattle.link_rules.specs.declared.fault.LinkFault.TheVariants as faults
 use Rattle.link_rules.specs.Bits.{bits}
-
--- instances of a netlist
-abbrev pub most_instances : ℕ
-most_instances = 262144
-
--- nodes of a net
-abbrev pub most_nodes : ℕ
-most_nodes = 65536
 
 -- the greatest load of a net, in aF
 abbrev pub most_load : ℕ

@@ -29,7 +29,8 @@ use Rattle.link_rules.specs.Pins.{cell_named, pin_named, is_input}
 use Rattle.link_rules.specs.Circuit.{Numbered, numbered, drivers_of}
 use Rattle.link_rules.specs.Wires.{listed}
 use Rattle.link_rules.specs.Bare as bare
-use Rattle.link_rules.specs.Limits.{or_fault, passed, most_nodes, most_load, greatest_load}
+use Rattle.xt_model.specs.Limits.{most_nodes}
+use Rattle.link_rules.specs.Limits.{or_fault, passed, most_load, greatest_load}
 
 -- ---- cells that are not taken
 

@@ -3,7 +3,7 @@
 use Rattle.std.specs.Prelude.{◌≡◌, ◌≢◌, ℕ, ◌<◌, ◌≤◌, ◌^◌, ℤ, pos, [], ◌∷◌, length, Option, Some, IfSome}
 use Rattle.std.specs.List.{All, slice_get}
 use Rattle.name_numbers.specs.Names.{Text}
-use Rattle.xt_model.specs.Limits.{most_period}
+use Rattle.xt_model.specs.Limits.{most_period, most_text_name}
 use Rattle.xt_model.specs.Names.{IsName}
 use Rattle.xt_model.specs.Sound.{IsBetween}
 use Rattle.liberty_cells.specs.declared.library.Library.{Library}
@@ -24,7 +24,7 @@ use Rattle.link_rules.specs.Bits.{Bit, bits}
 -- a name of a netlist: of 1 to 1,024 bytes, so that those of an instance and a pin make a name together
 pub record IsShortName (bytes : Text) : Type 0 where
   pub name : IsName bytes
-  pub short : length bytes ≤ 1024
+  pub short : length bytes ≤ most_text_name
 
 -- a quantity of a text is 0 to 2^40, in aF or in milliohms
 abbrev pub IsQuantity : ℤ → Type 0

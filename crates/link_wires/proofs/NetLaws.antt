@@ -25,7 +25,8 @@ use Rattle.link_rules.specs.Nodes.{text_of}
 use Rattle.link_rules.specs.Sound.{IsSoundWire, AreSoundParasitics}
 use Rattle.link_rules.specs.Wires.{Wire, has_resistors, names_on, end_nodes, listed_by, listed, wire_in, wire_of, nodes_of, tree_by, tree_of}
 use Rattle.link_rules.specs.Bare as bare
-use Rattle.link_rules.specs.Limits.{or_fault, passed, most_nodes, most_load, greatest_load}
+use Rattle.xt_model.specs.Limits.{most_nodes}
+use Rattle.link_rules.specs.Limits.{or_fault, passed, most_load, greatest_load}
 use Rattle.link_rules.specs.Refusals.{net_limit, IsTaken}
 use Rattle.link_wires.specs.Told.{IsThere, IsToldFault, IsLimit, IsTreeWithin, limit_by, limit_at}
 use Rattle.link_wires.specs.Wires.{IsNumbered, IsNetFault}

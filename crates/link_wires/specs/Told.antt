@@ -9,7 +9,8 @@ use Rattle.link_rules.specs.declared.fault.LinkFault.TheVariants as faults
 use Rattle.link_rules.specs.declared.fault.LinkRefusal.TheVariants as refusals
 use Rattle.xt_model.specs.declared.fault.LimitKind.TheVariants as limits
 use Rattle.elmore_tree.specs.Trees.{TreeParts, IsSoundTree}
-use Rattle.link_rules.specs.Limits.{or_fault, passed, most_nodes, most_load, greatest_load}
+use Rattle.xt_model.specs.Limits.{most_nodes}
+use Rattle.link_rules.specs.Limits.{or_fault, passed, most_load, greatest_load}
 use Rattle.link_rules.specs.declared.circuit.NetPins.{NetPins}
 use Rattle.link_rules.specs.Wires.{Wire, tree_by}
 

@@ -9,13 +9,8 @@ use crate::nodes::Nodes;
 use elmore_tree::TreeFault;
 use link_rules::{LinkFault, LinkRefusal};
 use std::alloc::{AllocError, Global};
+use xt_model::limits::{MOST_CAP, MOST_NODES};
 use xt_model::{LimitKind, Name};
-
-/// Nodes of a net.
-const MOST_NODES: u128 = 65_536;
-
-/// The greatest load of a net, in aF.
-const MOST_LOAD: u128 = 1 << 46;
 
 /// A name once more.
 fn copied(alloc: Global, name: &Name) -> Result<Name, AllocError>
@@ -55,12 +50,12 @@ pub fn limit_of(
     ensures { IfOk result (λ f. f ≡ limit_by listed net.now nodes load) }
 {
     if listed {
-        let fault = passed(alloc, LimitKind::Nodes, net, u128::from(nodes), MOST_NODES)?;
+        let fault = passed(alloc, LimitKind::Nodes, net, u128::from(nodes), MOST_NODES as u128)?;
         if fault.is_some() {
             return Ok(fault);
         }
     }
-    passed(alloc, LimitKind::Load, net, load, MOST_LOAD)
+    passed(alloc, LimitKind::Load, net, load, MOST_CAP as u128)
 }
 
 /// The refusal of a net whose tree has a fault.

@@ -1,11 +1,12 @@
 -- What each line of a linked text may be, and the first of its tests that fails: X1 where its words or the number of
 -- its fields do not fit, X2 where a number is not written as it has to be or is out of its range, X3 where the line
 -- does not hold together with the lines before it.
-use Rattle.std.specs.Prelude.{ℕ, nat_lt, nat_le, ◌==◌, Bool, true, false, not, ◌&&◌, if◌then◌else◌, ℤ}
+use Rattle.std.specs.Prelude.{ℕ, ◌+◌, nat_lt, nat_le, ◌==◌, Bool, true, false, not, ◌&&◌, if◌then◌else◌, ℤ}
 use Rattle.std.specs.Prelude.{List, [], ◌∷◌, length, codes, Option, Some, None, Result, Ok, Err}
 use Rattle.std.specs.List.{slice_get}
 use Rattle.std.specs.Option.{option_map_or}
 use Rattle.std.specs.Str.{bytes_eq}
+use Rattle.xt_model.specs.Limits.{most_factor}
 use Rattle.xt_model.specs.declared.code.Code.{Code}
 use Rattle.xt_model.specs.declared.code.Code.TheVariants.{X1, X2, X3}
 use Rattle.xt_model.specs.declared.edge.Edge.{Edge}
@@ -77,11 +78,11 @@ period_in line = do
 
 -- three numbers that rise, up to three whole capacitors, and are not the classical ones
 abbrev pub is_other_miller : MillerNumbers → Bool
-is_other_miller m = nat_le m.low m.mid && (nat_le m.mid m.high && (nat_le m.high 12 && not (is_classical m)))
+is_other_miller m = nat_le m.low m.mid && (nat_le m.mid m.high && (nat_le m.high most_factor && not (is_classical m)))
 
 -- a factor in quarters, at most three whole capacitors
 abbrev pub factor : List ℕ → Result ℕ Code
-factor f = option_map_or Ok (number_of 13 f) (Err X3)
+factor f = option_map_or Ok (number_of (most_factor + 1) f) (Err X3)
 
 -- the Miller numbers of these fields
 unfoldable pub miller_of : List ℕ → List ℕ → List ℕ → Result MillerNumbers Code

@@ -12,6 +12,7 @@ ghost use Rattle.linked_text.specs.Fits.{IsSmaller};
 
 use itoa::Buffer;
 use xt_model::Edge;
+use xt_model::limits::MOST_NAME;
 
 /// Any so many digits write a number of 64 bits.
 const SHORT: usize = 19;
@@ -196,7 +197,7 @@ fn is_printable(bytes: &[u8]) -> bool
 pub fn is_name(bytes: &[u8]) -> bool
     ensures { result ≡ is_name bytes.now }
 {
-    !bytes.is_empty() && bytes.len() <= 2049 && is_printable(bytes)
+    !bytes.is_empty() && bytes.len() <= MOST_NAME && is_printable(bytes)
 }
 
 /// The edge of this word.

@@ -14,7 +14,7 @@ use crate::line::{four, one, two};
 use crate::read_line::LineReader;
 use std::alloc::Global;
 use xt_model::Miller;
-use xt_model::limits::MOST_PERIOD;
+use xt_model::limits::{MOST_FACTOR, MOST_PERIOD};
 
 /// Reads whether the version is that of the classical Miller numbers.
 pub struct VersionReader;
@@ -106,7 +106,7 @@ fn other_miller(low: u32, mid: u32, high: u32) -> Option<Miller>
     ensures { let m : MillerNumbers = record { low = low; mid = mid; high = high } in
         MatchOption result (is_other_miller m ≡ false) (λ x. (x ≡ m) × (is_other_miller m ≡ true)) }
 {
-    if low > mid || mid > high || high > 12 {
+    if low > mid || mid > high || high > u32::from(MOST_FACTOR) {
         return None;
     }
     let miller = Miller::new(low as u8, mid as u8, high as u8)?;
@@ -120,7 +120,7 @@ fn other_miller(low: u32, mid: u32, high: u32) -> Option<Miller>
 fn factor(field: &[u8]) -> Result<u32, LineStop>
     ensures { LineGives (λ x. x) result (factor field.now) }
 {
-    let Some(n) = number_from(13, field) else {
+    let Some(n) = number_from(u128::from(MOST_FACTOR) + 1, field) else {
         return Err(HOLDS);
     };
     Ok(n as u32)

@@ -4,6 +4,7 @@ use Rattle.std.specs.Prelude.{List, [], ◌∷◌, length, codes, Option, Some, 
 use Rattle.std.specs.Char.{is_ascii_graphic}
 use Rattle.std.specs.List.{list_all}
 use Rattle.std.specs.Str.{bytes_eq}
+use Rattle.xt_model.specs.Limits.{most_text_name}
 use Rattle.xt_lex.specs.Bytes.{begins}
 use Rattle.xt_number.specs.Reading.{numeral_of}
 use Rattle.sdc_words.specs.Items.{items_of}
@@ -144,7 +145,7 @@ text_in _ = None
 
 -- a name has at most 1,024 bytes
 abbrev pub is_short : Text → Bool
-is_short name = nat_le (length name) 1024
+is_short name = nat_le (length name) most_text_name
 
 abbrev pub are_short : NamesText → Bool
 are_short (One name) = is_short name

@@ -11,6 +11,7 @@ ghost use Rattle.sdc_forms.specs.View.{is_form};
 
 use crate::command::CommandName;
 use sdc_words::{NameList, Word, first_item};
+use xt_model::limits::MOST_TEXT_NAME;
 use xt_number::{NumberFault, read_fixed};
 
 /// A place for a word.
@@ -25,9 +26,6 @@ pub enum Slot {
     /// Any word.
     Any,
 }
-
-/// The longest name, in bytes.
-const MOST_NAME: usize = 1024;
 
 /// The bytes of a word that is not in brackets.
 pub fn text_in<'a>(word: Word<'a>) -> Option<&'a [u8]>
@@ -45,7 +43,7 @@ pub fn text_in<'a>(word: Word<'a>) -> Option<&'a [u8]>
 fn is_short(name: &[u8]) -> bool
     ensures { result ≡ is_short name.now }
 {
-    name.len() <= MOST_NAME
+    name.len() <= MOST_TEXT_NAME
 }
 
 /// Whether no name between braces is too long.

@@ -3,6 +3,7 @@
 use Rattle.std.specs.Prelude.{ℕ, Bool, true, false, not, ◌&&◌, nat_le, List, [], ◌∷◌, ◌++◌, length, ◌==◌}
 use Rattle.std.specs.Prelude.{Option, Some, None, Result, Ok, Err, if◌then◌else◌}
 use Rattle.name_numbers.specs.Names.{found}
+use Rattle.xt_model.specs.Limits.{most_name}
 use Rattle.xt_model.specs.declared.code.Code.{Code}
 use Rattle.xt_model.specs.declared.code.Code.TheVariants.{S1, S5}
 use Rattle.xt_number.specs.Value.{without_zeros}
@@ -26,7 +27,7 @@ unescaped m kept (b ∷ more) =
 
 -- a name has 1 to 2,049 bytes
 abbrev pub has_size : Text → Bool
-has_size name = not (length name == 0) && nat_le (length name) 2049
+has_size name = not (length name == 0) && nat_le (length name) most_name
 
 -- a name of another size is refused
 abbrev pub sized : Text → Result Text Code

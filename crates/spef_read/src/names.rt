@@ -11,9 +11,7 @@ use std::alloc::{AllocError, Global};
 use std::marker::Model;
 use text_forms::Stop;
 use xt_model::Code;
-
-/// The greatest number of bytes of a name.
-const MOST_NAME: usize = 2049;
+use xt_model::limits::MOST_NAME;
 
 /// A name of the name map, as it is meant.
 #[derive(Debug, Drop)]

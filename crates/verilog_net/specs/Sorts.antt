@@ -4,6 +4,7 @@ use Rattle.std.specs.Prelude.{codes, ◌==◌, if◌then◌else◌}
 use Rattle.std.specs.Char.{is_ascii_digit, is_ascii_graphic}
 use Rattle.std.specs.List.{list_all}
 use Rattle.std.specs.Str.{bytes_eq}
+use Rattle.xt_model.specs.Limits.{most_text_name}
 use Rattle.text_forms.specs.Forms.{Token}
 use Rattle.text_forms.specs.Tokens.{sorted_tokens}
 use Rattle.xt_lex.specs.Bytes.{begins}
@@ -58,7 +59,7 @@ is_unsupported word =
 
 -- a name has 1 to 1,024 bytes, each a printable one other than a space
 abbrev pub is_name : List ℕ → Bool
-is_name name = not (length name == 0) && (nat_le (length name) 1024 && list_all is_ascii_graphic name)
+is_name name = not (length name == 0) && (nat_le (length name) most_text_name && list_all is_ascii_graphic name)
 
 -- a name, where the bytes may be one
 abbrev pub name_sort : List ℕ → Sort

@@ -8,6 +8,7 @@ ghost use Rattle.verilog_net.specs.Sorts.{name_sort, digits_sort, letters_sort, 
 
 use text_forms::TokenSort;
 use xt_lex::Kind;
+use xt_model::limits::MOST_TEXT_NAME;
 
 /// What a token is to the grammar. A token of another sort than these fits nowhere.
 #[derive(Clone, Copy, Debug, PartialEq, Eq)]
@@ -94,7 +95,7 @@ fn is_printable(bytes: &[u8]) -> bool
 fn is_name(name: &[u8]) -> bool
     ensures { result ≡ is_name name.now }
 {
-    !name.is_empty() && (name.len() <= 1024 && is_printable(name))
+    !name.is_empty() && (name.len() <= MOST_TEXT_NAME && is_printable(name))
 }
 
 /// What bytes are that stand where a name may stand.

@@ -5,6 +5,7 @@ use Rattle.std.specs.Prelude.{if◌then◌else◌}
 use mathlib.Core.Option.{some}
 use lib.ListN.{get_elem?}
 use Rattle.atomic_table.specs.Table.{State}
+use Rattle.xt_model.specs.Limits.{most_workers}
 use Rattle.xt_meaning.specs.Words.{number_at, bounds_in, AreNoFurther}
 use Rattle.chaos_core.specs.declared.setting.Setting.{Setting}
 use Rattle.chaos_core.specs.Boards.{nets_of, started}
@@ -58,9 +59,9 @@ abbrev pub AreDrawn : ℕ → List View → Type 0
 AreDrawn next views = (x : ℕ) → total (λ v. times x v.drawn) views ≡ once_below next x
 
 -- ---- fourth point: one pass is the first, the others are as many as it has out, these are no more than it split off,
--- and it split off no more than 64
+-- and it split off no more than there can be workers
 abbrev pub most_split : Role → ℕ
-most_split First = 64
+most_split First = most_workers
 most_split Other = 0
 most_split Spent = 0
 

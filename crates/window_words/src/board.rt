@@ -1,6 +1,7 @@
 //! Words that threads share, and the passes by which they work on them.
 
 ghost use Rattle.std.specs.Prelude.{◌≡◌, ◌+◌, ◌*◌, ◌%◌, ◌<◌, ◌^◌, min, max, IfOk};
+ghost use Rattle.xt_model.specs.Limits.{most_workers};
 ghost use Rattle.xt_meaning.specs.Barrier.{IsFittingStart};
 ghost use Rattle.xt_meaning.specs.Words.{MovesDown, MovesUp};
 ghost use Rattle.chaos_core.specs.Boards.{nets_of, CanPublish};
@@ -153,7 +154,7 @@ impl SharedBoard {
     pub fn split(&self, first: &mut Pass) -> Pass
         requires own { IsOf self.now first.old }
         requires first { IsFirst first.old }
-        requires few { first.old.view.split < 64 }
+        requires few { first.old.view.split < most_workers }
         ensures own { IsOf self.now first.new }
         ensures view { first.new.view ≡ with_one_out first.old.view }
         ensures own_other { IsOf self.now result }

@@ -41,6 +41,18 @@ most_factor = 12
 abbrev pub most_name : ℕ
 most_name = 2049
 
+-- bytes of a name in a Liberty, Verilog or SDC text
+abbrev pub most_text_name : ℕ
+most_text_name = 1024
+
+-- instances of a netlist
+abbrev pub most_instances : ℕ
+most_instances = 262144
+
+-- nodes of the wire of a net
+abbrev pub most_nodes : ℕ
+most_nodes = 65536
+
 abbrev pub most_nets : ℕ
 most_nets = 262144
 
@@ -65,3 +77,11 @@ most_arcs = 4194304
 -- nets and couplings that one evaluation of every net looks at
 abbrev pub most_reads : ℕ
 most_reads = 134217728
+
+-- nets of a generated design
+abbrev pub most_generated : ℕ
+most_generated = 100000
+
+-- workers of a run
+abbrev pub most_workers : ℕ
+most_workers = 64

@@ -33,6 +33,15 @@ pub const MOST_FACTOR: u8 = 12;
 /// Bytes of a name.
 pub const MOST_NAME: usize = 2_049;
 
+/// Bytes of a name in a Liberty, Verilog or SDC text.
+pub const MOST_TEXT_NAME: usize = 1_024;
+
+/// Instances of a netlist.
+pub const MOST_INSTANCES: usize = 262_144;
+
+/// Nodes of the wire of a net.
+pub const MOST_NODES: usize = 65_536;
+
 /// Nets of a design.
 pub const MOST_NETS: usize = 262_144;
 
@@ -53,3 +62,9 @@ pub const MOST_ARCS: usize = 4_194_304;
 
 /// Nets and couplings that one evaluation of every net looks at.
 pub const MOST_READS: usize = 134_217_728;
+
+/// Nets of a generated design.
+pub const MOST_GENERATED: u32 = 100_000;
+
+/// Workers of a run.
+pub const MOST_WORKERS: u32 = 64;

@@ -2,7 +2,7 @@
 use Rattle.std.specs.Prelude.{ℕ, ◌≤◌, nat_le, true, false, ◌&&◌, if◌then◌else◌, List, [], ◌∷◌, codes}
 use Rattle.std.specs.Prelude.{Option, Some, None, option_and_then, unwrap_or}
 use Rattle.std.specs.Str.{bytes_eq}
-use Rattle.xt_model.specs.Limits.{most_factor}
+use Rattle.xt_model.specs.Limits.{most_factor, most_generated, most_workers}
 use Rattle.xt_model.specs.Miller.{MillerNumbers}
 use Rattle.report_text.specs.declared.kind.ReportKind.{ReportKind}
 use Rattle.report_text.specs.declared.kind.ReportKind.TheVariants.{All, Checks}
@@ -27,7 +27,7 @@ use Rattle.xtalk_top.specs.declared.words.Job.TheVariants.{Report, Solve, Replay
 
 -- `--workers N`, from 1 to 64
 abbrev pub workers : OptionForm
-workers = record { name = codes "workers"; is_required = false; value = number 1 64 }
+workers = record { name = codes "workers"; is_required = false; value = number 1 most_workers }
 
 -- `--kind all` or `--kind checks`
 abbrev pub kind : OptionForm
@@ -71,7 +71,7 @@ seed = record { name = codes "number"; is_required = true; value = number 0 1844
 
 -- `--nets K`, from 1 to 100,000
 abbrev pub net_count : OptionForm
-net_count = record { name = codes "nets"; is_required = true; value = number 1 100000 }
+net_count = record { name = codes "nets"; is_required = true; value = number 1 most_generated }
 
 -- `gen --number N --nets K [--workers W]`
 abbrev pub gen_form : CommandForm
@@ -158,12 +158,12 @@ number_or_zero text = unwrap_or (option_and_then (number_of 64) text) 0
 -- so many workers can make a run
 pub record IsWorkerCount (workers : ℕ) : Type 0 where
   pub some : 1 ≤ workers
-  pub most : workers ≤ 64
+  pub most : workers ≤ most_workers
 
 -- the count of workers, where it is one that a run can have; no other is of the form
 abbrev pub workers_or_one : Option Text → ℕ
 workers_or_one text =
-    if nat_le 1 (number_or_one text) && nat_le (number_or_one text) 64 then number_or_one text else 1
+    if nat_le 1 (number_or_one text) && nat_le (number_or_one text) most_workers then number_or_one text else 1
 
 -- a linked text to solve by so many workers in the order of this number, with its own Miller numbers unless others are
 -- given
@@ -178,7 +178,7 @@ replay_job given = record {
 -- the count of nets, where it is one that a design can be generated for; no other is of the form
 abbrev pub count_or_one : Option Text → ℕ
 count_or_one text =
-    if nat_le 1 (number_or_one text) && nat_le (number_or_one text) 100000 then number_or_one text else 1
+    if nat_le 1 (number_or_one text) && nat_le (number_or_one text) most_generated then number_or_one text else 1
 
 -- a design to generate and to solve, by one worker where nothing else is given
 abbrev pub gen_job : (Text → Option Text) → GenJob

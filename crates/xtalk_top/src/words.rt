@@ -13,6 +13,7 @@ use clap::ArgMatches;
 use report_text::ReportKind;
 use std::alloc::{AllocError, Global};
 use xt_model::Miller;
+use xt_model::limits::{MOST_FACTOR, MOST_GENERATED, MOST_WORKERS};
 
 /// What the words ask for.
 #[derive(Debug, Drop)]
@@ -97,7 +98,7 @@ enum CommandName {
 const WORKERS: OptionRule = OptionRule {
     name: "workers",
     is_required: false,
-    value: ValueRule::Number { least: 1, most: 64 },
+    value: ValueRule::Number { least: 1, most: MOST_WORKERS as u64 },
 };
 
 const KIND: OptionRule = OptionRule {
@@ -111,7 +112,7 @@ const KIND: OptionRule = OptionRule {
 const MILLER: OptionRule = OptionRule {
     name: "miller",
     is_required: false,
-    value: ValueRule::RisingThree { most: 12 },
+    value: ValueRule::RisingThree { most: MOST_FACTOR as u64 },
 };
 
 const SOLVE: CommandRule = CommandRule {
@@ -143,7 +144,7 @@ const ORDER: OptionRule = OptionRule {
 const SOME_WORKERS: OptionRule = OptionRule {
     name: "workers",
     is_required: true,
-    value: ValueRule::Number { least: 1, most: 64 },
+    value: ValueRule::Number { least: 1, most: MOST_WORKERS as u64 },
 };
 
 const REPLAY: CommandRule = CommandRule {
@@ -165,7 +166,7 @@ const NETS: OptionRule = OptionRule {
     is_required: true,
     value: ValueRule::Number {
         least: 1,
-        most: 100_000,
+        most: MOST_GENERATED as u64,
     },
 };
 
@@ -227,7 +228,7 @@ fn kind_or_all(text: Option<&str>) -> ReportKind
 fn miller_of(low: u64, mid: u64, high: u64) -> Option<Miller>
     ensures { result ≡ Words.miller_of (low, mid, high) }
 {
-    if low > mid || mid > high || high > 12 {
+    if low > mid || mid > high || high > u64::from(MOST_FACTOR) {
         return None;
     }
     Miller::new(low as u8, mid as u8, high as u8)
@@ -256,7 +257,7 @@ fn workers_or_one(text: Option<&str>) -> u32
     ensures { result ≡ Words.workers_or_one (option_map (λ t. t.now) text.entry) }
 {
     let count = number_or_one(text);
-    if 1 <= count && count <= 64 { count } else { 1 }
+    if 1 <= count && count <= MOST_WORKERS { count } else { 1 }
 }
 
 // The count of nets that is given: from 1 to 100,000.
@@ -264,7 +265,7 @@ fn count_or_one(text: Option<&str>) -> u32
     ensures { result ≡ Words.count_or_one (option_map (λ t. t.now) text.entry) }
 {
     let count = number_or_one(text);
-    if 1 <= count && count <= 100_000 {
+    if 1 <= count && count <= MOST_GENERATED {
         count
     } else {
         1

@@ -2,7 +2,7 @@ use Rattle.std.proofs.Common.{refl, ◌≤◌, length, Err, sym, subst}
 use Rattle.std.proofs.lemmas.Result.{err_from_is_err_and}
 use Rattle.verilog_net.specs.declared.netlist.Netlist.{Netlist}
 use Rattle.link_rules.specs.Bare.{Inputs}
-use Rattle.link_rules.specs.Limits.{most_instances}
+use Rattle.xt_model.specs.Limits.{most_instances}
 use Rattle.link_rules.specs.Link.{Links}
 use Rattle.design_link.proofs.LinkLaws.{counts_kept}
 use Rattle.design_link.proofs.GatherLaws.{circuit_is, few_nets, sink_quantities, wires_count, refused, gathered}
