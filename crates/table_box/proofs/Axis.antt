@@ -16,7 +16,7 @@ within_ends f l x h = (omega (arith, ints, clamps), omega (arith, ints, clamps))
 ends_keep : (f l x : ℤ) → f ≤ℤ x → x ≤ℤ l → int_max f (int_min x l) ≡ x
 ends_keep f l x h k = omega (arith, ints, clamps)
 
-ends_mono : (f l x y : ℤ) → x ≤ℤ y → int_max f (int_min x l) ≤ℤ int_max f (int_min y l)
+pub ends_mono : (f l x y : ℤ) → x ≤ℤ y → int_max f (int_min x l) ≤ℤ int_max f (int_min y l)
 ends_mono f l x y h = omega (arith, ints, clamps)
 
 pub ends_at_least : (f l g x : ℤ) → g ≤ℤ x → g ≤ℤ l → g ≤ℤ int_max f (int_min x l)

@@ -24,7 +24,7 @@ area_positive (pos w) (pos h) p q = let k : 1 * 1 ≤ w * h = mul-le 1 1 w h (om
 area_positive (pos w) (negsuc h) p q = absurd (omega (arith, ints))
 area_positive (negsuc w) h p q = absurd (omega (arith, ints))
 
-fraction_mono : (x y area : ℤ) → pos 0 <ℤ area → x ≤ℤ y → int_div_euclid x area ≤ℤ int_div_euclid y area
+pub fraction_mono : (x y area : ℤ) → pos 0 <ℤ area → x ≤ℤ y → int_div_euclid x area ≤ℤ int_div_euclid y area
 fraction_mono x y (pos n) p h = floor_mono x y n (omega (arith, ints)) h
 fraction_mono x y (negsuc n) p h = absurd (omega (arith, ints))
 
@@ -57,7 +57,7 @@ floor_between m k p q area w ba aa bx ax bb ab positive h g ea ex eb start end =
     record { low = omega (arith, ints, x, y, s0, s1, e0, e1); high = omega (arith, ints, x, y, s0, s1, e0, e1) })
 
 -- at an end of the distance only one number has weight
-fraction_scaled : (q w h : ℤ) → pos 0 <ℤ w → pos 0 <ℤ h → int_div_euclid (q *ℤ w) (w *ℤ h) ≡ int_div_euclid q h
+pub fraction_scaled : (q w h : ℤ) → pos 0 <ℤ w → pos 0 <ℤ h → int_div_euclid (q *ℤ w) (w *ℤ h) ≡ int_div_euclid q h
 fraction_scaled q (pos w) (pos h) p k =
     let e : w * h ≡ h * w = omega arith in
     ap (λ n. int_div_euclid (q *ℤ pos w) (pos n)) e ∙ floor_scaled q h w (omega (arith, ints))
@@ -76,7 +76,7 @@ upper_end p q w h b r s e = ap (λ n. int_div_euclid n (w *ℤ h)) (only_second 
 lower_end : (p q w h a : ℤ) → pos 0 <ℤ w → pos 0 <ℤ h → a ≡ pos 0 → int_div_euclid (mixed p q w a) (w *ℤ h) ≡ int_div_euclid p h
 lower_end p q w h a r s e = ap (λ n. int_div_euclid n (w *ℤ h)) (only_first p q w a e) ∙ fraction_scaled p w h r s
 
-swapped_area : (n w h : ℤ) → int_div_euclid n (w *ℤ h) ≡ int_div_euclid n (h *ℤ w)
+pub swapped_area : (n w h : ℤ) → int_div_euclid n (w *ℤ h) ≡ int_div_euclid n (h *ℤ w)
 swapped_area n w h = ap (int_div_euclid n) (*ℤ_comm w h)
 
 pub mul_assoc : (a b c : ℤ) → (a *ℤ b) *ℤ c ≡ a *ℤ (c *ℤ b)
@@ -87,7 +87,7 @@ mul_assoc a b c = ap (λ n. n *ℤ c) (*ℤ_comm a b) ∙ (mul_swap b a c ∙ (a
 abbrev pub along_loads : TableParts → ℕ → Span → ℤ
 along_loads t row c = mixed (cell_value t row c.first) (cell_value t row c.second) c.below c.above
 
-value_by_slew : (t : TableParts) (s c : Span) → value_in t s c ≡ int_div_euclid (mixed (along_loads t s.first c) (along_loads t s.second c) s.below s.above) (s.width *ℤ c.width)
+pub value_by_slew : (t : TableParts) (s c : Span) → value_in t s c ≡ int_div_euclid (mixed (along_loads t s.first c) (along_loads t s.second c) s.below s.above) (s.width *ℤ c.width)
 value_by_slew t s c = ap (λ n. int_div_euclid n (s.width *ℤ c.width))
     (corners_by_first (cell_value t s.first c.first) (cell_value t s.first c.second) (cell_value t s.second c.first) (cell_value t s.second c.second) s.below s.above c.below c.above)
 

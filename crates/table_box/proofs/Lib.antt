@@ -7,3 +7,4 @@ mod Widths
 mod Places
 mod Sweeps
 mod Small
+mod Rising

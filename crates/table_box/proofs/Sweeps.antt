@@ -124,6 +124,24 @@ module _ (t : TableParts) (ok : IsTable t) (s : Span) (sound : IsSpan (length t.
         same_number h (row_greatest t s c0 c1) so_far.greatest (greatest_along_least (λ x. value_in t s (span_of t.loads x)) c0 c1 h ordered (λ c p q. (each c p q).high)),
       )
 
+  -- where the values of the lines lie between those at the ends, and the first end is not above the second
+  pub row_of_rising : (first last : ℕ) (l h : ℤ) → ReachUpTo t.loads c0 first → LieBelow t.loads c1 last
+      → l ≡ value_in t s (span_of t.loads c0) → h ≡ value_in t s (span_of t.loads c1) → l ≤ℤ h
+      → ((j : ℕ) → first ≤ j → j < last → IsBetween l h (value_in t s (span_of t.loads (get_or t.loads j (pos 0)))))
+      → (l ≡ row_least t s c0 c1) × (h ≡ row_greatest t s c0 c1)
+  row_of_rising first last l h below above e f rises lines =
+      let refl_low : c0 ≤ℤ c0 = omega (arith, ints) in let refl_high : c1 ≤ℤ c1 = omega (arith, ints) in
+      let a = row_below c0 refl_low ordered in let b = row_above c1 ordered refl_high in
+      row_done first last last l h below above (omega arith) (record {
+        least = omega (arith, ints, a, e);
+        greatest = omega (arith, ints, b, f);
+        covered = record {
+          start = exactly _ _ _ (omega (arith, ints, e)) (omega (arith, ints, e, rises));
+          end = exactly _ _ _ (omega (arith, ints, f, rises)) (omega (arith, ints, f));
+          lines = lines;
+        };
+      })
+
 -- ---- a box
 -- the numbers l and h are values of the box, or between some, and hold those of the rows that were looked at between them
 pub record IsBoxSoFar (t : TableParts) (s0 s1 c0 c1 : ℤ) (first i : ℕ) (l h : ℤ) : Type 0 where

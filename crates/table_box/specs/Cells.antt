@@ -1,5 +1,5 @@
 -- Cells of a table whose sums fit in 64 bits.
-use Rattle.std.specs.Prelude.{◌≡◌, ◌-◌, ◌^◌, ℤ, pos, neg_ℤ, ◌+ℤ◌, ◌*ℤ◌, ◌≤ℤ◌, length}
+use Rattle.std.specs.Prelude.{◌≡◌, ◌+◌, ◌-◌, ◌^◌, ◌≤◌, ◌⊎◌, IsTrue, ℤ, pos, neg_ℤ, ◌+ℤ◌, ◌*ℤ◌, ◌≤ℤ◌, length}
 use Rattle.xt_model.specs.Tables.{IsTable}
 use Rattle.xt_meaning.specs.Lookup.{Span, cell_value}
 use Rattle.table_box.specs.declared.cell.Cell.{Cell}
@@ -50,3 +50,22 @@ pub record AreEnds (k l : Cell) (r : Stretch) : Type 0 where
   pub loads : IsStretch k.table.now.loads r
   pub start : AreAlike (span_in k.load.now) (span_in r.start)
   pub end : AreAlike (span_in l.load.now) (span_in r.end)
+
+-- no number at a corner is greater than one at a greater slew or load
+pub record IsRising (k : Cell) : Type 0 where
+  pub first_row : k.first_first ≤ℤ k.first_second
+  pub second_row : k.second_first ≤ℤ k.second_second
+  pub first_column : k.first_first ≤ℤ k.second_first
+  pub second_column : k.first_second ≤ℤ k.second_second
+
+-- the ends lie in neighbouring cells, and no line lies between them but that between the cells
+pub record AreNeighbours (r : Stretch) : Type 0 where
+  pub line : r.start.second ≡ r.end.first
+  pub first : r.first ≡ r.end.first
+  pub last : r.last ≤ r.first + 1
+
+-- two cells that rise, and are one or neighbours
+pub record AreRising (k l : Cell) (r : Stretch) : Type 0 where
+  pub first : IsRising k
+  pub last : IsRising l
+  pub near : IsTrue r.inside ⊎ AreNeighbours r

@@ -2,13 +2,13 @@
 
 ghost use Rattle.std.specs.Prelude.{◌≡◌, ◌^◌, ℤ, ◌*ℤ◌, ◌≤ℤ◌, ◌<ℤ◌, pos, length, IsTrue, IfSome};
 ghost use Rattle.std.specs.Int.{int_div_euclid};
-ghost use Rattle.xt_model.specs.Tables.{IsTable, IsTableNumber};
+ghost use Rattle.xt_model.specs.Tables.{IsIndex, IsTable, IsTableNumber};
 ghost use Rattle.xt_meaning.specs.Lookup.{span_of, value_in};
 ghost use Rattle.table_box.specs.Spans.{IsSpan, AreAlike, span_in};
 ghost use Rattle.table_box.specs.Stretches.{IsStretch, box_of};
 ghost use Rattle.table_box.specs.Rows.{row_least, row_greatest};
 ghost use Rattle.table_box.specs.Mixes.{mixed};
-ghost use Rattle.table_box.specs.Cells.{AreEnds, AreMixable, IsAtMost, IsSmallCell};
+ghost use Rattle.table_box.specs.Cells.{AreEnds, AreMixable, AreNeighbours, AreRising, IsAtMost, IsRising, IsSmallCell};
 ghost use Rattle.table_box.specs.Ranges.{IsRange};
 
 use crate::place::Place;
@@ -57,6 +57,16 @@ fn are_at_most(a: i64, b: i64, most: i64) -> bool
     ensures { IsTrue result → (IsAtMost most a) × (IsAtMost most b) }
 {
     is_at_most(a, most) && is_at_most(b, most)
+}
+
+/// Whether two numbers lie in neighbouring cells of an axis, and no line between them but that between the cells.
+fn are_neighbours(index: &[i64], ends: &Stretch) -> bool
+    requires index { IsIndex index.now }
+    requires ends { IsStretch index.now ends.now }
+    ensures { IsTrue result → AreNeighbours ends.now }
+{
+    let line = ends.end.first;
+    ends.start.second == line && ends.first == line && ends.last <= ends.first + 1
 }
 
 /// A cell of a table with room for its sums in 64 bits: a place in it on each axis, its area, and the numbers at its
@@ -160,8 +170,10 @@ impl<'a> Cell<'a> {
         range
     }
 
-    /// The least and the greatest value over several slews in the cell, and several loads from it to another.
-    fn range(&self, last: &Cell, slews: &Stretch, loads: &Stretch) -> (i64, i64)
+    /// The least and the greatest value over several slews in the cell, and several loads from it to another. It looks
+    /// at the ends and at the lines between them.
+    #[inline(never)]
+    fn swept_range(&self, last: &Cell, slews: &Stretch, loads: &Stretch) -> (i64, i64)
         requires ends { AreEnds self.now last.now loads.now }
         requires slews { IsStretch self.now.table.now.slews slews.now }
         requires inside { IsTrue slews.now.inside }
@@ -174,19 +186,44 @@ impl<'a> Cell<'a> {
         }
         joined(start, self.row_range(last, &slews.end, loads))
     }
-}
 
-/// The cell of the greatest of several loads, where that of the least is `first`.
-fn last_cell<'a>(first: &Cell<'a>, loads: &'a Stretch) -> Option<Cell<'a>>
-    requires small { IsSmallCell first.now }
-    requires loads { IsStretch first.now.table.now.loads loads.now }
-    requires start { first.now.load.now ≡ loads.now.start }
-    ensures { IfSome result (λ last. AreEnds first.now last loads.now) }
-{
-    if loads.inside {
-        return Some(*first);
+    /// Whether no number at a corner is greater than one at a greater slew or load.
+    fn is_rising(&self) -> bool
+        ensures { IsTrue result → IsRising self.now }
+    {
+        self.first_first <= self.first_second
+            && self.second_first <= self.second_second
+            && self.first_first <= self.second_first
+            && self.first_second <= self.second_second
     }
-    Cell::of(first.table, first.slew, &loads.end)
+
+    /// Whether the values rise with the slew and with the load, over several loads from this cell to another: where both
+    /// cells rise, and are one or neighbours.
+    fn rises_to(&self, last: &Cell, loads: &Stretch) -> bool
+        requires ends { AreEnds self.now last.now loads.now }
+        ensures { IsTrue result → AreRising self.now last.now loads.now }
+    {
+        let near = loads.inside || are_neighbours(self.table.loads(), loads);
+        near && self.is_rising() && last.is_rising()
+    }
+
+    /// The least and the greatest value over several slews in the cell, and several loads from it to another: where the
+    /// values rise, those at the least and at the greatest slew and load.
+    #[inline(always)]
+    fn range(&self, last: &Cell, slews: &Stretch, loads: &Stretch) -> (i64, i64)
+        requires ends { AreEnds self.now last.now loads.now }
+        requires slews { IsStretch self.now.table.now.slews slews.now }
+        requires inside { IsTrue slews.now.inside }
+        requires start { self.now.slew.now ≡ slews.now.start }
+        ensures { IsRange self.now.table.now (box_of slews.now loads.now) result }
+    {
+        if self.rises_to(last, loads) {
+            let least = self.value(&slews.start, &loads.start);
+            let greatest = last.value(&slews.end, &loads.end);
+            return (least, greatest);
+        }
+        self.swept_range(last, slews, loads)
+    }
 }
 
 /// The least and the greatest value over several slews and several loads, where the slews lie in one cell, and 64 bits
@@ -201,6 +238,9 @@ pub(crate) fn cell_range(table: &Table, slews: &Stretch, loads: &Stretch) -> Opt
         return None;
     }
     let first = Cell::of(table, &slews.start, &loads.start)?;
-    let last = last_cell(&first, loads)?;
+    if loads.inside {
+        return Some(first.range(&first, slews, loads));
+    }
+    let last = Cell::of(table, &slews.start, &loads.end)?;
     Some(first.range(&last, slews, loads))
 }

@@ -1,40 +1,31 @@
--- No line lies between the slews either.
-use Rattle.std.proofs.Common.{◌≡◌, ◌∙◌, ap, ℤ, arith}
-use Rattle.std.specs.Int.{int_min, int_max}
-use Rattle.std.proofs.lemmas.Int.{ints, clamps}
-use Rattle.xt_meaning.specs.Lookup.{span_of}
-use Rattle.table_box.specs.Rows.{row_least, row_greatest}
+-- Where the values rise, the least and the greatest stand at the ends.
+use Rattle.std.proofs.Common.{◌≡◌, ◌∙◌, refl, to_z-of_z}
+use Rattle.xt_meaning.specs.Lookup.{value_in}
+use Rattle.table_box.specs.Spans.{span_in}
+use Rattle.table_box.proofs.Places.{number_word}
 use Rattle.table_box.proofs.Small.{one_cell}
-use Rattle.table_box.proofs.Sweeps.{box_of_ends}
+use Rattle.table_box.proofs.Rising.{rising_range}
 use Rattle.table_box.proofs.cell.Cell.range.Goals as goal
 
-alone : (a : ℤ) → (a ≡ int_min a a) × (a ≡ int_max a a)
-alone a = (omega (arith, ints, clamps), omega (arith, ints, clamps))
-
-pub returns-then-slews : goal.returns-then-slews
-returns-then-slews c =
-    let k = c.args.self.now in let r = c.requires.slews in let l = c.requires.ends.loads in let small = c.requires.ends.first in
-    let e = c.row_range-start.ensures in let x = c.row_range-start.result in
-    let at_from = r.start in let at_to = r.start ∙ ap (span_of k.table.now.slews) (r.single c.if-slews.true) in
-    box_of_ends k.table.now small.table _ _ _ _ r.ordered l.ordered _ _ x.0 x.1 x.0 x.1 x.0 x.1 r.first r.last (r.none_between c.requires.inside)
-    (e.least ∙ ap (λ s. row_least k.table.now s c.args.loads.now.from c.args.loads.now.to) at_from)
-    (e.greatest ∙ ap (λ s. row_greatest k.table.now s c.args.loads.now.from c.args.loads.now.to) at_from)
-    (e.least ∙ ap (λ s. row_least k.table.now s c.args.loads.now.from c.args.loads.now.to) at_to)
-    (e.greatest ∙ ap (λ s. row_greatest k.table.now s c.args.loads.now.from c.args.loads.now.to) at_to)
-    (alone x.0).0 (alone x.1).1
-
-pub row_range-requires-clause-slew : goal.row_range-requires-clause-slew
-row_range-requires-clause-slew c =
+pub value-least-requires-clause-slew : goal.value-least-requires-clause-slew
+value-least-requires-clause-slew c =
     let r = c.requires.slews in
-    rw c.requires.start (one_cell _ _ _ _ _ c.requires.ends.first.table.slews r.start r.end (r.one_cell c.requires.inside))
+    rw c.requires.start (one_cell _ _ _ _ _ c.requires.ends.first.table.slews r.start r.start refl)
 
-pub returns : goal.returns
-returns c =
-    let k = c.args.self.now in let r = c.requires.slews in let l = c.requires.ends.loads in
-    let e = c.row_range-start.ensures in let f = c.row_range.ensures in let x = c.row_range-start.result in let y = c.row_range.result in
-    box_of_ends k.table.now c.requires.ends.first.table _ _ _ _ r.ordered l.ordered _ _ x.0 x.1 y.0 y.1 c.joined.result.0 c.joined.result.1 r.first r.last (r.none_between c.requires.inside)
-    (e.least ∙ ap (λ s. row_least k.table.now s c.args.loads.now.from c.args.loads.now.to) r.start)
-    (e.greatest ∙ ap (λ s. row_greatest k.table.now s c.args.loads.now.from c.args.loads.now.to) r.start)
-    (f.least ∙ ap (λ s. row_least k.table.now s c.args.loads.now.from c.args.loads.now.to) r.end)
-    (f.greatest ∙ ap (λ s. row_greatest k.table.now s c.args.loads.now.from c.args.loads.now.to) r.end)
-    c.joined.ensures.least c.joined.ensures.greatest
+pub value-least-requires-clause-load : goal.value-least-requires-clause-load
+value-least-requires-clause-load c = c.requires.ends.start
+
+pub value-greatest-requires-clause-slew : goal.value-greatest-requires-clause-slew
+value-greatest-requires-clause-slew c =
+    let r = c.requires.slews in
+    rw (c.requires.ends.slew, c.requires.start) (one_cell _ _ _ _ _ c.requires.ends.first.table.slews r.start r.end (r.one_cell c.requires.inside))
+
+pub value-greatest-requires-clause-load : goal.value-greatest-requires-clause-load
+value-greatest-requires-clause-load c = c.requires.ends.end
+
+pub returns-then-rises_to : goal.returns-then-rises_to
+returns-then-rises_to c =
+    let e = c.value-least.ensures in let f = c.value-greatest.ensures in
+    let greatest : c.value-greatest.result ≡ value_in c.args.self.now.table.now (span_in c.args.slews.now.end) (span_in c.args.loads.now.end) = rw c.requires.ends.table at f.value in
+    rising_range c.args.self.now c.args.last.now c.args.loads.now c.requires.ends (c.if-rises_to.ensures refl) c.args.slews.now c.requires.slews c.requires.inside c.requires.start _ _
+    (to_z-of_z (number_word _ e.number) ∙ e.value) (to_z-of_z (number_word _ f.number) ∙ greatest)
