@@ -1,3 +1,4 @@
 pub mod Views
 pub mod Victims
 pub mod Actives
+pub mod Ranges

@@ -12,7 +12,7 @@ mod wire;
 
 pub use active::overlap;
 pub use factor::factors;
-pub use load::load_range;
+pub use load::{load_range, load_ranges};
 pub use overlaps::Overlaps;
 pub use victim::Victim;
-pub use wire::wire_range;
+pub use wire::{wire_range, wire_ranges};

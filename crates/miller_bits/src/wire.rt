@@ -4,6 +4,7 @@ ghost use Rattle.xt_model.specs.Limits.{most_couplings, most_factor};
 ghost use Rattle.xt_model.specs.Sound.{HasSink, IsProduct, IsSoundSink};
 ghost use Rattle.xt_meaning.specs.Wires.{elmore_delay, product_sum, wire_delay};
 ghost use Rattle.xt_meaning.specs.Operator.{wire_range};
+ghost use Rattle.miller_bits.specs.Ranges.{IsRangeOfDelays, IsRangeOfProducts};
 ghost use Rattle.miller_bits.specs.Views.{HasVictim, answers_of};
 
 use crate::overlaps::Overlaps;
@@ -41,31 +42,74 @@ fn elmore_delay(quarters: i128) -> i128
     quarters.div_euclid(4_000_000)
 }
 
-/// The base of a sink, and of each coupling its least and its greatest factor times the sink's coefficient, summed,
-/// in quarters.
-fn product_sums<V: Bounds>(victim: &Victim<V>, sink: &SinkPin) -> (i128, i128)
-    requires few { length victim.now.net.couplings ≤ most_couplings }
-    requires sink { IsSoundSink (length victim.now.net.couplings) sink.now }
-    ensures least { result.0 ≡ (pos 4 *ℤ sink.now.base) +ℤ product_sum victim.now.least sink.now.coefs }
-    ensures greatest { result.1 ≡ (pos 4 *ℤ sink.now.base) +ℤ product_sum victim.now.greatest sink.now.coefs }
-    ensures least_natural { pos 0 ≤ℤ result.0 }
-    ensures greatest_natural { pos 0 ≤ℤ result.1 }
-    ensures greatest_small { result.1 ≤ℤ pos (2 ^ 126) }
+/// At two edges of one net, the base of a sink, and of each coupling its least and its greatest factor times the sink's
+/// coefficient, summed, in quarters.
+#[inline(always)]
+fn product_sums<'a, V: Bounds>(
+    a: &Victim<'a, V>,
+    b: &Victim<'a, V>,
+    sink: &SinkPin,
+) -> ((i128, i128), (i128, i128))
+    requires net { b.now.net ≡ a.now.net }
+    requires few { length a.now.net.couplings ≤ most_couplings }
+    requires sink { IsSoundSink (length a.now.net.couplings) sink.now }
+    ensures a_least { result.0.0 ≡ (pos 4 *ℤ sink.now.base) +ℤ product_sum a.now.least sink.now.coefs }
+    ensures a_greatest { result.0.1 ≡ (pos 4 *ℤ sink.now.base) +ℤ product_sum a.now.greatest sink.now.coefs }
+    ensures b_least { result.1.0 ≡ (pos 4 *ℤ sink.now.base) +ℤ product_sum b.now.least sink.now.coefs }
+    ensures b_greatest { result.1.1 ≡ (pos 4 *ℤ sink.now.base) +ℤ product_sum b.now.greatest sink.now.coefs }
+    ensures a_range { IsRangeOfProducts result.0 }
+    ensures b_range { IsRangeOfProducts result.1 }
 {
-    let mut least = in_quarters(sink.base);
-    let mut greatest = least;
+    let base = in_quarters(sink.base);
+    let mut a_least = base;
+    let mut a_greatest = base;
+    let mut b_least = base;
+    let mut b_greatest = base;
     for (index, coef) in sink.coefs.as_slice().iter().enumerate() {
-        let (low, high) = victim.factors(index);
-        least += scaled(low, *coef);
-        greatest += scaled(high, *coef);
+        let (a_low, a_high) = a.factors(index);
+        let (b_low, b_high) = b.factors(index);
+        a_least += scaled(a_low, *coef);
+        a_greatest += scaled(a_high, *coef);
+        b_least += scaled(b_low, *coef);
+        b_greatest += scaled(b_high, *coef);
     }
-    (least, greatest)
+    ((a_least, a_greatest), (b_least, b_greatest))
+}
+
+/// The least and the greatest delay in fs of two sums in quarters of a milliohm times an attofarad.
+fn delays_of(quarters: (i128, i128)) -> (i128, i128)
+    requires { IsRangeOfProducts quarters }
+    ensures least { result.0 ≡ elmore_delay quarters.0 }
+    ensures greatest { result.1 ≡ elmore_delay quarters.1 }
+    ensures range { IsRangeOfDelays result }
+{
+    (elmore_delay(quarters.0), elmore_delay(quarters.1))
+}
+
+/// At two edges of one net, the least and the greatest delay in fs of the wire to one of its sinks, with every coupling at
+/// its least and at its greatest factor (Elmore 1948). The quarters are summed before they are rounded down. Linear in
+/// the couplings; the windows of each aggressor are looked at once for both edges.
+#[inline(always)]
+pub fn wire_ranges<'a, V: Bounds>(
+    a: &Victim<'a, V>,
+    b: &Victim<'a, V>,
+    sink: usize,
+) -> ((i128, i128), (i128, i128))
+    requires net { b.now.net ≡ a.now.net }
+    requires sink { sink < length a.now.net.sinks }
+    ensures a_least { result.0.0 ≡ wire_delay a.now.least a.now.net sink }
+    ensures a_greatest { result.0.1 ≡ wire_delay a.now.greatest a.now.net sink }
+    ensures b_least { result.1.0 ≡ wire_delay b.now.least b.now.net sink }
+    ensures b_greatest { result.1.1 ≡ wire_delay b.now.greatest b.now.net sink }
+    ensures a_range { IsRangeOfDelays result.0 }
+    ensures b_range { IsRangeOfDelays result.1 }
+{
+    let (a_sums, b_sums) = product_sums(a, b, &a.net.sinks.as_slice()[sink]);
+    (delays_of(a_sums), delays_of(b_sums))
 }
 
 impl<'a, V: Bounds> Victim<'a, V> {
-    /// The least and the greatest delay in fs of the wire to one of its net's sinks, with every coupling at its least
-    /// and at its greatest factor (Elmore 1948). The quarters are summed before they are rounded down. Linear in the
-    /// couplings.
+    /// The least and the greatest delay in fs of the wire to one of its net's sinks, as `wire_ranges` gives them.
     pub fn wire_range(&self, sink: usize) -> (i128, i128)
         requires { sink < length self.now.net.sinks }
         ensures least { result.0 ≡ wire_delay self.now.least self.now.net sink }
@@ -74,8 +118,7 @@ impl<'a, V: Bounds> Victim<'a, V> {
         ensures greatest_natural { pos 0 ≤ℤ result.1 }
         ensures greatest_small { result.1 ≤ℤ pos (2 ^ 105) }
     {
-        let (least, greatest) = product_sums(self, &self.net.sinks.as_slice()[sink]);
-        (elmore_delay(least), elmore_delay(greatest))
+        wire_ranges(self, self, sink).0
     }
 }
 

@@ -1,25 +1,77 @@
-use Rattle.std.proofs.Common.{arith, pos}
+use Rattle.std.proofs.Common.{◌≡◌, ◌∙◌, ap, arith, ℤ, pos, to_z, of_z, w64}
 use Rattle.std.proofs.lemmas.Int.{ints}
 use Rattle.xt_model.specs.declared.net.Coupling.{Coupling}
-use Rattle.miller_bits.proofs.Sums.{cap_turn, cap_stored, stored_64, cap_at}
+use Rattle.xt_model.specs.Sound.{IsCap}
+use Rattle.xt_meaning.specs.Wires.{cap_sum}
+use Rattle.miller_bits.proofs.Sums.{cap_end, cap_turn, cap_stored, stored_64, cap_at}
 use Rattle.miller_bits.proofs.load.cap_sums.Goals as goal
 
 abbrev no_coupling : Coupling
 no_coupling = record { to = record { 0 = 0 }; cap = pos 0 }
 
+-- a capacitance, as it is stored
+stored : (x : ℤ) → IsCap x → IsCap (to_z w64 (of_z w64 x))
+stored x k = record { least = omega (arith, ints, k.least, k.most); most = omega (arith, ints, k.least, k.most) }
+
+pub scaled-a_least-requires-clause-cap : goal.scaled-a_least-requires-clause-cap
+scaled-a_least-requires-clause-cap g c =
+    let v = c.a.inside in
+    stored _ (cap_at v.design.now v.number.0 v.net.now _ c.loop-index.index no_coupling c.a.invariant.sound c.as_slice-coupling-items.ensures c.loop-index-test.true)
+
+pub scaled-a_greatest-requires-clause-cap : goal.scaled-a_greatest-requires-clause-cap
+scaled-a_greatest-requires-clause-cap g c =
+    let v = c.a.inside in
+    stored _ (cap_at v.design.now v.number.0 v.net.now _ c.loop-index.index no_coupling c.a.invariant.sound c.as_slice-coupling-items.ensures c.loop-index-test.true)
+
+pub scaled-b_least-requires-clause-cap : goal.scaled-b_least-requires-clause-cap
+scaled-b_least-requires-clause-cap g c =
+    let v = c.a.inside in
+    stored _ (cap_at v.design.now v.number.0 v.net.now _ c.loop-index.index no_coupling c.a.invariant.sound c.as_slice-coupling-items.ensures c.loop-index-test.true)
+
+pub scaled-b_greatest-requires-clause-cap : goal.scaled-b_greatest-requires-clause-cap
+scaled-b_greatest-requires-clause-cap g c =
+    let v = c.a.inside in
+    stored _ (cap_at v.design.now v.number.0 v.net.now _ c.loop-index.index no_coupling c.a.invariant.sound c.as_slice-coupling-items.ensures c.loop-index-test.true)
+
 pub loop-index-preserved : goal.loop-index-preserved
 loop-index-preserved g c =
-    let v = c.victim.inside in
-    let s = c.victim.invariant.sound in
+    let v = c.a.inside in
+    let s = c.a.invariant.sound in
     let ks = c.as_slice-coupling-items.result.now in
     let same = c.as_slice-coupling-items.ensures in
-    let factors = c.factors-low.ensures in
-    let k = cap_at v.design.now v.number.0 v.net.now _ c.loop-index.index no_coupling s same c.loop-index-test.true in
-    let t = cap_turn v.design.now v.number.0 v.net.now c.args.victim.now.least ks c.loop-index.index no_coupling _ c.scaled-least.result _ _ s
-    factors.few_least same c.loop-index-test.true factors.least (omega (arith, ints, k.least, k.most)) c.scaled-least.ensures.value c.loop-index.invariant.least in
-    let u = cap_turn v.design.now v.number.0 v.net.now c.args.victim.now.greatest ks c.loop-index.index no_coupling _ c.scaled-greatest.result _ _ s
-    factors.few_greatest same c.loop-index-test.true factors.greatest (omega (arith, ints, k.least, k.most)) c.scaled-greatest.ensures.value c.loop-index.invariant.greatest in
+    let i = c.loop-index.index in
+    let k = cap_at v.design.now v.number.0 v.net.now _ i no_coupling s same c.loop-index-test.true in
+    let a_least = cap_turn v.design.now v.number.0 v.net.now c.args.a.now.least ks i no_coupling _ c.scaled-a_least.result _ _ s
+    c.factors-a_low.ensures.few_least same c.loop-index-test.true c.factors-a_low.ensures.least (omega (arith, ints, k.least, k.most)) c.scaled-a_least.ensures.value c.loop-index.invariant.a_least in
+    let a_greatest = cap_turn v.design.now v.number.0 v.net.now c.args.a.now.greatest ks i no_coupling _ c.scaled-a_greatest.result _ _ s
+    c.factors-a_low.ensures.few_greatest same c.loop-index-test.true c.factors-a_low.ensures.greatest (omega (arith, ints, k.least, k.most)) c.scaled-a_greatest.ensures.value c.loop-index.invariant.a_greatest in
+    let b_least = cap_turn v.design.now v.number.0 v.net.now c.args.b.now.least ks i no_coupling _ c.scaled-b_least.result _ _ s
+    c.factors-b_low.ensures.few_least same c.loop-index-test.true c.factors-b_low.ensures.least (omega (arith, ints, k.least, k.most)) c.scaled-b_least.ensures.value c.loop-index.invariant.b_least in
+    let b_greatest = cap_turn v.design.now v.number.0 v.net.now c.args.b.now.greatest ks i no_coupling _ c.scaled-b_greatest.result _ _ s
+    c.factors-b_low.ensures.few_greatest same c.loop-index-test.true c.factors-b_low.ensures.greatest (omega (arith, ints, k.least, k.most)) c.scaled-b_greatest.ensures.value c.loop-index.invariant.b_greatest in
     record {
-      least = cap_stored _ _ _ _ _ (stored_64 _ _ c.scaled-least.ensures.low c.scaled-least.ensures.high t.low t.high) t;
-      greatest = cap_stored _ _ _ _ _ (stored_64 _ _ c.scaled-greatest.ensures.low c.scaled-greatest.ensures.high u.low u.high) u;
+      a_least = cap_stored _ _ _ _ _ (stored_64 _ _ c.scaled-a_least.ensures.low c.scaled-a_least.ensures.high a_least.low a_least.high) a_least;
+      a_greatest = cap_stored _ _ _ _ _ (stored_64 _ _ c.scaled-a_greatest.ensures.low c.scaled-a_greatest.ensures.high a_greatest.low a_greatest.high) a_greatest;
+      b_least = cap_stored _ _ _ _ _ (stored_64 _ _ c.scaled-b_least.ensures.low c.scaled-b_least.ensures.high b_least.low b_least.high) b_least;
+      b_greatest = cap_stored _ _ _ _ _ (stored_64 _ _ c.scaled-b_greatest.ensures.low c.scaled-b_greatest.ensures.high b_greatest.low b_greatest.high) b_greatest;
     }
+
+pub returns-clause-a_least : goal.returns-clause-a_least
+returns-clause-a_least g c =
+    let is : c.as_slice-coupling-items.result.now ≡ c.args.a.now.net.couplings = rw (← c.a.view_is) c.as_slice-coupling-items.ensures in
+    cap_end _ _ _ _ c.loop-index-test.false c.loop-index.invariant.a_least ∙ ap (cap_sum c.args.a.now.least) is
+
+pub returns-clause-a_greatest : goal.returns-clause-a_greatest
+returns-clause-a_greatest g c =
+    let is : c.as_slice-coupling-items.result.now ≡ c.args.a.now.net.couplings = rw (← c.a.view_is) c.as_slice-coupling-items.ensures in
+    cap_end _ _ _ _ c.loop-index-test.false c.loop-index.invariant.a_greatest ∙ ap (cap_sum c.args.a.now.greatest) is
+
+pub returns-clause-b_least : goal.returns-clause-b_least
+returns-clause-b_least g c =
+    let is : c.as_slice-coupling-items.result.now ≡ c.args.a.now.net.couplings = rw (← c.a.view_is) c.as_slice-coupling-items.ensures in
+    cap_end _ _ _ _ c.loop-index-test.false c.loop-index.invariant.b_least ∙ ap (cap_sum c.args.b.now.least) is
+
+pub returns-clause-b_greatest : goal.returns-clause-b_greatest
+returns-clause-b_greatest g c =
+    let is : c.as_slice-coupling-items.result.now ≡ c.args.a.now.net.couplings = rw (← c.a.view_is) c.as_slice-coupling-items.ensures in
+    cap_end _ _ _ _ c.loop-index-test.false c.loop-index.invariant.b_greatest ∙ ap (cap_sum c.args.b.now.greatest) is

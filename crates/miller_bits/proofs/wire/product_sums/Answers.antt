@@ -3,45 +3,79 @@ use Rattle.std.proofs.lemmas.Int.{ints}
 use Rattle.miller_bits.proofs.Sums.{sum_turn, sum_stored, sum_end, sum_most, stored_128, coef_stored}
 use Rattle.miller_bits.proofs.wire.product_sums.Goals as goal
 
-pub overflow_add-least : goal.overflow_add-least
-overflow_add-least g c =
-    let t = sum_turn c.args.victim.now.least c.args.sink.now.coefs c.args.sink.now.base c.loop-index.index (pos 0) _ c.scaled-least.result _ _
-    (rw c.as_slice-coef-items.ensures at c.loop-index-test.true) c.factors-low.ensures.least (coef_stored _ _ c.loop-index.index c.requires.sink.coefs c.as_slice-coef-items.ensures c.loop-index-test.true) c.scaled-least.ensures.value c.scaled-least.ensures.low c.scaled-least.ensures.high c.loop-index.invariant.least in
+pub overflow_add-a_least : goal.overflow_add-a_least
+overflow_add-a_least g c =
+    let t = sum_turn c.args.a.now.least c.args.sink.now.coefs c.args.sink.now.base c.loop-index.index (pos 0) _ c.scaled-a_least.result _ _
+    (rw c.as_slice-coef-items.ensures at c.loop-index-test.true) c.factors-a_low.ensures.least (coef_stored _ _ c.loop-index.index c.requires.sink.coefs c.as_slice-coef-items.ensures c.loop-index-test.true) c.scaled-a_least.ensures.value c.scaled-a_least.ensures.low c.scaled-a_least.ensures.high c.loop-index.invariant.a_least in
     let t_most = sum_most _ _ _ _ _ (omega (arith, rw c.as_slice-coef-items.ensures at c.loop-index-test.true, c.requires.sink.count, c.requires.few)) t in
     omega (arith, ints, t.low, t_most)
 
-pub overflow_add-greatest : goal.overflow_add-greatest
-overflow_add-greatest g c =
-    let t = sum_turn c.args.victim.now.greatest c.args.sink.now.coefs c.args.sink.now.base c.loop-index.index (pos 0) _ c.scaled-greatest.result _ _
-    (rw c.as_slice-coef-items.ensures at c.loop-index-test.true) c.factors-low.ensures.greatest (coef_stored _ _ c.loop-index.index c.requires.sink.coefs c.as_slice-coef-items.ensures c.loop-index-test.true) c.scaled-greatest.ensures.value c.scaled-greatest.ensures.low c.scaled-greatest.ensures.high c.loop-index.invariant.greatest in
+pub overflow_add-a_greatest : goal.overflow_add-a_greatest
+overflow_add-a_greatest g c =
+    let t = sum_turn c.args.a.now.greatest c.args.sink.now.coefs c.args.sink.now.base c.loop-index.index (pos 0) _ c.scaled-a_greatest.result _ _
+    (rw c.as_slice-coef-items.ensures at c.loop-index-test.true) c.factors-a_low.ensures.greatest (coef_stored _ _ c.loop-index.index c.requires.sink.coefs c.as_slice-coef-items.ensures c.loop-index-test.true) c.scaled-a_greatest.ensures.value c.scaled-a_greatest.ensures.low c.scaled-a_greatest.ensures.high c.loop-index.invariant.a_greatest in
+    let t_most = sum_most _ _ _ _ _ (omega (arith, rw c.as_slice-coef-items.ensures at c.loop-index-test.true, c.requires.sink.count, c.requires.few)) t in
+    omega (arith, ints, t.low, t_most)
+
+pub overflow_add-b_least : goal.overflow_add-b_least
+overflow_add-b_least g c =
+    let t = sum_turn c.args.b.now.least c.args.sink.now.coefs c.args.sink.now.base c.loop-index.index (pos 0) _ c.scaled-b_least.result _ _
+    (rw c.as_slice-coef-items.ensures at c.loop-index-test.true) c.factors-b_low.ensures.least (coef_stored _ _ c.loop-index.index c.requires.sink.coefs c.as_slice-coef-items.ensures c.loop-index-test.true) c.scaled-b_least.ensures.value c.scaled-b_least.ensures.low c.scaled-b_least.ensures.high c.loop-index.invariant.b_least in
+    let t_most = sum_most _ _ _ _ _ (omega (arith, rw c.as_slice-coef-items.ensures at c.loop-index-test.true, c.requires.sink.count, c.requires.few)) t in
+    omega (arith, ints, t.low, t_most)
+
+pub overflow_add-b_greatest : goal.overflow_add-b_greatest
+overflow_add-b_greatest g c =
+    let t = sum_turn c.args.b.now.greatest c.args.sink.now.coefs c.args.sink.now.base c.loop-index.index (pos 0) _ c.scaled-b_greatest.result _ _
+    (rw c.as_slice-coef-items.ensures at c.loop-index-test.true) c.factors-b_low.ensures.greatest (coef_stored _ _ c.loop-index.index c.requires.sink.coefs c.as_slice-coef-items.ensures c.loop-index-test.true) c.scaled-b_greatest.ensures.value c.scaled-b_greatest.ensures.low c.scaled-b_greatest.ensures.high c.loop-index.invariant.b_greatest in
     let t_most = sum_most _ _ _ _ _ (omega (arith, rw c.as_slice-coef-items.ensures at c.loop-index-test.true, c.requires.sink.count, c.requires.few)) t in
     omega (arith, ints, t.low, t_most)
 
 pub loop-index-preserved : goal.loop-index-preserved
 loop-index-preserved g c =
-    let t = sum_turn c.args.victim.now.least c.args.sink.now.coefs c.args.sink.now.base c.loop-index.index (pos 0) _ c.scaled-least.result _ _
-    (rw c.as_slice-coef-items.ensures at c.loop-index-test.true) c.factors-low.ensures.least (coef_stored _ _ c.loop-index.index c.requires.sink.coefs c.as_slice-coef-items.ensures c.loop-index-test.true) c.scaled-least.ensures.value c.scaled-least.ensures.low c.scaled-least.ensures.high c.loop-index.invariant.least in
-    let t_most = sum_most _ _ _ _ _ (omega (arith, rw c.as_slice-coef-items.ensures at c.loop-index-test.true, c.requires.sink.count, c.requires.few)) t in
-    let u = sum_turn c.args.victim.now.greatest c.args.sink.now.coefs c.args.sink.now.base c.loop-index.index (pos 0) _ c.scaled-greatest.result _ _
-    (rw c.as_slice-coef-items.ensures at c.loop-index-test.true) c.factors-low.ensures.greatest (coef_stored _ _ c.loop-index.index c.requires.sink.coefs c.as_slice-coef-items.ensures c.loop-index-test.true) c.scaled-greatest.ensures.value c.scaled-greatest.ensures.low c.scaled-greatest.ensures.high c.loop-index.invariant.greatest in
-    let u_most = sum_most _ _ _ _ _ (omega (arith, rw c.as_slice-coef-items.ensures at c.loop-index-test.true, c.requires.sink.count, c.requires.few)) u in
+    let a_least = sum_turn c.args.a.now.least c.args.sink.now.coefs c.args.sink.now.base c.loop-index.index (pos 0) _ c.scaled-a_least.result _ _
+    (rw c.as_slice-coef-items.ensures at c.loop-index-test.true) c.factors-a_low.ensures.least (coef_stored _ _ c.loop-index.index c.requires.sink.coefs c.as_slice-coef-items.ensures c.loop-index-test.true) c.scaled-a_least.ensures.value c.scaled-a_least.ensures.low c.scaled-a_least.ensures.high c.loop-index.invariant.a_least in
+    let a_least_most = sum_most _ _ _ _ _ (omega (arith, rw c.as_slice-coef-items.ensures at c.loop-index-test.true, c.requires.sink.count, c.requires.few)) a_least in
+    let a_greatest = sum_turn c.args.a.now.greatest c.args.sink.now.coefs c.args.sink.now.base c.loop-index.index (pos 0) _ c.scaled-a_greatest.result _ _
+    (rw c.as_slice-coef-items.ensures at c.loop-index-test.true) c.factors-a_low.ensures.greatest (coef_stored _ _ c.loop-index.index c.requires.sink.coefs c.as_slice-coef-items.ensures c.loop-index-test.true) c.scaled-a_greatest.ensures.value c.scaled-a_greatest.ensures.low c.scaled-a_greatest.ensures.high c.loop-index.invariant.a_greatest in
+    let a_greatest_most = sum_most _ _ _ _ _ (omega (arith, rw c.as_slice-coef-items.ensures at c.loop-index-test.true, c.requires.sink.count, c.requires.few)) a_greatest in
+    let b_least = sum_turn c.args.b.now.least c.args.sink.now.coefs c.args.sink.now.base c.loop-index.index (pos 0) _ c.scaled-b_least.result _ _
+    (rw c.as_slice-coef-items.ensures at c.loop-index-test.true) c.factors-b_low.ensures.least (coef_stored _ _ c.loop-index.index c.requires.sink.coefs c.as_slice-coef-items.ensures c.loop-index-test.true) c.scaled-b_least.ensures.value c.scaled-b_least.ensures.low c.scaled-b_least.ensures.high c.loop-index.invariant.b_least in
+    let b_least_most = sum_most _ _ _ _ _ (omega (arith, rw c.as_slice-coef-items.ensures at c.loop-index-test.true, c.requires.sink.count, c.requires.few)) b_least in
+    let b_greatest = sum_turn c.args.b.now.greatest c.args.sink.now.coefs c.args.sink.now.base c.loop-index.index (pos 0) _ c.scaled-b_greatest.result _ _
+    (rw c.as_slice-coef-items.ensures at c.loop-index-test.true) c.factors-b_low.ensures.greatest (coef_stored _ _ c.loop-index.index c.requires.sink.coefs c.as_slice-coef-items.ensures c.loop-index-test.true) c.scaled-b_greatest.ensures.value c.scaled-b_greatest.ensures.low c.scaled-b_greatest.ensures.high c.loop-index.invariant.b_greatest in
+    let b_greatest_most = sum_most _ _ _ _ _ (omega (arith, rw c.as_slice-coef-items.ensures at c.loop-index-test.true, c.requires.sink.count, c.requires.few)) b_greatest in
     record {
-      least = sum_stored _ _ _ _ _ _ (stored_128 _ _ c.scaled-least.ensures.low c.scaled-least.ensures.high t.low t_most) t;
-      greatest = sum_stored _ _ _ _ _ _ (stored_128 _ _ c.scaled-greatest.ensures.low c.scaled-greatest.ensures.high u.low u_most) u;
+      a_least = sum_stored _ _ _ _ _ _ (stored_128 _ _ c.scaled-a_least.ensures.low c.scaled-a_least.ensures.high a_least.low a_least_most) a_least;
+      a_greatest = sum_stored _ _ _ _ _ _ (stored_128 _ _ c.scaled-a_greatest.ensures.low c.scaled-a_greatest.ensures.high a_greatest.low a_greatest_most) a_greatest;
+      b_least = sum_stored _ _ _ _ _ _ (stored_128 _ _ c.scaled-b_least.ensures.low c.scaled-b_least.ensures.high b_least.low b_least_most) b_least;
+      b_greatest = sum_stored _ _ _ _ _ _ (stored_128 _ _ c.scaled-b_greatest.ensures.low c.scaled-b_greatest.ensures.high b_greatest.low b_greatest_most) b_greatest;
     }
 
-pub returns-clause-least : goal.returns-clause-least
-returns-clause-least g c = sum_end _ _ _ _ _ (rw c.as_slice-coef-items.ensures at c.loop-index-test.false) c.loop-index.invariant.least
+pub returns-clause-a_least : goal.returns-clause-a_least
+returns-clause-a_least g c = sum_end _ _ _ _ _ (rw c.as_slice-coef-items.ensures at c.loop-index-test.false) c.loop-index.invariant.a_least
 
-pub returns-clause-greatest : goal.returns-clause-greatest
-returns-clause-greatest g c = sum_end _ _ _ _ _ (rw c.as_slice-coef-items.ensures at c.loop-index-test.false) c.loop-index.invariant.greatest
+pub returns-clause-a_greatest : goal.returns-clause-a_greatest
+returns-clause-a_greatest g c = sum_end _ _ _ _ _ (rw c.as_slice-coef-items.ensures at c.loop-index-test.false) c.loop-index.invariant.a_greatest
 
-pub returns-clause-least_natural : goal.returns-clause-least_natural
-returns-clause-least_natural g c = c.loop-index.invariant.least.low
+pub returns-clause-b_least : goal.returns-clause-b_least
+returns-clause-b_least g c = sum_end _ _ _ _ _ (rw c.as_slice-coef-items.ensures at c.loop-index-test.false) c.loop-index.invariant.b_least
 
-pub returns-clause-greatest_natural : goal.returns-clause-greatest_natural
-returns-clause-greatest_natural g c = c.loop-index.invariant.greatest.low
+pub returns-clause-b_greatest : goal.returns-clause-b_greatest
+returns-clause-b_greatest g c = sum_end _ _ _ _ _ (rw c.as_slice-coef-items.ensures at c.loop-index-test.false) c.loop-index.invariant.b_greatest
 
-pub returns-clause-greatest_small : goal.returns-clause-greatest_small
-returns-clause-greatest_small g c =
-    sum_most _ _ _ c.loop-index.index _ (omega (arith, rw c.as_slice-coef-items.ensures at c.loop-index.auto.index-end, c.requires.sink.count, c.requires.few)) c.loop-index.invariant.greatest
+pub returns-clause-a_range : goal.returns-clause-a_range
+returns-clause-a_range g c = record {
+  least_natural = c.loop-index.invariant.a_least.low;
+  greatest_natural = c.loop-index.invariant.a_greatest.low;
+  greatest_small =
+      sum_most _ _ _ c.loop-index.index _ (omega (arith, rw c.as_slice-coef-items.ensures at c.loop-index.auto.index-end, c.requires.sink.count, c.requires.few)) c.loop-index.invariant.a_greatest;
+}
+
+pub returns-clause-b_range : goal.returns-clause-b_range
+returns-clause-b_range g c = record {
+  least_natural = c.loop-index.invariant.b_least.low;
+  greatest_natural = c.loop-index.invariant.b_greatest.low;
+  greatest_small =
+      sum_most _ _ _ c.loop-index.index _ (omega (arith, rw c.as_slice-coef-items.ensures at c.loop-index.auto.index-end, c.requires.sink.count, c.requires.few)) c.loop-index.invariant.b_greatest;
+}
