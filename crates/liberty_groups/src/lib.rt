@@ -14,6 +14,3 @@ pub use forms::MOST_OPEN;
 pub use group::{Attribute, Group};
 pub use reading::read_groups;
 pub use span::Span;
-
-#[cfg(test)]
-mod tests;

@@ -3,8 +3,6 @@
 
 mod names;
 mod table;
-#[cfg(test)]
-mod tests;
 
 pub use names::{Named, Names};
 pub use table::NameTable;

@@ -1,9 +1,15 @@
-//! Tests of the readers of Liberty, Verilog, SPEF and SDC: short texts, and what they mean or why they are refused.
-//! Nothing stands on this crate.
+//! Tests of the readers of Liberty, Verilog, SPEF and SDC, and of the tokens, numbers and names that they stand on:
+//! short texts, and what they mean or why they are refused. Nothing stands on this crate.
 #![tactic(auto)]
 
 #[cfg(test)]
+mod groups;
+#[cfg(test)]
 mod liberty;
+#[cfg(test)]
+mod names;
+#[cfg(test)]
+mod numbers;
 #[cfg(test)]
 mod rows;
 #[cfg(test)]
@@ -11,4 +17,8 @@ mod sdc;
 #[cfg(test)]
 mod spef;
 #[cfg(test)]
+mod tokens;
+#[cfg(test)]
 mod verilog;
+#[cfg(test)]
+mod words;

@@ -406,21 +406,38 @@ fn tables_are_refused_at_their_lines(rt: HostRuntime) -> Result<(), Fail> {
     compare_tables(&rt, rt.alloc(), REFUSED_TABLES)
 }
 
-/// The numbers from 0 to 63.
-const SIXTY_FOUR: &str =
-    "0 1 2 3 4 5 6 7 8 9 10 11 12 13 14 15 16 17 18 19 20 21 22 23 24 25 26 27 28 29 30 31 \
-    32 33 34 35 36 37 38 39 40 41 42 43 44 45 46 47 48 49 50 51 52 53 54 55 56 57 58 59 60 61 62 63";
+/// So many numbers from 0 on.
+fn numbers(alloc: Global, count: u32) -> Result<String, AllocError> {
+    let mut text = String::from_str(alloc, "0")?;
+    for number in 1..count {
+        let next = format!(in alloc; " {number}")?;
+        text.push_str(next.as_str())?;
+    }
+    Ok(text)
+}
+
+/// A library with a table of these numbers that has them as one index too, on line 7, and one number as the other.
+fn index_text(
+    alloc: Global,
+    template: &str,
+    numbers: &str,
+    long: &str,
+    short: &str,
+) -> Result<String, AllocError> {
+    format!(in alloc;
+        "library (x) {{\n{template}cell (A) {{ pin (Z) {{ direction : output; timing () {{ related_pin : B; \
+        rise_transition (scalar) {{ values (1); }} cell_rise (t) {{ values (\"{numbers}\"); \
+        {short} (0);\n{long} (\"{numbers}\"); }} }} }} }} }}"
+    )
+}
 
 #[test]
 fn an_index_has_at_most_64_numbers(rt: HostRuntime) -> Result<(), Fail> {
     let alloc = rt.alloc();
-    for (more, want) in [("", "read"), (" 64", "L4 7")] {
+    for (count, want) in [(64, "read"), (65, "L4 7")] {
+        let numbers = numbers(alloc, count)?;
         for (long, short) in [("index_1", "index_2"), ("index_2", "index_1")] {
-            let text = format!(in alloc;
-                "library (x) {{\n{SLEWS_FIRST}cell (A) {{ pin (Z) {{ direction : output; timing () {{ related_pin : B; \
-                rise_transition (scalar) {{ values (1); }} cell_rise (t) {{ values (\"{SIXTY_FOUR}{more}\"); \
-                {short} (0);\n{long} (\"{SIXTY_FOUR}{more}\"); }} }} }} }} }}"
-            )?;
+            let text = index_text(alloc, SLEWS_FIRST, numbers.as_str(), long, short)?;
             let words = in_words(alloc, read(&rt, alloc, text.as_bytes()))?;
             assert_eq!(rt; words.as_str(), want, "at {long}");
         }

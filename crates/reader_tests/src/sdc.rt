@@ -137,17 +137,29 @@ fn meaning(
     }
 }
 
-/// Compares what the text of each row means for the small netlist, at these scales.
-fn compare(rt: &impl Abort, alloc: Global, time: i32, cap: i32, rows: &str) -> Result<(), Fail> {
-    let netlist = netlist(rt, alloc, NETLIST);
+/// Compares what the text of each row means for a netlist, at these scales.
+fn compare_for(
+    rt: &impl Abort,
+    alloc: Global,
+    netlist: &Netlist,
+    time: i32,
+    cap: i32,
+    rows: &str,
+) -> Result<(), Fail> {
     for row in rows.lines() {
         let (want, text) = at_bar(row)?;
         let text = with_lines(alloc, text)?;
-        let words = meaning(alloc, &netlist, text.as_str(), time, cap)?;
+        let words = meaning(alloc, netlist, text.as_str(), time, cap)?;
         let words = words.as_str().strip_prefix("; ").unwrap_or("nothing");
         assert!(rt; words == want, "{words} at {row}");
     }
     Ok(())
+}
+
+/// Compares what the text of each row means for the small netlist, at these scales.
+fn compare(rt: &impl Abort, alloc: Global, time: i32, cap: i32, rows: &str) -> Result<(), Fail> {
+    let netlist = netlist(rt, alloc, NETLIST);
+    compare_for(rt, alloc, &netlist, time, cap, rows)
 }
 
 #[test]

@@ -1,11 +1,11 @@
 //! Netlists: short texts, worked out by hand.
 
 use crate::rows::{at_bar, in_words, with_lines};
-use std::alloc::Global;
+use std::alloc::{AllocError, Global};
 use std::process::Abort;
 use std::test::*;
-use verilog_net::{Instance, Netlist, PortFound, PortRole, Wire, read_modules, read_netlist};
-use xt_lex::{Code, MOST_BYTES, TextFault};
+use verilog_net::{Name, Netlist, PortFound, Wire, read_modules, read_netlist};
+use xt_lex::MOST_BYTES;
 
 /// Compares what becomes of the text of each row, where several modules are read or one alone.
 fn compare(rt: &impl Abort, alloc: Global, several: bool, rows: &str) -> Result<(), Fail> {
@@ -23,53 +23,6 @@ fn compare(rt: &impl Abort, alloc: Global, several: bool, rows: &str) -> Result<
         assert!(rt; words.as_str() == want, "{words} at {row}");
     }
     Ok(())
-}
-
-/// The one module of a text.
-fn netlist(rt: &impl Abort, alloc: Global, text: &str) -> Netlist {
-    if text.len() > MOST_BYTES {
-        panic!(rt; "too long");
-    }
-    match read_netlist(alloc, text.as_bytes()) {
-        Ok(netlist) => netlist,
-        Err(fault) => panic!(rt; "{fault:?} at {text}"),
-    }
-}
-
-/// Compares the nets of a module: their names, their roles and their ranges.
-fn compare_nets(
-    rt: &impl Abort,
-    netlist: &Netlist,
-    want: &[(&'static str, PortRole, Option<(u32, u32)>)],
-) {
-    let mut number: u32 = 0;
-    for (name, role, range) in want {
-        let Some((found, net)) = netlist.nets.get(number) else {
-            panic!(rt; "no net {name}");
-        };
-        assert_eq!(rt; found, name.as_bytes());
-        assert_eq!(rt; (net.role, net.range), (*role, *range), "at {name}");
-        number = number.saturating_add(1);
-    }
-    assert_eq!(rt; netlist.nets.len(), number);
-}
-
-/// Compares an instance: its cell, its name, its line, its pins and what they are connected to.
-fn compare_instance(
-    rt: &impl Abort,
-    instance: &Instance,
-    want: (&'static str, &'static str, u32),
-    pins: &[(&'static str, Wire)],
-) {
-    let (cell, name, line) = want;
-    assert_eq!(rt; instance.cell.bytes(), cell.as_bytes());
-    assert_eq!(rt; instance.name.bytes(), name.as_bytes());
-    assert_eq!(rt; instance.line, line, "at {name}");
-    assert_eq!(rt; instance.pins.len(), pins.len(), "at {name}");
-    for ((pin, wire), (want_pin, want_wire)) in instance.pins.as_slice().iter().zip(pins.iter()) {
-        assert_eq!(rt; pin.bytes(), want_pin.as_bytes());
-        assert_eq!(rt; *wire, *want_wire, "at {name}, {want_pin}");
-    }
 }
 
 /// Texts with a token that does not fit, and texts that end too early.
@@ -219,201 +172,258 @@ fn several_modules_are_read_apart(rt: HostRuntime) -> Result<(), Fail> {
     compare(&rt, rt.alloc(), true, MODULES)
 }
 
-#[test]
-fn modules_have_their_nets_and_instances(rt: HostRuntime) {
-    let text = concat!(
-        "module a (y); output [1:0] y; wire s; b u (.p(y), .q(y[0]), .r(s)); endmodule\n",
-        "module b; input [7:0] p; INV u (.A(\\p[8] )); endmodule\n"
-    );
-    if text.len() > MOST_BYTES {
-        panic!(rt; "too long");
+/// A name as text.
+fn word(name: &[u8]) -> Result<&str, Fail> {
+    match str::from_utf8(name) {
+        Ok(word) => Ok(word),
+        Err(_) => Err(Fail::from("a name beyond ASCII")),
     }
-    let Ok(modules) = read_modules(rt.alloc(), text.as_bytes()) else {
+}
+
+/// Appends a line for each net: its name, its role, and its range if it has one.
+fn push_nets(alloc: Global, out: &mut String, netlist: &Netlist) -> Result<(), Fail> {
+    for number in 0..netlist.nets.len() {
+        let Some((name, net)) = netlist.nets.get(number) else {
+            return Err(Fail::from("a net is missing"));
+        };
+        let (name, role) = (word(name)?, net.role);
+        let line = match net.range {
+            Some((left, right)) => format!(in alloc; "net {name} {role:?} {left} {right}\n")?,
+            None => format!(in alloc; "net {name} {role:?}\n")?,
+        };
+        out.push_str(line.as_str())?;
+    }
+    Ok(())
+}
+
+/// Appends a pin and what it is connected to: a bit of a net, by the number of the net, or the whole net.
+fn push_pin(alloc: Global, out: &mut String, pin: &Name, wire: Wire) -> Result<(), Fail> {
+    let pin = word(pin.bytes())?;
+    let text = match wire {
+        Wire::Bit { decl, bit } => format!(in alloc; " {pin} {decl}.{bit}")?,
+        Wire::Whole { decl } => format!(in alloc; " {pin} {decl}")?,
+        Wire::Constant => format!(in alloc; " {pin} constant")?,
+        Wire::Open => format!(in alloc; " {pin} open")?,
+    };
+    out.push_str(text.as_str())?;
+    Ok(())
+}
+
+/// Appends a line for each instance: its cell, its name, its line and its pins.
+fn push_instances(alloc: Global, out: &mut String, netlist: &Netlist) -> Result<(), Fail> {
+    for instance in netlist.instances.as_slice() {
+        let (cell, name) = (word(instance.cell.bytes())?, word(instance.name.bytes())?);
+        let line = instance.line;
+        let head = format!(in alloc; "{cell} {name} {line}")?;
+        out.push_str(head.as_str())?;
+        for (pin, wire) in instance.pins.as_slice() {
+            push_pin(alloc, out, pin, *wire)?;
+        }
+        out.push_str("\n")?;
+    }
+    Ok(())
+}
+
+/// Appends a module: its name, its nets and its instances.
+fn push_module(alloc: Global, out: &mut String, netlist: &Netlist) -> Result<(), Fail> {
+    let name = word(netlist.module.bytes())?;
+    let head = format!(in alloc; "module {name}\n")?;
+    out.push_str(head.as_str())?;
+    push_nets(alloc, out, netlist)?;
+    push_instances(alloc, out, netlist)
+}
+
+/// Compares the modules of a text with a list of lines.
+fn compare_modules(rt: &impl Abort, alloc: Global, text: &str, want: &str) -> Result<(), Fail> {
+    if MOST_BYTES < text.len() {
+        return Err(Fail::from("too long"));
+    }
+    let Ok(modules) = read_modules(alloc, text.as_bytes()) else {
         panic!(rt; "refused");
     };
-    let [a, b] = modules.list.as_slice() else {
-        panic!(rt; "not two modules");
-    };
-    assert_eq!(rt; a.module.bytes(), b"a".as_slice());
-    assert_eq!(rt; b.module.bytes(), b"b".as_slice());
-    compare_nets(
-        &rt,
-        a,
-        &[
-            ("y", PortRole::Output, Some((1, 0))),
-            ("s", PortRole::Inner, None),
-        ],
-    );
-    compare_nets(
-        &rt,
-        b,
-        &[
-            ("p", PortRole::Input, Some((7, 0))),
-            ("p[8]", PortRole::Inner, None),
-        ],
-    );
-    let ([first], [second]) = (a.instances.as_slice(), b.instances.as_slice()) else {
-        panic!(rt; "not one instance each");
-    };
-    let bit = |decl: u32, bit: u32| Wire::Bit { decl, bit };
-    compare_instance(
-        &rt,
-        first,
-        ("b", "u", 1),
-        &[
-            ("p", Wire::Whole { decl: 0 }),
-            ("q", bit(0, 0)),
-            ("r", bit(1, 0)),
-        ],
-    );
-    compare_instance(&rt, second, ("INV", "u", 2), &[("A", bit(1, 0))]);
-}
-
-#[test]
-fn a_name_has_at_most_1024_bytes(rt: HostRuntime) {
-    let alloc = rt.alloc();
-    for length in 1023..1026 {
-        let Ok(mut text) = Vec::from_slice(alloc, b"module ".as_slice()) else {
-            panic!(rt; "out of memory");
-        };
-        for _ in 0..length {
-            if text.push(b'n').is_err() {
-                panic!(rt; "out of memory");
-            }
-        }
-        if text.extend_from_slice(b"; endmodule").is_err() {
-            panic!(rt; "out of memory");
-        }
-        if text.len() <= MOST_BYTES {
-            match read_netlist(alloc, text.as_slice()) {
-                Ok(_) => assert!(rt; length <= 1024),
-                Err(fault) => {
-                    assert_eq!(rt; length, 1025);
-                    assert_eq!(rt;
-                        fault,
-                        TextFault::Refused {
-                            line: 1,
-                            code: Code::V1
-                        }
-                    );
-                }
-            }
-        }
+    let mut out = String::new(alloc);
+    for module in modules.list.as_slice() {
+        push_module(alloc, &mut out, module)?;
     }
+    assert!(rt; out.as_str() == want, "{out}");
+    Ok(())
+}
+
+/// Compares the one module of a text with a list of lines.
+fn compare_module(rt: &impl Abort, alloc: Global, text: &str, want: &str) -> Result<(), Fail> {
+    if MOST_BYTES < text.len() {
+        return Err(Fail::from("too long"));
+    }
+    let Ok(netlist) = read_netlist(alloc, text.as_bytes()) else {
+        panic!(rt; "refused");
+    };
+    let mut out = String::new(alloc);
+    push_module(alloc, &mut out, &netlist)?;
+    assert!(rt; out.as_str() == want, "{out}");
+    Ok(())
+}
+
+/// Two modules, the first with a whole bus at a pin.
+const TWO: &str = "\
+module a (y); output [1:0] y; wire s; b u (.p(y), .q(y[0]), .r(s)); endmodule
+module b; input [7:0] p; INV u (.A(\\p[8] )); endmodule
+";
+
+/// What they are.
+const TWO_MEANT: &str = "\
+module a
+net y Output 1 0
+net s Inner
+b u 1 p 0 q 0.0 r 1.0
+module b
+net p Input 7 0
+net p[8] Inner
+INV u 2 A 1.0
+";
+
+#[test]
+fn modules_have_their_nets_and_instances(rt: HostRuntime) -> Result<(), Fail> {
+    compare_modules(&rt, rt.alloc(), TWO, TWO_MEANT)
+}
+
+/// A module with a name of so many bytes.
+fn with_long_name(alloc: Global, size: usize) -> Result<String, AllocError> {
+    let mut text = String::from_str(alloc, "module ")?;
+    for _ in 0..size {
+        text.push('n')?;
+    }
+    text.push_str("; endmodule")?;
+    Ok(text)
 }
 
 #[test]
-fn ports_are_found_by_name(rt: HostRuntime) {
-    let text = "module m (a, b); input a; output [0:3] b; wire c; wire [1:0] d; endmodule";
-    let m = netlist(&rt, rt.alloc(), text);
-    let bits = |decl: u32, first: u32, last: u32, role: PortRole| PortFound::Bits {
-        decl,
-        first,
-        last,
-        role,
-    };
-    assert_eq!(rt; m.port(b"a"), bits(0, 0, 0, PortRole::Input));
-    assert_eq!(rt; m.port(b"b"), bits(1, 0, 3, PortRole::Output));
-    assert_eq!(rt; m.port(b"b[2]"), bits(1, 2, 2, PortRole::Output));
-    assert_eq!(rt; m.port(b"d[1]"), bits(3, 1, 1, PortRole::Inner));
-    assert_eq!(rt; m.port(b"b[4]"), PortFound::Absent);
-    assert_eq!(rt; m.port(b"b[02]"), PortFound::Absent);
-    assert_eq!(rt; m.port(b"a[0]"), PortFound::Absent);
-    assert_eq!(rt; m.port(b"c"), PortFound::Absent);
-    assert_eq!(rt; m.port(b"e"), PortFound::Absent);
+fn a_name_has_at_most_1024_bytes(rt: HostRuntime) -> Result<(), Fail> {
+    let alloc = rt.alloc();
+    for (size, want) in [(1023, "read"), (1024, "read"), (1025, "V1 1")] {
+        let text = with_long_name(alloc, size)?;
+        if MOST_BYTES < text.len() {
+            return Err(Fail::from("too long"));
+        }
+        let words = in_words(alloc, read_netlist(alloc, text.as_bytes()))?;
+        assert_eq!(rt; words.as_str(), want, "{size}");
+    }
+    Ok(())
+}
+
+/// A module with two ports.
+const PORTS: &str = "module m (a, b); input a; output [0:3] b; wire c; wire [1:0] d; endmodule";
+
+/// What is found by a name: the number of the net, its first and its last bit, and its role.
+const FOUND: &str = "\
+0 0 0 Input | a
+1 0 3 Output | b
+1 2 2 Output | b[2]
+3 1 1 Inner | d[1]
+absent | b[4]
+absent | b[02]
+absent | a[0]
+absent | c
+absent | e
+";
+
+/// Compares what is found in a module by the name of each row.
+fn compare_found(
+    rt: &impl Abort,
+    alloc: Global,
+    netlist: &Netlist,
+    rows: &str,
+) -> Result<(), Fail> {
+    for row in rows.lines() {
+        let (want, name) = at_bar(row)?;
+        let words = match netlist.port(name.as_bytes()) {
+            PortFound::Bits {
+                decl,
+                first,
+                last,
+                role,
+            } => format!(in alloc; "{decl} {first} {last} {role:?}")?,
+            PortFound::Absent => format!(in alloc; "absent")?,
+        };
+        assert!(rt; words.as_str() == want, "{words} at {row}");
+    }
+    Ok(())
 }
 
 #[test]
-fn what_a_synthesiser_may_write_is_read(rt: HostRuntime) {
-    let text = concat!(
-        "`timescale 1ns/1ps\n",
-        "module top (ck, \\in[0] , y);\n",
-        "  input ck; input \\in[0] ; output [11:8] y;\n",
-        "  wire ck; wire [0:3] b; supply0 g; tri \\t\\x ;\n",
-        "  (* keep = \"1\" *) DFF \\f[1] (.CK(ck), .D(\\in[0] ), .Q(b[2]));\n",
-        "  CELL c1 (.A(1'h0), .B(), .C(\\b[1] ), .D(g), .E(n)), c2 ();\n",
-        "  wire n; /* late */ BUF\n  c3 (.Z(y[8]));\n",
-        "endmodule\n"
-    );
-    let m = netlist(&rt, rt.alloc(), text);
-    assert_eq!(rt; m.module.bytes(), b"top".as_slice());
-    compare_nets(
-        &rt,
-        &m,
-        &[
-            ("ck", PortRole::Input, None),
-            ("in[0]", PortRole::Input, None),
-            ("y", PortRole::Output, Some((11, 8))),
-            ("b", PortRole::Inner, Some((0, 3))),
-            ("g", PortRole::Inner, None),
-            ("t\\x", PortRole::Inner, None),
-            ("n", PortRole::Inner, None),
-        ],
-    );
-    let bit = |decl: u32, bit: u32| Wire::Bit { decl, bit };
-    let [f, c1, c2, c3] = m.instances.as_slice() else {
-        panic!(rt; "not four instances");
+fn ports_are_found_by_name(rt: HostRuntime) -> Result<(), Fail> {
+    if MOST_BYTES < PORTS.len() {
+        return Err(Fail::from("too long"));
+    }
+    let Ok(netlist) = read_netlist(rt.alloc(), PORTS.as_bytes()) else {
+        panic!(rt; "refused");
     };
-    compare_instance(
-        &rt,
-        f,
-        ("DFF", "f[1]", 5),
-        &[("CK", bit(0, 0)), ("D", bit(1, 0)), ("Q", bit(3, 2))],
-    );
-    compare_instance(
-        &rt,
-        c1,
-        ("CELL", "c1", 6),
-        &[
-            ("A", Wire::Constant),
-            ("B", Wire::Open),
-            ("C", bit(3, 1)),
-            ("D", bit(4, 0)),
-            ("E", bit(6, 0)),
-        ],
-    );
-    compare_instance(&rt, c2, ("CELL", "c2", 6), &[]);
-    compare_instance(&rt, c3, ("BUF", "c3", 8), &[("Z", bit(2, 8))]);
+    compare_found(&rt, rt.alloc(), &netlist, FOUND)
 }
 
+/// A netlist with what a synthesiser may write.
+const WRITTEN: &str = "\
+`timescale 1ns/1ps
+module top (ck, \\in[0] , y);
+  input ck; input \\in[0] ; output [11:8] y;
+  wire ck; wire [0:3] b; supply0 g; tri \\t\\x ;
+  (* keep = \"1\" *) DFF \\f[1] (.CK(ck), .D(\\in[0] ), .Q(b[2]));
+  CELL c1 (.A(1'h0), .B(), .C(\\b[1] ), .D(g), .E(n)), c2 ();
+  wire n; /* late */ BUF
+  c3 (.Z(y[8]));
+endmodule
+";
+
+/// What it means.
+const WRITTEN_MEANT: &str = "\
+module top
+net ck Input
+net in[0] Input
+net y Output 11 8
+net b Inner 0 3
+net g Inner
+net t\\x Inner
+net n Inner
+DFF f[1] 5 CK 0.0 D 1.0 Q 3.2
+CELL c1 6 A constant B open C 3.1 D 4.0 E 6.0
+CELL c2 6
+BUF c3 8 Z 2.8
+";
+
 #[test]
-fn a_small_netlist_is_read_whole(rt: HostRuntime) {
-    let text = concat!(
-        "`timescale 1ns/1ps\nmodule top (ck, d, y);\n  input ck; input d; output y; // ports\n",
-        "  wire q1, n1;\n  wire \\bus[0] ;\n",
-        "  (* keep = 1 *) DFF f1 (.CK(ck), .D(\\bus[0] ), .Q(q1));\n",
-        "  DFF f2 (.CK(ck), .D(n1), .Q(y));\n  INV g1 (.A(q1), .Y(n1));\n",
-        "  INV g2 (.A(d), .Y(\\bus[0] ));\nendmodule\n"
-    );
-    let m = netlist(&rt, rt.alloc(), text);
-    compare_nets(
-        &rt,
-        &m,
-        &[
-            ("ck", PortRole::Input, None),
-            ("d", PortRole::Input, None),
-            ("y", PortRole::Output, None),
-            ("q1", PortRole::Inner, None),
-            ("n1", PortRole::Inner, None),
-            ("bus[0]", PortRole::Inner, None),
-        ],
-    );
-    let net = |decl: u32| Wire::Bit { decl, bit: 0 };
-    let [f1, f2, g1, g2] = m.instances.as_slice() else {
-        panic!(rt; "not four instances");
-    };
-    compare_instance(
-        &rt,
-        f1,
-        ("DFF", "f1", 6),
-        &[("CK", net(0)), ("D", net(5)), ("Q", net(3))],
-    );
-    compare_instance(
-        &rt,
-        f2,
-        ("DFF", "f2", 7),
-        &[("CK", net(0)), ("D", net(4)), ("Q", net(2))],
-    );
-    compare_instance(&rt, g1, ("INV", "g1", 8), &[("A", net(3)), ("Y", net(4))]);
-    compare_instance(&rt, g2, ("INV", "g2", 9), &[("A", net(1)), ("Y", net(5))]);
+fn what_a_synthesiser_may_write_is_read(rt: HostRuntime) -> Result<(), Fail> {
+    compare_module(&rt, rt.alloc(), WRITTEN, WRITTEN_MEANT)
+}
+
+/// A small netlist.
+const SMALL: &str = "\
+`timescale 1ns/1ps
+module top (ck, d, y);
+  input ck; input d; output y; // ports
+  wire q1, n1;
+  wire \\bus[0] ;
+  (* keep = 1 *) DFF f1 (.CK(ck), .D(\\bus[0] ), .Q(q1));
+  DFF f2 (.CK(ck), .D(n1), .Q(y));
+  INV g1 (.A(q1), .Y(n1));
+  INV g2 (.A(d), .Y(\\bus[0] ));
+endmodule
+";
+
+/// What it means.
+const SMALL_MEANT: &str = "\
+module top
+net ck Input
+net d Input
+net y Output
+net q1 Inner
+net n1 Inner
+net bus[0] Inner
+DFF f1 6 CK 0.0 D 5.0 Q 3.0
+DFF f2 7 CK 0.0 D 4.0 Q 2.0
+INV g1 8 A 3.0 Y 4.0
+INV g2 9 A 1.0 Y 5.0
+";
+
+#[test]
+fn a_small_netlist_is_read_whole(rt: HostRuntime) -> Result<(), Fail> {
+    compare_module(&rt, rt.alloc(), SMALL, SMALL_MEANT)
 }

@@ -10,6 +10,3 @@ mod word;
 pub use commands::{Command, Commands};
 pub use items::first_item;
 pub use word::{NameList, Word};
-
-#[cfg(test)]
-mod tests;

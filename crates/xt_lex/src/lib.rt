@@ -32,6 +32,3 @@ pub use text_fault::TextFault;
 pub use token::{Kind, Token};
 pub use token_texts::{Lexeme, Lexemes};
 pub use xt_model::Code;
-
-#[cfg(test)]
-mod tests;

@@ -13,6 +13,3 @@ pub use fault::NumberFault;
 pub use fixed::{is_number, read_fixed};
 pub use laws::texts_are_unambiguous;
 pub use power::power_of_ten;
-
-#[cfg(test)]
-mod tests;

@@ -1,6 +1,6 @@
-//! The words of small texts, worked out by hand from the rules.
+//! The words of small SDC texts, worked out by hand from the rules.
 
-use crate::{Commands, NameList, Word};
+use sdc_words::{Commands, NameList, Word};
 use std::alloc::Global;
 use std::process::Abort;
 use std::test::*;

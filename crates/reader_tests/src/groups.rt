@@ -1,11 +1,11 @@
-//! Short libraries, worked out by hand.
+//! The groups of short libraries, worked out by hand.
 
-use crate::{Attribute, Group, Span, read_groups};
+use crate::rows::{at_bar, in_words, with_lines};
+use liberty_groups::{Attribute, Span, read_groups};
 use std::alloc::{AllocError, Global};
 use std::process::Abort;
 use std::test::*;
-use xt_lex::{MOST_BYTES, TextFault};
-use xt_model::Code;
+use xt_lex::MOST_BYTES;
 
 /// Compares the words and strings of some spans.
 fn compare(rt: &impl Abort, text: &str, spans: &[Span], want: &[&'static str]) {
@@ -29,24 +29,6 @@ fn compare_attribute(
     };
     assert_eq!(rt; attribute.line, line, "at {text}");
     compare(rt, text, attribute.values(), want);
-}
-
-/// A text and the line and code of its refusal, if it has one.
-type Refusal = (&'static str, Option<(u32, Code)>);
-
-/// Compares the refusal of each text.
-fn compare_refusals(rt: &impl Abort, alloc: Global, texts: &[Refusal]) {
-    for (text, want) in texts {
-        if text.len() <= MOST_BYTES {
-            match read_groups(alloc, text.as_bytes()) {
-                Ok(_) => assert_eq!(rt; *want, None, "at {text}"),
-                Err(TextFault::NoMemory) => panic!(rt; "out of memory at {text}"),
-                Err(TextFault::Refused { line, code }) => {
-                    assert_eq!(rt; *want, Some((line, code)), "at {text}");
-                }
-            }
-        }
-    }
 }
 
 #[test]
@@ -76,25 +58,37 @@ fn a_library_has_its_attributes_and_groups_in_order(rt: HostRuntime) {
     }
 }
 
+/// Libraries with a token that does not fit, and texts that end too early.
+const TOKENS: &str = "\
+read | library (x) { }
+read | ⏎library (x) { }⏎;;⏎
+read | library (x) { a (1) b (2); c () g () { } }
+L2 1 |
+L2 3 | library (x) {⏎ a : 1;⏎
+L2 3 | library (x) {⏎ a : \"1;⏎}
+L1 2 | library (x) {⏎\u{1} a : \"1;⏎}
+L1 1 | library (x) { } y
+L1 1 | lib (x) { }
+L1 1 | library (x);
+L1 2 | library (x) {⏎ a : ;⏎}
+L1 3 | library (x) {⏎ a⏎}
+L1 2 | library (x) {⏎ \"a\" : 1; }
+L1 2 | library (x) { }⏎}
+";
+
 #[test]
-fn a_token_that_does_not_fit_is_refused_at_its_line(rt: HostRuntime) {
-    let texts: [Refusal; 14] = [
-        ("library (x) { }", None),
-        ("\nlibrary (x) { }\n;;\n", None),
-        ("library (x) { a (1) b (2); c () g () { } }", None),
-        ("", Some((1, Code::L2))),
-        ("library (x) {\n a : 1;\n", Some((3, Code::L2))),
-        ("library (x) {\n a : \"1;\n}", Some((3, Code::L2))),
-        ("library (x) {\n\u{1} a : \"1;\n}", Some((2, Code::L1))),
-        ("library (x) { } y", Some((1, Code::L1))),
-        ("lib (x) { }", Some((1, Code::L1))),
-        ("library (x);", Some((1, Code::L1))),
-        ("library (x) {\n a : ;\n}", Some((2, Code::L1))),
-        ("library (x) {\n a\n}", Some((3, Code::L1))),
-        ("library (x) {\n \"a\" : 1; }", Some((2, Code::L1))),
-        ("library (x) { }\n}", Some((2, Code::L1))),
-    ];
-    compare_refusals(&rt, rt.alloc(), &texts);
+fn a_token_that_does_not_fit_is_refused_at_its_line(rt: HostRuntime) -> Result<(), Fail> {
+    let alloc = rt.alloc();
+    for row in TOKENS.lines() {
+        let (want, text) = at_bar(row)?;
+        let text = with_lines(alloc, text)?;
+        if MOST_BYTES < text.len() {
+            return Err(Fail::from("too long"));
+        }
+        let words = in_words(alloc, read_groups(alloc, text.as_bytes()))?;
+        assert!(rt; words.as_str() == want, "{words} at {row}");
+    }
+    Ok(())
 }
 
 /// A library with this many groups within one another.
@@ -111,26 +105,15 @@ fn nested(alloc: Global, depth: usize) -> Result<Vec<u8>, AllocError> {
 }
 
 #[test]
-fn sixty_four_groups_may_be_open(rt: HostRuntime) {
+fn sixty_four_groups_may_be_open(rt: HostRuntime) -> Result<(), Fail> {
     let alloc = rt.alloc();
-    for depth in 63..66 {
-        let Ok(text) = nested(alloc, depth) else {
-            panic!(rt; "out of memory");
-        };
-        if text.len() <= MOST_BYTES {
-            match read_groups(alloc, text.as_slice()) {
-                Ok(_) => assert!(rt; depth <= 64),
-                Err(fault) => {
-                    assert_eq!(rt; depth, 65);
-                    assert_eq!(rt;
-                        fault,
-                        TextFault::Refused {
-                            line: 1,
-                            code: Code::L1
-                        }
-                    );
-                }
-            }
+    for (depth, want) in [(63, "read"), (64, "read"), (65, "L1 1")] {
+        let text = nested(alloc, depth)?;
+        if MOST_BYTES < text.len() {
+            return Err(Fail::from("too long"));
         }
+        let words = in_words(alloc, read_groups(alloc, text.as_slice()))?;
+        assert_eq!(rt; words.as_str(), want, "{depth} groups");
     }
+    Ok(())
 }

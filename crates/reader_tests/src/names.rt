@@ -1,4 +1,6 @@
-use crate::{Named, Names};
+//! Numbers and values of names.
+
+use name_numbers::{Named, Names};
 use std::alloc::Global;
 
 #[test]
