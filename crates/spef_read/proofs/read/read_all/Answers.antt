@@ -13,10 +13,11 @@ returns-in-None c =
     ∙ (ap (λ ts. rest_means c.forms.context ts c.forms.state) c.in-None.ensures.next.0
     ∙ text_ends fits misfits is_done forms_in means c.forms.context c.forms.state done)
 
-pub returns : goal.returns
-returns c =
+pub returns-in-Some : goal.returns-in-Some
+returns-in-Some c =
     let done : is_done c.forms.context ≡ true = search rules in
-    sym c.forms.invariant
+    rw c.from.ensures
+    (sym c.forms.invariant
     ∙ (ap (λ ts. rest_means c.forms.context ts c.forms.state) c.in-Some.ensures.next
     ∙ (token_behind fits misfits is_done forms_in means c.forms.context (token_of c.in-Some.more) _ c.forms.state done
-    ∙ ap Err (sym c.refused-refused.ensures)))
+    ∙ ap Err (sym c.refused.ensures))))

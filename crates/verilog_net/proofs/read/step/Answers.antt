@@ -1,3 +1,4 @@
+use Rattle.std.proofs.Common.{[]}
 use Rattle.std.proofs.lemmas.Result.{err_from_is_err_and}
 use Rattle.text_forms.specs.Stops.{refusal_of}
 use Rattle.text_forms.proofs.ByForms.{goes_on, form_refused, stops_text, fewer_tokens}
