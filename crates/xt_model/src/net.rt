@@ -1,6 +1,6 @@
 use crate::edge::Edge;
+use crate::given::GivenPair;
 use crate::name::Name;
-use crate::quad::Pair;
 use crate::row::Row;
 
 /// The number of a net of a design.
@@ -43,7 +43,7 @@ pub struct Net {
     pub name: Name,
     pub input: bool,
     pub load: i64,
-    pub given: Pair,
+    pub given: GivenPair,
     pub couplings: Row<Coupling>,
     pub sinks: Row<SinkPin>,
     pub arcs: Row<TimingArc>,
