@@ -12,7 +12,7 @@ use crate::drivers::sources;
 use crate::nets::{net_name, sinks};
 use crate::tables::tables;
 use std::alloc::{AllocError, Global};
-use xt_model::{BuildFault, Design, Net, NoMemory, Row};
+use xt_model::{BuildFault, Design, GivenPair, Net, NoMemory, Row};
 
 /// The net of this number.
 fn net(alloc: Global, drawn: &Drawn, number: u32) -> Result<Net, AllocError>
@@ -26,7 +26,7 @@ fn net(alloc: Global, drawn: &Drawn, number: u32) -> Result<Net, AllocError>
         name: net_name(alloc, number)?,
         input: number < sources(nets),
         load: i64::from(load),
-        given: drawn.given(number),
+        given: GivenPair::new(alloc, drawn.given(number))?,
         couplings: Row::from_vec(Vec::from_slice(alloc, couplings)?),
         sinks: sinks(alloc, nets, load, couplings, pins)?,
         arcs: arcs(alloc, drawn, number)?,

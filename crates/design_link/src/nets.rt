@@ -11,7 +11,7 @@ use elmore_tree::SinkForm;
 use link_rules::{NetPins, Sink};
 use link_wires::{NetWire, form};
 use std::alloc::{AllocError, Global};
-use xt_model::{Net, Row, SinkPin};
+use xt_model::{GivenPair, Net, Row, SinkPin};
 
 /// A sink with the sums of its wire.
 fn sink_pin(alloc: Global, sink: Sink, form: &SinkForm) -> Result<SinkPin, AllocError>
@@ -73,7 +73,7 @@ fn net_of(alloc: Global, pins: NetPins, wire: NetWire) -> Result<Net, AllocError
         name,
         input,
         load: form.load,
-        given,
+        given: GivenPair::new(alloc, given)?,
         couplings,
         sinks,
         arcs,

@@ -12,23 +12,20 @@ use crate::read_line::{read_line, read_lines};
 use std::alloc::Global;
 use std::collections::VecDeque;
 use xt_model::limits::MOST_CAP;
-use xt_model::{Coupling, Edge, LimitKind, Name, Net, Pair, Quad, Row};
+use xt_model::{Coupling, Edge, GivenPair, LimitKind, Name, Net, Pair, Row};
 
 /// What is given for the edges of a net with `arcs` arcs: nothing where there are any.
 #[tactic(auto, unfolding(crate::specs::Meaning::pair_at))]
-fn pair(alloc: Global, arcs: u32, bytes: &[u8]) -> Result<(Pair, &[u8]), Stop>
+fn given(alloc: Global, arcs: u32, bytes: &[u8]) -> Result<(GivenPair, &[u8]), Stop>
     ensures { Gives (λ x. (x.0, x.1.now)) result (pair_at arcs bytes.now) }
 {
     if arcs > 0 {
-        let pair = Pair {
-            rise: Quad::bottom(),
-            fall: Quad::bottom(),
-        };
-        return Ok((pair, bytes));
+        return Ok((GivenPair::quiet(), bytes));
     }
     let (rise, rest) = read_line(alloc, &GivenReader { edge: Edge::Rise }, bytes)?;
     let (fall, rest) = read_line(alloc, &GivenReader { edge: Edge::Fall }, rest)?;
-    Ok((Pair { rise, fall }, rest))
+    let given = GivenPair::new(alloc, Pair { rise, fall })?;
+    Ok((given, rest))
 }
 
 /// The sum of the coupling capacitors in aF.
@@ -70,7 +67,7 @@ fn couplings<'a>(
     if value <= MOST_CAP as u128 {
         return Ok((couplings, rest));
     }
-    let name = Name::new(Vec::from_slice(alloc, head.name.bytes())?);
+    let name = Name::from_slice(alloc, head.name.bytes())?;
     Err(Stop::At(Fault::Limit {
         what: LimitKind::Load,
         name: Some(name),
@@ -90,7 +87,7 @@ fn net<'a>(
 ) -> Result<(Net, &'a [u8]), Stop>
     ensures { Gives (λ x. (x.0, x.1.now)) result (net_at sinks.now tables own head bytes.entry.now) }
 {
-    let (given, rest) = pair(alloc, head.arcs, bytes)?;
+    let (given, rest) = given(alloc, head.arcs, bytes)?;
     let (couplings, rest) = couplings(alloc, sinks.len(), own, &head, rest)?;
     let sink_reader = SinkReader {
         couplings: head.couplings,

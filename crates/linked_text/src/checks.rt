@@ -117,7 +117,7 @@ fn flop(
     if !(has_table(tables, rise) && has_table(tables, fall)) {
         return Err(HOLDS);
     }
-    let name = Name::new(Vec::from_slice(alloc, name)?);
+    let name = Name::from_slice(alloc, name)?;
     Ok(CheckPoint::Flop {
         name,
         hold,
@@ -166,7 +166,7 @@ fn port(
     if !(period && is_name(name) && has_sink(sinks, net, sink)) {
         return Err(HOLDS);
     }
-    let name = Name::new(Vec::from_slice(alloc, name)?);
+    let name = Name::from_slice(alloc, name)?;
     Ok(CheckPoint::Port {
         name,
         hold,

@@ -95,7 +95,7 @@ fn head_line<'a>(alloc: Global, names: &mut Names<'a>, line: &'a [u8]) -> Result
     if !fresh {
         return Err(HOLDS);
     }
-    let name = Name::new(Vec::from_slice(alloc, name)?);
+    let name = Name::from_slice(alloc, name)?;
     Ok(NetHead {
         name,
         input,

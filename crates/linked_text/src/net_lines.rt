@@ -161,7 +161,7 @@ impl LineReader for SinkReader {
         if !is_name(name) {
             return Err(HOLDS);
         }
-        let name = Name::new(Vec::from_slice(alloc, name)?);
+        let name = Name::from_slice(alloc, name)?;
         Ok(SinkPin {
             name,
             base,

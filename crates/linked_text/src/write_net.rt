@@ -61,8 +61,9 @@ fn push_pair(out: &mut Vec<u8>, net: &Net) -> Result<(), AllocError>
     if !net.arcs.as_slice().is_empty() {
         return Ok(());
     }
-    push_given(out, Edge::Rise, &net.given.rise)?;
-    push_given(out, Edge::Fall, &net.given.fall)
+    let given = net.given.pair();
+    push_given(out, Edge::Rise, &given.rise)?;
+    push_given(out, Edge::Fall, &given.fall)
 }
 
 /// Writes couplings.

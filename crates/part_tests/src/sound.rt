@@ -7,8 +7,8 @@ use sound_parts::is_sound;
 use std::alloc::{AllocError, Global};
 use std::test::Fail;
 use xt_model::{
-    CheckPoint, Coupling, DesignParts, Edge, Miller, Name, Net, NetId, Pair, Quad, Row, SinkPin,
-    Table, TimingArc,
+    CheckPoint, Coupling, DesignParts, Edge, GivenPair, Miller, Name, Net, NetId, Pair, Quad, Row,
+    SinkPin, Table, TimingArc,
 };
 
 const LIVE: Quad = Quad {
@@ -94,10 +94,13 @@ fn nets(alloc: Global, sample: &Sample) -> Result<Vec<Net>, AllocError> {
         name: name(alloc, b'a')?,
         input: true,
         load: sample.load,
-        given: Pair {
-            rise: sample.given,
-            fall: Quad::BOTTOM,
-        },
+        given: GivenPair::new(
+            alloc,
+            Pair {
+                rise: sample.given,
+                fall: Quad::BOTTOM,
+            },
+        )?,
         couplings: Row::from_vec([coupling].to_vec(alloc)?),
         sinks: sinks(alloc, sample.base, sample.coefs)?,
         arcs: Row::from_vec(Vec::new(alloc)),
@@ -106,10 +109,13 @@ fn nets(alloc: Global, sample: &Sample) -> Result<Vec<Net>, AllocError> {
         name: name(alloc, second)?,
         input: false,
         load: 0,
-        given: Pair {
-            rise: Quad::BOTTOM,
-            fall: sample.kept,
-        },
+        given: GivenPair::new(
+            alloc,
+            Pair {
+                rise: Quad::BOTTOM,
+                fall: sample.kept,
+            },
+        )?,
         couplings: Row::from_vec(Vec::new(alloc)),
         sinks: sinks(alloc, 0, 0)?,
         arcs: Row::from_vec([arc].to_vec(alloc)?),

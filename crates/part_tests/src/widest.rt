@@ -8,8 +8,8 @@ use std::alloc::{AllocError, Global};
 use std::process::Abort;
 use std::test::Fail;
 use xt_model::{
-    Coupling, Design, DesignParts, Edge, Miller, Name, Net, NetId, Pair, Quad, Row, SinkPin, Table,
-    TimingArc,
+    Coupling, Design, DesignParts, Edge, GivenPair, Miller, Name, Net, NetId, Pair, Quad, Row,
+    SinkPin, Table, TimingArc,
 };
 
 const MOST_TIME: i64 = 1 << 46;
@@ -65,7 +65,7 @@ fn source(alloc: Global, letter: u8, given: Pair, base: i128) -> Result<Net, All
         name: name(alloc, letter)?,
         input: true,
         load: 0,
-        given,
+        given: GivenPair::new(alloc, given)?,
         couplings: Row::from_vec(Vec::new(alloc)),
         sinks: Row::from_vec(sinks),
         arcs: Row::from_vec(Vec::new(alloc)),
@@ -93,7 +93,7 @@ fn driven(alloc: Global, letter: u8, from: u32, edge: Edge, to: u32) -> Result<N
         name: name(alloc, letter)?,
         input: false,
         load: 0,
-        given: QUIET,
+        given: GivenPair::quiet(),
         couplings: Row::from_vec([coupling].to_vec(alloc)?),
         sinks: Row::from_vec(Vec::new(alloc)),
         arcs: Row::from_vec([arc].to_vec(alloc)?),

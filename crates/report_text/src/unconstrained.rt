@@ -13,7 +13,8 @@ use xt_model::Net;
 fn is_unconstrained(net: &Net) -> bool
     ensures { result ≡ is_unconstrained net.now }
 {
-    net.input && !net.given.rise.live() && !net.given.fall.live()
+    let given = net.given.pair();
+    net.input && !given.rise.live() && !given.fall.live()
 }
 
 /// Appends the line of a net that is unconstrained, and nothing for another.

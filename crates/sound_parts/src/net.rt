@@ -84,6 +84,6 @@ pub(crate) fn is_sound_net(parts: &DesignParts, own: usize, net: &Net) -> bool
 {
     is_name(&net.name)
         && has_sound_sizes(net)
-        && is_sound_given(&net.given, net.arcs.as_slice())
+        && is_sound_given(&net.given.pair(), net.arcs.as_slice())
         && has_sound_lists(parts, own, net)
 }
