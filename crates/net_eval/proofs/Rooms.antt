@@ -77,7 +77,7 @@ ready_net has s n net whole there reads fit =
       words = reads;
       arcs = λ k x h. record {
         sound = sound.arcs k x h;
-        words = record { own = (looks k x h).from (get_or net.arcs k x).input; aggressors = (looks k x h).from_aggressors };
+        words = λ e. record { own = (looks k x h).from e; aggressors = (looks k x h).from_aggressors };
         room = inputs k x h;
       };
     }

@@ -1,10 +1,10 @@
 -- The arcs of a net, with the range of its load at hand.
-use Rattle.std.specs.Prelude.{ℕ, if◌then◌else◌}
+use Rattle.std.specs.Prelude.{ℕ, ◌&&◌, if◌then◌else◌}
 use Rattle.std.specs.List.{slice_get}
 use Rattle.xt_model.specs.declared.edge.Edge.{Edge}
 use Rattle.xt_model.specs.declared.quad.Quad.{Quad}
 use Rattle.xt_model.specs.declared.net.TimingArc.{TimingArc}
-use Rattle.xt_model.specs.Quads.{is_live, join_of}
+use Rattle.xt_model.specs.Quads.{is_live, join_of, same_edge}
 use Rattle.xt_model.specs.declared.net.Net.{Net}
 use Rattle.xt_meaning.specs.Operator.{Range, load_range, wire_range, contribution_by, contributes}
 use Rattle.xt_meaning.specs.Wires.{wire_delay}
@@ -31,9 +31,11 @@ contribution_at s load a =
     (wire_range s.design.miller s.answers a.from.0 a.input a.sink (slice_get s.design.nets a.from.0))
     load
 
--- a window, joined with what an arc makes of the window at its input, where it can switch, behind a wire of this range
-abbrev pub joined : Parts → Range → Quad → TimingArc → Quad → Range → Quad
-joined d load q a input wire = if is_live input then join_of q (contribution_by d a input wire load) else q
+-- a window of edge e, joined with what an arc to that edge makes of the window at its input, where it can switch, behind
+-- a wire of this range
+abbrev pub joined : Parts → Edge → Range → Quad → TimingArc → Quad → Range → Quad
+joined d e load q a input wire =
+    if same_edge a.output e && is_live input then join_of q (contribution_by d a input wire load) else q
 
 -- a window, joined with what the arc contributes to edge e
 abbrev pub with_arc_at : Scene → Edge → Range → Quad → TimingArc → Quad

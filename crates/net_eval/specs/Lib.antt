@@ -3,3 +3,4 @@ pub mod Scenes
 pub mod Arcs
 pub mod Closing
 pub mod ReadLists
+pub mod Pins

@@ -1,6 +1,7 @@
 -- What an evaluation reads.
 use Rattle.std.specs.Prelude.{◌≡◌, ℕ, ℤ, Some}
 use Rattle.std.specs.List.{All, slice_get}
+use Rattle.xt_model.specs.declared.edge.Edge.{Edge}
 use Rattle.xt_model.specs.declared.edge.Edge.TheVariants.{Rise, Fall}
 use Rattle.xt_model.specs.declared.quad.Pair.{Pair}
 use Rattle.xt_model.specs.declared.net.Net.{Net}
@@ -34,11 +35,11 @@ operator_in s = operator_by s.design s.answers s.windows
 abbrev pub pair_in : Scene → ℕ → Pair
 pair_in s n = record { rise = operator_in s n Rise; fall = operator_in s n Fall }
 
--- an arc whose references lead somewhere, whose words are there, and whose input window, where it is live, fits
--- the wire before the arc
+-- an arc whose references lead somewhere, whose words are there at both edges of its input, and whose input window,
+-- where it is live, fits the wire before the arc
 pub record IsReady (has : ℕ → Type 0) (s : Scene) (a : TimingArc) : Type 0 where
   pub sound : IsSoundArc s.design a
-  pub words : HasVictim has s.design a.from.0 a.input
+  pub words : (e : Edge) → HasVictim has s.design a.from.0 e
   pub room : FitsAtInput s.design s.answers s.windows a
 
 -- net number n, which is `net`, can be evaluated: the words that are read for it are there, and its arcs are ready

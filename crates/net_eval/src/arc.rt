@@ -1,19 +1,20 @@
 //! What one timing arc contributes to the window of the net that it drives.
 
-ghost use Rattle.std.specs.Prelude.{◌≡◌, ◌<◌, ◌≤ℤ◌, length};
+ghost use Rattle.std.specs.Prelude.{◌≡◌, ◌≤ℤ◌};
 ghost use Rattle.xt_model.specs.Quads.{IsInRange, IsLive, same_edge};
 ghost use Rattle.xt_model.specs.Sound.{IsSoundArc};
 ghost use Rattle.xt_meaning.specs.Operator.{Range, contribution_by};
-ghost use Rattle.net_eval.specs.Arcs.{joined, wire_of};
+ghost use Rattle.net_eval.specs.Arcs.{joined};
+ghost use Rattle.net_eval.specs.Pins.{wire_to};
 ghost use Rattle.net_eval.specs.Room.{FitsWire};
 
+use crate::pin::PinEdge;
 use crate::ranges::{arrival, as_slew, slew_behind};
-use miller_bits::Victim;
 use table_box::both_ranges;
-use xt_model::{Bounds, Design, Edge, Quad, TimingArc};
+use xt_model::{Design, Edge, Quad, TimingArc};
 
 /// Whether two edges are the same.
-pub(crate) fn same_edge(a: Edge, b: Edge) -> bool
+fn same_edge(a: Edge, b: Edge) -> bool
     ensures { result ≡ same_edge a b }
 {
     match (a, b) {
@@ -22,14 +23,12 @@ pub(crate) fn same_edge(a: Edge, b: Edge) -> bool
     }
 }
 
-/// The least and the greatest delay of the wire before an arc, from the edge of a net to one of its sinks.
-fn wire_before<V: Bounds>(input: &Victim<V>, sink: usize) -> (i64, i64)
-    requires sink { sink < length input.now.net.sinks }
-    requires fits { FitsWire input.now.window (wire_of input.now sink) }
-    ensures { record { least = result.0; most = result.1 } ≡ wire_of input.now sink }
+/// The least and the greatest delay of the wire to an edge of a pin.
+fn wire_to(input: &PinEdge) -> (i64, i64)
+    requires fits { FitsWire input.now.window (wire_to input.now) }
+    ensures { record { least = result.0; most = result.1 } ≡ wire_to input.now }
 {
-    let (least, most) = input.wire_range(sink);
-    (least as i64, most as i64)
+    (input.least_wire as i64, input.greatest_wire as i64)
 }
 
 /// The output window of an arc, from its input window, the range of the wire before it and the range of the
@@ -69,28 +68,30 @@ fn contribution(
     }
 }
 
-/// A window, joined with what an arc contributes, where its input can switch, to a net whose range of loads is `load`.
+/// A window of an edge, joined with what an arc contributes to it, where the edge of the pin at its input can switch, to a
+/// net whose range of loads is `load`.
 #[inline(always)]
-pub(crate) fn with_arc<V: Bounds>(
+pub(crate) fn with_arc(
     design: &Design,
     arc: &TimingArc,
-    input: &Victim<V>,
+    edge: Edge,
+    input: &PinEdge,
     load: (i64, i64),
     quad: Quad,
 ) -> Quad
     requires sound { IsSoundArc design.now arc.now }
-    requires sink { arc.now.sink < length input.now.net.sinks }
-    requires fits { IsLive input.now.window → FitsWire input.now.window (wire_of input.now arc.now.sink) }
+    requires fits { IsLive input.now.window → FitsWire input.now.window (wire_to input.now) }
     requires load { load.0 ≤ℤ load.1 }
     requires range { IsInRange quad }
     ensures value { let behind : Range = record { least = load.0; most = load.1 } in
-        result ≡ joined design.now behind quad arc.now input.now.window (wire_of input.now arc.now.sink) }
+        result ≡ joined design.now edge behind quad arc.now input.now.window (wire_to input.now) }
     ensures range { IsInRange result }
 {
-    let window = input.window();
-    if !window.live() {
+    if !same_edge(arc.output, edge) {
         return quad;
     }
-    let wire = wire_before(input, arc.sink as usize);
-    quad.join(&contribution(design, arc, &window, wire, load))
+    if !input.window.live() {
+        return quad;
+    }
+    quad.join(&contribution(design, arc, &input.window, wire_to(input), load))
 }

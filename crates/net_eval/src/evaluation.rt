@@ -1,7 +1,8 @@
 //! An evaluation of a net: what the windows of all nets make of that net's windows (after Zhou 2003).
 
-use crate::arc::{same_edge, with_arc};
-use miller_bits::{Overlaps, Victim};
+use crate::arc::with_arc;
+use crate::pin::Pin;
+use miller_bits::{Overlaps, Victim, load_ranges};
 use std::marker::Model;
 use xt_model::{Bounds, Design, Edge, Net, NetId, Pair, Quad};
 
@@ -31,38 +32,48 @@ impl<'a, V: Bounds> Model for Evaluation<'a, V> {
 
 impl<'a, V: Bounds> Evaluation<'a, V> {
     ghost use Rattle.std.specs.Prelude.{◌≡◌};
-    ghost use Rattle.xt_model.specs.Quads.{quad_at, IsInRange, IsPairInRange};
+    ghost use Rattle.xt_model.specs.Quads.{IsPairInRange};
 
-    /// What the operator makes of an edge of the net: what a net without arcs is given, and else the join of what its
-    /// arcs contribute. An arc contributes to its output edge.
-    fn window(&self, edge: Edge) -> Quad
-        ensures value { result ≡ quad_at self.now edge }
-        ensures range { IsInRange result }
-    {
-        if self.net.arcs.len() == 0 {
-            return self.net.given.at(edge);
-        }
-        let own = Victim::new(self.design, self.overlaps, self.view, self.number, edge);
-        let load = own.load_range();
-        let mut quad = Quad::bottom();
-        for arc in self.net.arcs.as_slice() {
-            if !same_edge(arc.output, edge) {
-                continue;
-            }
-            let input = Victim::new(self.design, self.overlaps, self.view, arc.from, arc.input);
-            quad = with_arc(self.design, arc, &input, load, quad);
-        }
-        quad
-    }
-
-    /// What the operator makes of the net.
+    /// What the operator makes of the net: what a net without arcs is given, and else at each edge the join of what the
+    /// arcs to it contribute.
     pub fn pair(&self) -> Pair
         ensures value { result ≡ self.now }
         ensures range { IsPairInRange result }
     {
-        Pair {
-            rise: self.window(Edge::Rise),
-            fall: self.window(Edge::Fall),
+        if self.net.arcs.len() == 0 {
+            return self.net.given;
         }
+        let own_rise = Victim::new(
+            self.design,
+            self.overlaps,
+            self.view,
+            self.number,
+            Edge::Rise,
+        );
+        let own_fall = Victim::new(
+            self.design,
+            self.overlaps,
+            self.view,
+            self.number,
+            Edge::Fall,
+        );
+        let (rise_load, fall_load) = load_ranges(&own_rise, &own_fall);
+        let first = self.net.arcs.as_slice()[0];
+        let mut pin = Pin::of(
+            self.design,
+            self.overlaps,
+            self.view,
+            first.from,
+            first.sink,
+        );
+        let mut rise = Quad::bottom();
+        let mut fall = Quad::bottom();
+        for arc in self.net.arcs.as_slice() {
+            pin.move_to(arc, self.design, self.overlaps, self.view);
+            let input = pin.at(arc.input);
+            rise = with_arc(self.design, arc, Edge::Rise, &input, rise_load, rise);
+            fall = with_arc(self.design, arc, Edge::Fall, &input, fall_load, fall);
+        }
+        Pair { rise, fall }
     }
 }

@@ -6,6 +6,7 @@ mod arc;
 mod closing;
 mod evaluation;
 mod operator;
+mod pin;
 mod ranges;
 mod reads;
 

@@ -1,0 +1,102 @@
+-- Each turn joins what one arc contributes to both edges.
+use Rattle.std.proofs.Common.{◌≡◌, ◌<◌, ◌∙◌, ap, refl, length, arith}
+use Rattle.std.proofs.lemmas.Option.{slice_get_within}
+use Rattle.xt_model.specs.declared.edge.Edge.TheVariants.{Rise, Fall}
+use Rattle.xt_meaning.specs.Wires.{load_of}
+use Rattle.miller_bits.specs.Victims.{victim_of}
+use Rattle.miller_bits.proofs.Sums.{found}
+use Rattle.net_eval.specs.Arcs.{load_in}
+use Rattle.net_eval.specs.Scenes.{scene_of}
+use Rattle.net_eval.proofs.Contributions.{loads_ordered, join_is}
+use Rattle.net_eval.proofs.Nets.{source_is, source_in_range, own_words, edge_at, ready_at, input_fits, arc_turn, operator_is, pair_is}
+use Rattle.net_eval.proofs.evaluation.Evaluation.pair.Goals as goal
+
+pub returns-then-len-eq0-clause-value : goal.returns-then-len-eq0-clause-value
+returns-then-len-eq0-clause-value g c =
+    let e = c.self.inside in
+    let s = scene_of e.overlaps e.design.now (g.V.Bounds.bound_of e.view.now) in
+    let none : length e.net.now.arcs ≡ 0 = omega (arith, c.if-len-eq0.true, c.len.ensures) in
+    rw (← c.self.view_is)
+    (pair_is s e.number.0 e.net.now.given
+    (source_is s e.number.0 Rise e.net.now _ c.self.invariant.there none refl)
+    (source_is s e.number.0 Fall e.net.now _ c.self.invariant.there none refl))
+
+pub returns-then-len-eq0-clause-range : goal.returns-then-len-eq0-clause-range
+returns-then-len-eq0-clause-range g c =
+    let e = c.self.inside in let sound = c.self.invariant.sound in
+    record { rise = source_in_range e.design.now e.number.0 e.net.now Rise sound; fall = source_in_range e.design.now e.number.0 e.net.now Fall sound }
+
+pub load_ranges-requires : goal.load_ranges-requires
+load_ranges-requires g c =
+    let e = c.self.inside in let f = g.V.Bounds.bound_of e.view.now in
+    let r : c.new-own_rise.result ≡ victim_of e.overlaps e.design.now f e.number.0 Rise e.net.now = found _ _ e.net.now c.self.invariant.there c.new-own_rise.ensures in
+    let u : c.new-own_fall.result ≡ victim_of e.overlaps e.design.now f e.number.0 Fall e.net.now = found _ _ e.net.now c.self.invariant.there c.new-own_fall.ensures in
+    record { net = rw (r, u) refl }
+
+pub with_arc-rise-requires-clause-fits : goal.with_arc-rise-requires-clause-fits
+with_arc-rise-requires-clause-fits g c =
+    let e = c.self.inside in let s = scene_of e.overlaps e.design.now (g.V.Bounds.bound_of e.view.now) in
+    input_fits _ s _ c.at-input.result (ready_at _ s _ _ c.loop-arc.arc-index _ c.self.invariant.arcs c.as_slice-arc-items.ensures c.loop-arc-test.true)
+    (edge_at s _ _ _ _ c.move_to.ensures c.at-input.ensures)
+
+pub with_arc-rise-requires-clause-load : goal.with_arc-rise-requires-clause-load
+with_arc-rise-requires-clause-load g c =
+    let e = c.self.inside in let f = g.V.Bounds.bound_of e.view.now in
+    let s = scene_of e.overlaps e.design.now f in
+    let v : c.new-own_rise.result ≡ victim_of e.overlaps e.design.now f e.number.0 Rise e.net.now = found _ _ e.net.now c.self.invariant.there c.new-own_rise.ensures in
+    loads_ordered e.design.now e.number.0 e.net.now s.answers Rise _ _ c.self.invariant.miller c.self.invariant.sound
+    (c.load_ranges.ensures.a_least ∙ ap (λ v. load_of v.least v.net) v) (c.load_ranges.ensures.a_greatest ∙ ap (λ v. load_of v.greatest v.net) v)
+
+pub with_arc-fall-requires-clause-fits : goal.with_arc-fall-requires-clause-fits
+with_arc-fall-requires-clause-fits g c =
+    let e = c.self.inside in let s = scene_of e.overlaps e.design.now (g.V.Bounds.bound_of e.view.now) in
+    input_fits _ s _ c.at-input.result (ready_at _ s _ _ c.loop-arc.arc-index _ c.self.invariant.arcs c.as_slice-arc-items.ensures c.loop-arc-test.true)
+    (edge_at s _ _ _ _ c.move_to.ensures c.at-input.ensures)
+
+pub with_arc-fall-requires-clause-load : goal.with_arc-fall-requires-clause-load
+with_arc-fall-requires-clause-load g c =
+    let e = c.self.inside in let f = g.V.Bounds.bound_of e.view.now in
+    let s = scene_of e.overlaps e.design.now f in
+    let v : c.new-own_fall.result ≡ victim_of e.overlaps e.design.now f e.number.0 Fall e.net.now = found _ _ e.net.now c.self.invariant.there c.new-own_fall.ensures in
+    loads_ordered e.design.now e.number.0 e.net.now s.answers Fall _ _ c.self.invariant.miller c.self.invariant.sound
+    (c.load_ranges.ensures.b_least ∙ ap (λ v. load_of v.least v.net) v) (c.load_ranges.ensures.b_greatest ∙ ap (λ v. load_of v.greatest v.net) v)
+
+pub loop-arc-preserved : goal.loop-arc-preserved
+loop-arc-preserved g c =
+    let e = c.self.inside in let s = scene_of e.overlaps e.design.now (g.V.Bounds.bound_of e.view.now) in
+    record {
+      pin = c.move_to.ensures.pin;
+      rise = arc_turn s Rise _ _ c.loop-arc.arc-index _ c.loop-arc.rise _ c.at-input.result c.loop-arc-test.true (edge_at s _ _ _ _ c.move_to.ensures c.at-input.ensures) c.with_arc-rise.ensures.value c.loop-arc.invariant.rise;
+      fall = arc_turn s Fall _ _ c.loop-arc.arc-index _ c.loop-arc.fall _ c.at-input.result c.loop-arc-test.true (edge_at s _ _ _ _ c.move_to.ensures c.at-input.ensures) c.with_arc-fall.ensures.value c.loop-arc.invariant.fall;
+      rise_range = c.with_arc-rise.ensures.range;
+      fall_range = c.with_arc-fall.ensures.range;
+    }
+
+pub returns-clause-value : goal.returns-clause-value
+returns-clause-value g c =
+    let e = c.self.inside in let f = g.V.Bounds.bound_of e.view.now in
+    let s = scene_of e.overlaps e.design.now f in
+    let some : 0 < length e.net.now.arcs = omega (arith, c.if-len-eq0.false, c.len.ensures) in
+    let loads = c.load_ranges.ensures in
+    let rise_is : c.new-own_rise.result ≡ victim_of e.overlaps e.design.now f e.number.0 Rise e.net.now = found _ _ e.net.now c.self.invariant.there c.new-own_rise.ensures in
+    let rise = operator_is s e.number.0 Rise e.net.now _ c.self.invariant.there some
+    (join_is s Rise (load_in s e.number.0 Rise e.net.now) _ _ _ _ _ _ (loads.a_least ∙ ap (λ v. load_of v.least v.net) rise_is) (loads.a_greatest ∙ ap (λ v. load_of v.greatest v.net) rise_is)
+    c.as_slice-arc-items.ensures c.loop-arc-test.false c.loop-arc.invariant.rise) in
+    let fall_is : c.new-own_fall.result ≡ victim_of e.overlaps e.design.now f e.number.0 Fall e.net.now = found _ _ e.net.now c.self.invariant.there c.new-own_fall.ensures in
+    let fall = operator_is s e.number.0 Fall e.net.now _ c.self.invariant.there some
+    (join_is s Fall (load_in s e.number.0 Fall e.net.now) _ _ _ _ _ _ (loads.b_least ∙ ap (λ v. load_of v.least v.net) fall_is) (loads.b_greatest ∙ ap (λ v. load_of v.greatest v.net) fall_is)
+    c.as_slice-arc-items.ensures c.loop-arc-test.false c.loop-arc.invariant.fall) in
+    rw (← c.self.view_is) (pair_is s e.number.0 _ rise fall)
+
+pub new-own_rise-requires-clause-words : goal.new-own_rise-requires-clause-words
+new-own_rise-requires-clause-words g c =
+    let e = c.self.inside in
+    own_words _ e.design.now e.number.0 Rise e.net.now c.self.invariant.there c.self.invariant.words (omega (arith, c.if-len-eq0.false, c.len.ensures))
+
+pub new-own_fall-requires-clause-words : goal.new-own_fall-requires-clause-words
+new-own_fall-requires-clause-words g c =
+    let e = c.self.inside in
+    own_words _ e.design.now e.number.0 Fall e.net.now c.self.invariant.there c.self.invariant.words (omega (arith, c.if-len-eq0.false, c.len.ensures))
+
+pub new-own_fall-requires-clause-net : goal.new-own_fall-requires-clause-net
+new-own_fall-requires-clause-net g c = let e = c.self.inside in slice_get_within e.design.now.nets e.number.0 e.net.now c.self.invariant.there
