@@ -20,16 +20,19 @@ use Rattle.link_rules.specs.declared.circuit.Sink.{Sink}
 use Rattle.link_rules.specs.declared.circuit.NetPins.{NetPins}
 use Rattle.link_rules.specs.declared.fault.LinkFault.{LinkFault}
 use Rattle.link_rules.specs.declared.fault.LinkFault.TheVariants as faults
+use Rattle.link_rules.specs.declared.fault.LinkRefusal.{LinkRefusal}
 use Rattle.link_rules.specs.Ends.{NetEnd, end_name}
 use Rattle.link_rules.specs.Nodes.{text_of}
 use Rattle.link_rules.specs.Sound.{IsSoundWire, AreSoundParasitics}
-use Rattle.link_rules.specs.Wires.{Wire, has_resistors, names_on, end_nodes, listed_by, listed, wire_in, wire_of, nodes_of, tree_by, tree_of}
+use Rattle.link_rules.specs.Wires.{Wire, has_resistors, names_on, end_nodes, listed_by, listed, wire_in, wire_of, nodes_of, tree_by, tree_of, couplings_of}
 use Rattle.link_rules.specs.Bare as bare
 use Rattle.xt_model.specs.Limits.{most_nodes}
 use Rattle.link_rules.specs.Limits.{or_fault, passed, most_load, greatest_load}
-use Rattle.link_rules.specs.Refusals.{net_limit, IsTaken}
-use Rattle.link_wires.specs.Told.{IsThere, IsToldFault, IsLimit, IsTreeWithin, limit_by, limit_at}
-use Rattle.link_wires.specs.Wires.{IsNumbered, IsNetFault}
+use Rattle.link_rules.specs.Refusals.{net_limit}
+use Rattle.link_wires.specs.declared.wire.NetWire.{NetWire}
+use Rattle.link_wires.specs.Told.{IsThere, IsToldFault, IsTreeFault, IsLimit, IsTreeWithin, limit_by, limit_at}
+use Rattle.link_wires.specs.Within.{IsWireWithin, IsFaultWithin}
+use Rattle.link_wires.specs.Wires.{IsNumbered, IsWireOf, IsNetFault}
 use Rattle.link_wires.proofs.ListLaws.{numbered_by}
 use Rattle.link_wires.proofs.NeedLaws.{needed_there}
 use Rattle.link_wires.proofs.PlaceLaws.{entered, fold_enters, fold_grows}
@@ -114,6 +117,23 @@ limit_plain : (listed : Bool) (name : Text) (nodes load : ℕ) → is_refused (l
 limit_plain listed name nodes load =
     or_plain _ _ (cond_plain listed _ (passed_plain limits.Nodes (Some name) nodes most_nodes)) (passed_plain limits.Load (Some name) load most_load)
 
+-- ---- the wire of a net whose nodes are known
+module _ (listed : Bool) (pins : NetPins) (nodes : List Text) (w : Wire) where
+  pub limit_within : (fault : LinkFault) → IsLimit (limit_at listed pins nodes w) fault → IsFaultWithin listed pins nodes w fault
+  limit_within faults.NoMemory h = tt
+  limit_within (faults.Refused r) h = absurd (false≢true (sym (limit_plain listed pins.name (length nodes) (greatest_load (tree_by nodes pins.sinks w))) ∙ ap is_refused h))
+  limit_within (faults.Limit what name value) h = h
+
+  pub tree_fault_within : (t : TreeParts) → IsTreeWithin listed pins nodes w t → (fault : LinkFault) → IsTreeFault t pins.name nodes fault → IsFaultWithin listed pins nodes w fault
+  tree_fault_within t h faults.NoMemory f = tt
+  tree_fault_within t h (faults.Refused r) f = (h.limit, subst (λ x. IsTreeFault x pins.name nodes (faults.Refused r)) h.tree f)
+  tree_fault_within t h (faults.Limit what name value) f = absurd f
+
+pub tree_fault : (t : TreeParts) (net : Text) (nodes : List Text) (fault : TreeFault) → IsFaultOf t fault → (told : LinkFault) → IsToldFault net nodes fault told → IsTreeFault t net nodes told
+tree_fault t net nodes trees.NotTree cause told e = subst (IsTreeFault t net nodes) (sym e) (trees.NotTree, cause, refl)
+tree_fault t net nodes (trees.NotReached k) cause told e = subst (IsTreeFault t net nodes) (sym e.2) (trees.NotReached k, cause, (e.0, e.1, refl))
+tree_fault t net nodes trees.NoMemory cause told e = subst (IsTreeFault t net nodes) (sym e) tt
+
 -- ---- the wire of a net
 net_limit_is : (n : Netlist) (p : Parasitics) (x : bare.Numbered) → net_limit n p x ≡ limit_at (is_some (listed n p x.1)) x.1 (bare.nodes n p x) (bare.wire n p x)
 unfolding net_limit tree_of
@@ -124,28 +144,28 @@ module _ (n : Netlist) (p : Parasitics) (net : ℕ) (pins : NetPins) (parts : Wi
   limit_here : net_limit n p (net, pins) ≡ limit_at here pins nodes parts
   limit_here = rw (s, ns, w) (net_limit_is n p (net, pins))
 
-  tree_here : (t : TreeParts) → IsTreeWithin here pins nodes parts t → t ≡ bare.tree n p (net, pins)
-  tree_here t h =
-      h.tree
-      ∙ (ap (λ x. tree_by x pins.sinks parts) ns
-      ∙ (ap (λ x. tree_by (nodes_of p.delimiter pins (wire_of n p net pins)) pins.sinks x) w ∙ sym (tree_is p.delimiter pins (wire_of n p net pins))))
+  tree_here : tree_by nodes pins.sinks parts ≡ bare.tree n p (net, pins)
+  tree_here =
+      ap (λ x. tree_by x pins.sinks parts) ns
+      ∙ (ap (λ x. tree_by (nodes_of p.delimiter pins (wire_of n p net pins)) pins.sinks x) w ∙ sym (tree_is p.delimiter pins (wire_of n p net pins)))
 
-  pub limit_told : (fault : LinkFault) → IsLimit (limit_at here pins nodes parts) fault → IsNetFault n p (net, pins) fault
-  limit_told faults.NoMemory h = tt
-  limit_told (faults.Refused r) h = absurd (false≢true (sym (limit_plain here pins.name (length nodes) (greatest_load (tree_by nodes pins.sinks parts))) ∙ ap is_refused h))
-  limit_told (faults.Limit what name value) h = limit_here ∙ h
+  pub is_wire : (made : NetWire) → IsWireWithin here pins nodes parts made → IsWireOf n p (net, pins) made
+  is_wire made h = record {
+    couplings = h.couplings ∙ ap couplings_of w;
+    tree = h.tree.tree ∙ tree_here;
+    taken = record { limit = limit_here ∙ h.tree.limit; wire = subst IsTakenTree (h.tree.tree ∙ tree_here) h.taken };
+  }
 
-  pub wire_taken : (t : TreeParts) → IsTreeWithin here pins nodes parts t → IsTakenTree t → IsTaken n p (net, pins)
-  wire_taken t h taken = record { limit = limit_here ∙ h.limit; wire = subst IsTakenTree (tree_here t h) taken }
-
-  pub tree_is_of : (t : TreeParts) → IsTreeWithin here pins nodes parts t → t ≡ bare.tree n p (net, pins)
-  tree_is_of t h = tree_here t h
-
-  pub tree_fault_told : (t : TreeParts) → IsTreeWithin here pins nodes parts t → (fault : TreeFault) → IsFaultOf t fault → (told : LinkFault) → IsToldFault pins.name nodes fault told
-      → IsNetFault n p (net, pins) told
-  tree_fault_told t h trees.NoMemory f told e = subst (IsNetFault n p (net, pins)) (sym e) tt
-  tree_fault_told t h trees.NotTree f told e = subst (IsNetFault n p (net, pins)) (sym e) (limit_here ∙ h.limit, refl, subst IsMeshed (tree_here t h) f)
-  tree_fault_told t h (trees.NotReached k) f told e =
+  refused : (r : LinkRefusal) (fault : TreeFault) → limit_at here pins nodes parts ≡ None → IsFaultOf (tree_by nodes pins.sinks parts) fault → IsToldFault pins.name nodes fault (faults.Refused r)
+      → IsNetFault n p (net, pins) (faults.Refused r)
+  refused r trees.NoMemory free f e = subst (IsNetFault n p (net, pins)) (sym e) tt
+  refused r trees.NotTree free f e = subst (IsNetFault n p (net, pins)) (sym e) (limit_here ∙ free, refl, subst IsMeshed tree_here f)
+  refused r (trees.NotReached k) free f e =
       let at : slice_get (bare.nodes n p (net, pins)) k ≡ Some e.0 = ap (λ x. slice_get x k) (sym ns) ∙ e.1 in
       subst (IsNetFault n p (net, pins)) (sym e.2)
-      (limit_here ∙ h.limit, refl, subst (λ x. IsMeshed x → ⊥) (tree_here t h) f.0, (k, subst (λ x. IsLeastUnreached x k) (tree_here t h) f.1, at))
+      (limit_here ∙ free, refl, subst (λ x. IsMeshed x → ⊥) tree_here f.0, (k, subst (λ x. IsLeastUnreached x k) tree_here f.1, at))
+
+  pub is_fault : (fault : LinkFault) → IsFaultWithin here pins nodes parts fault → IsNetFault n p (net, pins) fault
+  is_fault faults.NoMemory h = tt
+  is_fault (faults.Refused r) h = refused r h.1.0 h.0 h.1.1 h.1.2
+  is_fault (faults.Limit what name value) h = limit_here ∙ h

@@ -1,4 +1,5 @@
 pub mod Places
 pub mod Wires
 pub mod Told
+pub mod Within
 pub mod Ground

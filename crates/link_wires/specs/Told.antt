@@ -10,6 +10,7 @@ use Rattle.link_rules.specs.declared.fault.LinkRefusal.TheVariants as refusals
 use Rattle.xt_model.specs.declared.fault.LimitKind.TheVariants as limits
 use Rattle.elmore_tree.specs.Trees.{TreeParts, IsSoundTree}
 use Rattle.xt_model.specs.Limits.{most_nodes}
+use Rattle.elmore_tree.specs.Forms.{IsFaultOf}
 use Rattle.link_rules.specs.Limits.{or_fault, passed, most_load, greatest_load}
 use Rattle.link_rules.specs.declared.circuit.NetPins.{NetPins}
 use Rattle.link_rules.specs.Wires.{Wire, tree_by}
@@ -25,6 +26,13 @@ IsToldFault net nodes trees.NotTree told = told ≡ faults.Refused (refusals.K5 
 IsToldFault net nodes (trees.NotReached k) told =
     (node : Text) × (slice_get nodes k ≡ Some node) × (told ≡ faults.Refused (refusals.K6 net node))
 IsToldFault net nodes trees.NoMemory told = told ≡ faults.NoMemory
+
+-- the fault of the tree of a net, as it is told; want of memory is always free
+abbrev pub IsTreeFault : TreeParts → Text → List Text → LinkFault → Type 0
+IsTreeFault t net nodes faults.NoMemory = Unit {0}
+IsTreeFault t net nodes (faults.Refused r) =
+    (fault : TreeFault) × IsFaultOf t fault × IsToldFault net nodes fault (faults.Refused r)
+IsTreeFault t net nodes (faults.Limit what name value) = ⊥
 
 -- the limit that a net passes: of its nodes, where its wire is listed, then of its load
 abbrev pub limit_by : Bool → Text → ℕ → ℕ → Option LinkFault

@@ -1,11 +1,13 @@
 //! The wire of each net.
 
-ghost use Rattle.std.specs.Prelude.{◌≡◌, ◌<◌, ◌^◌, false, length, IfOk, IfErr};
+ghost use Rattle.std.specs.Prelude.{◌≡◌, ◌<◌, ◌^◌, false, length, IfOk, IfErr, OnOk};
 ghost use Rattle.std.specs.List.{All, enumerate_from};
-ghost use Rattle.elmore_tree.specs.Forms.{IsFormOf, IsTakenTree};
+ghost use Rattle.elmore_tree.specs.declared.fault.TreeFault.{TreeFault};
+ghost use Rattle.elmore_tree.specs.Forms.{IsFormOf, IsFaultOf, IsTakenTree};
 ghost use Rattle.link_rules.specs.Sound.{AreSoundParasitics};
 ghost use Rattle.link_rules.specs.Wires.{has_resistors};
-ghost use Rattle.link_wires.specs.Told.{IsLimit, IsTreeWithin, limit_at};
+ghost use Rattle.link_wires.specs.Told.{IsThere, IsTreeFault, IsLimit, IsTreeWithin, limit_at};
+ghost use Rattle.link_wires.specs.Within.{IsWireWithin, IsFaultWithin};
 ghost use Rattle.link_wires.specs.Wires.{HasQuantities, HasSinkQuantities, IsNumbered};
 ghost use Rattle.link_wires.specs.Wires.{IsWireOf, AreWires, IsNetFault, IsFirstFault};
 
@@ -20,7 +22,7 @@ use link_index::NetIndex;
 use link_rules::{LinkFault, NetPins};
 use spef_read::Parasitics;
 use std::alloc::{AllocError, Global};
-use xt_model::{Coupling, Row};
+use xt_model::{Coupling, Name, Row};
 
 /// The couplings of a net and the tree of its wire, with a tap for each coupling.
 #[derive(Debug, Drop)]
@@ -55,6 +57,47 @@ fn tree_within<'a>(
     Ok(tree)
 }
 
+/// Refuses a tree of a net that is none or does not reach all.
+fn check_tree<'a>(
+    alloc: Global,
+    net: &Name,
+    nodes: &Nodes<'a>,
+    tree: &Tree,
+) -> Result<(), LinkFault>
+    requires { (fault : TreeFault) → IsFaultOf tree.now fault → IsThere nodes.now fault }
+    ensures ok { OnOk result (IsTakenTree tree.now) }
+    ensures fault { IfErr result (IsTreeFault tree.now net.now nodes.now) }
+{
+    match check(alloc, tree) {
+        Ok(()) => Ok(()),
+        Err(fault) => Err(refusal_of(alloc, net, nodes, fault)?),
+    }
+}
+
+/// The wire of a net of these nodes.
+fn wire_within<'a>(
+    alloc: Global,
+    pins: &NetPins,
+    listed: bool,
+    nodes: &Nodes<'a>,
+    parts: &WireParts<'a>,
+) -> Result<NetWire, LinkFault>
+    requires numbered { IsNumbered nodes.now pins.now.sinks parts.now }
+    requires wire { HasQuantities parts.now }
+    requires sinks { HasSinkQuantities pins.now }
+    requires unlisted { listed ≡ false → has_resistors parts.now ≡ false }
+    ensures ok { IfOk result (IsWireWithin listed pins.now nodes.now parts.now) }
+    ensures fault { IfErr result (IsFaultWithin listed pins.now nodes.now parts.now) }
+{
+    let tree = tree_within(alloc, pins, listed, nodes, parts)?;
+    check_tree(alloc, &pins.name, nodes, &tree)?;
+    let couplings = couplings_of(alloc, parts)?;
+    Ok(NetWire {
+        couplings: Row::from_vec(couplings),
+        tree,
+    })
+}
+
 /// The wire of a net of this number.
 fn wire_of<'a>(
     alloc: Global,
@@ -71,14 +114,7 @@ fn wire_of<'a>(
     let parts = WireParts::of_net(alloc, index, net, listed)?;
     let ends = end_nodes(alloc, index.parasitics().delimiter, pins)?;
     let nodes = nodes_of(alloc, &ends, &parts)?;
-    let tree = tree_within(alloc, pins, listed.is_some(), &nodes, &parts)?;
-    match check(alloc, &tree) {
-        Ok(()) => Ok(NetWire {
-            couplings: Row::from_vec(couplings_of(alloc, &parts)?),
-            tree,
-        }),
-        Err(fault) => Err(refusal_of(alloc, &pins.name, &nodes, fault)?),
-    }
+    wire_within(alloc, pins, listed.is_some(), &nodes, &parts)
 }
 
 /// The wires of nets, in their order. The first fault counts: of the first net that has one its count of nodes, where
