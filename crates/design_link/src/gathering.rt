@@ -1,6 +1,7 @@
 //! From four values to the pins and the wires of nets.
 
-ghost use Rattle.std.specs.Prelude.{IfOk, IfErr, Err};
+ghost use Rattle.std.specs.Prelude.{◌≡◌, None, IfOk, IfErr, Err};
+ghost use Rattle.link_rules.specs.Limits.{count_fault};
 ghost use Rattle.link_rules.specs.Link.{Links};
 ghost use Rattle.link_rules.specs.Sound.{IsSoundLibrary, IsSoundNetlist, AreSoundParasitics, AreSoundConstraints};
 ghost use Rattle.design_link.specs.Gathered.{IsGathered};
@@ -21,6 +22,41 @@ use verilog_net::Netlist;
 pub struct Gathered {
     pub circuit: Circuit,
     pub wires: Vec<NetWire>,
+}
+
+/// The pins and the wires that four values come to, or the first fault up to the sizes of the design, where the counts
+/// of the netlist are kept.
+fn gather_by<'a>(
+    alloc: Global,
+    cells: &CellIndex<'a>,
+    index: &NetIndex<'a>,
+    parasitics: &'a Parasitics,
+    constraints: &Constraints,
+) -> Result<Gathered, LinkFault>
+    requires library { IsSoundLibrary cells.now }
+    requires netlist { IsSoundNetlist index.now }
+    requires parasitics { AreSoundParasitics parasitics.now }
+    requires constraints { AreSoundConstraints constraints.now }
+    requires counts { count_fault index.now ≡ None }
+    ensures ok { IfOk result (IsGathered (record {
+      library = cells.now;
+      netlist = index.now;
+      parasitics = parasitics.now;
+      constraints = constraints.now;
+    })) }
+    ensures fault { IfErr result (λ f. Links (record {
+      library = cells.now;
+      netlist = index.now;
+      parasitics = parasitics.now;
+      constraints = constraints.now;
+    }) (Err f)) }
+{
+    check_instances(alloc, cells, index.netlist())?;
+    let circuit = connect(alloc, cells, index, constraints)?;
+    let nets = circuit.nets.as_slice();
+    let wires = wires(alloc, index, nets, parasitics)?;
+    check_sizes(cells.library(), &circuit, &wires)?;
+    Ok(Gathered { circuit, wires })
 }
 
 /// The pins and the wires that four values come to, or the first fault up to the sizes of the design.
@@ -51,10 +87,5 @@ pub fn gather<'a>(
     check_counts(netlist)?;
     let index: NetIndex<'a> = NetIndex::new(alloc, netlist)?;
     let cells: CellIndex<'a> = CellIndex::new(alloc, library)?;
-    check_instances(alloc, &cells, netlist)?;
-    let circuit = connect(alloc, &cells, &index, constraints)?;
-    let nets = circuit.nets.as_slice();
-    let wires = wires(alloc, &index, nets, parasitics)?;
-    check_sizes(library, &circuit, &wires)?;
-    Ok(Gathered { circuit, wires })
+    gather_by(alloc, &cells, &index, parasitics, constraints)
 }
