@@ -1,7 +1,7 @@
 -- Capacitances moved along the steps of a walk, towards the root.
 use Rattle.std.specs.Prelude.{◌≡◌, ℕ, ◌*◌, ◌<◌, ◌≤◌, ◌^◌, List, length, take, Bool, true, false}
-use Rattle.std.specs.Prelude.{if◌then◌else◌, Some}
-use Rattle.std.specs.List.{slice_get, slice_index}
+use Rattle.std.specs.Prelude.{if◌then◌else◌, Some, ◌==◌, ◌||◌}
+use Rattle.std.specs.List.{slice_get, slice_index, list_any}
 use Rattle.elmore_tree.specs.declared.walk.Step.{Step}
 use Rattle.elmore_tree.specs.Trees.{TreeParts, IsSoundTree, is_needed}
 use Rattle.elmore_tree.specs.Paths.{is_on, is_in, resistors_in}
@@ -37,6 +37,11 @@ pub record IsGathered (t : TreeParts) (steps : List Step) (first caps : List ℕ
 pub record AreSumsOf (t : TreeParts) (steps : List Step) (caps sums : List ℕ) (i : ℕ) : Type 0 where
   pub count : length sums ≡ t.nodes
   pub each : (k : ℕ) → is_visited t (take i steps) k ≡ true → slice_index sums k ≡ elmore_sum t steps caps k
+
+-- beside the nodes that were marked, those at which the given things hang are
+pub record AreMarked {X : Type 0} (node_of : X → ℕ) (xs : List X) (old new : List Bool) : Type 0 where
+  pub count : length new ≡ length old
+  pub each : (k : ℕ) → is_in new k ≡ (is_in old k || list_any (λ x. node_of x == k) xs)
 
 -- node n is the first that is needed and not reached
 pub record IsFirstUnreached (needed reached : List Bool) (n : ℕ) : Type 0 where

@@ -1,12 +1,12 @@
 //! Which nodes are joined to the root, and which have to be.
 
-ghost use Rattle.std.specs.Prelude.{◌≡◌, ℕ, ◌<◌, ◌≤◌, length, IfOk, MatchOption};
+ghost use Rattle.std.specs.Prelude.{◌≡◌, ℕ, ◌<◌, ◌≤◌, length, map, pos, int_lt, IfOk, MatchOption};
 ghost use Rattle.std.specs.List.{All};
 ghost use Rattle.elmore_tree.specs.Trees.{is_needed};
 ghost use Rattle.elmore_tree.specs.Paths.{is_in, resistors_in};
-ghost use Rattle.elmore_tree.specs.Gathering.{IsFirstUnreached, IsAllReached};
+ghost use Rattle.elmore_tree.specs.Gathering.{IsFirstUnreached, IsAllReached, AreMarked};
 
-use crate::part::Resistor;
+use crate::part::{Resistor, Tap};
 use crate::tree::Tree;
 use std::alloc::{AllocError, Global};
 
@@ -24,21 +24,45 @@ pub fn resistors_in(resistors: &[Resistor], reached: &[bool]) -> usize
     count
 }
 
+/// A mark for each node that has capacitance to ground above 0.
+fn charged_nodes(alloc: Global, tree: &Tree) -> Result<Vec<bool>, AllocError>
+    ensures { IfOk result (λ marks. marks.items ≡ map (λ g. int_lt (pos 0) g) tree.now.ground) }
+{
+    let mut marks = Vec::new(alloc);
+    for ground in tree.ground() {
+        marks.push(*ground > 0)?;
+    }
+    Ok(marks)
+}
+
+/// Marks the nodes of sinks.
+fn mark_sinks(marks: &mut [bool], sinks: &[u32])
+    requires { All (λ p. p < length marks.old) sinks.now }
+    ensures { AreMarked (λ p. p) sinks.now marks.old marks.new }
+{
+    for sink in sinks {
+        marks[*sink as usize] = true;
+    }
+}
+
+/// Marks the nodes of taps.
+fn mark_taps(marks: &mut [bool], taps: &[Tap])
+    requires { All (λ t. t.node < length marks.old) taps.now }
+    ensures { AreMarked (λ t. t.node) taps.now marks.old marks.new }
+{
+    for tap in taps {
+        marks[tap.node as usize] = true;
+    }
+}
+
 /// A mark for each node that has a sink, a tap or capacitance to ground above 0.
 pub fn needed_nodes(alloc: Global, tree: &Tree) -> Result<Vec<bool>, AllocError>
     ensures count { IfOk result (λ needed. length needed.items ≡ tree.now.nodes) }
     ensures each { IfOk result (λ needed. (k : ℕ) → is_in needed.items k ≡ is_needed tree.now k) }
 {
-    let mut needed = Vec::new(alloc);
-    for ground in tree.ground() {
-        needed.push(*ground > 0)?;
-    }
-    for sink in tree.sinks() {
-        needed[*sink as usize] = true;
-    }
-    for tap in tree.taps() {
-        needed[tap.node as usize] = true;
-    }
+    let mut needed = charged_nodes(alloc, tree)?;
+    mark_sinks(&mut needed, tree.sinks());
+    mark_taps(&mut needed, tree.taps());
     Ok(needed)
 }
 
