@@ -3,7 +3,7 @@ use Rattle.std.proofs.lemmas.Result.{err_from_is_err_and}
 use Rattle.liberty_cells.specs.declared.library.Library.{Library}
 use Rattle.verilog_net.specs.declared.netlist.Netlist.{Netlist}
 use Rattle.link_rules.specs.Bare.{Inputs}
-use Rattle.link_rules.specs.Limits.{most_instances, size_fault}
+use Rattle.link_rules.specs.Limits.{size_fault}
 use Rattle.link_rules.specs.Link.{Links}
 use Rattle.link_rules.specs.Refusals.{instance_fault}
 use Rattle.link_pins.specs.Answers.{IsFound}
