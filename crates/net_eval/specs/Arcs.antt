@@ -31,8 +31,8 @@ contribution_at s load a =
     (wire_range s.design.miller s.answers a.from.0 a.input a.sink (slice_get s.design.nets a.from.0))
     load
 
--- a window of edge e, joined with what an arc to that edge makes of the window at its input, where it can switch, behind
--- a wire of this range
+-- a window of edge e, joined with what an arc to that edge makes of the window at its input, where it can switch,
+-- behind a wire of this range
 abbrev pub joined : Parts → Edge → Range → Quad → TimingArc → Quad → Range → Quad
 joined d e load q a input wire =
     if same_edge a.output e && is_live input then join_of q (contribution_by d a input wire load) else q

@@ -68,8 +68,8 @@ fn contribution(
     }
 }
 
-/// A window of an edge, joined with what an arc contributes to it, where the edge of the pin at its input can switch, to a
-/// net whose range of loads is `load`.
+/// A window of an edge, joined with what an arc contributes to it, where the edge of the pin at its input can switch,
+/// to a net whose range of loads is `load`.
 #[inline(always)]
 pub(crate) fn with_arc(
     design: &Design,

@@ -79,8 +79,8 @@ impl Pin {
         }
     }
 
-    /// Makes it the pin at which an arc begins, by the windows of a view. Where several arcs in a row begin at one pin, the
-    /// ranges of its wire are taken once.
+    /// Makes it the pin at which an arc begins, by the windows of a view. Where several arcs in a row begin at one pin,
+    /// the ranges of its wire are taken once.
     #[inline(always)]
     pub fn move_to<V: Bounds>(
         &mut self,

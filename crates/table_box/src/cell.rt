@@ -197,8 +197,8 @@ impl<'a> Cell<'a> {
             && self.first_second <= self.second_second
     }
 
-    /// Whether the values rise with the slew and with the load, over several loads from this cell to another: where both
-    /// cells rise, and are one or neighbours.
+    /// Whether the values rise with the slew and with the load, over several loads from this cell to another: where
+    /// both cells rise, and are one or neighbours.
     fn rises_to(&self, last: &Cell, loads: &Stretch) -> bool
         requires ends { AreEnds self.now last.now loads.now }
         ensures { IsTrue result → AreRising self.now last.now loads.now }
