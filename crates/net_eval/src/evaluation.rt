@@ -41,7 +41,11 @@ impl<'a, V: Bounds> Evaluation<'a, V> {
         ensures range { IsPairInRange result }
     {
         if self.net.arcs.len() == 0 {
-            return self.net.given;
+            let given = &self.net.given;
+            return Pair {
+                rise: given.at(Edge::Rise),
+                fall: given.at(Edge::Fall),
+            };
         }
         let own_rise = Victim::new(
             self.design,

@@ -17,14 +17,17 @@ returns-then-len-eq0-clause-value g c =
     let s = scene_of e.overlaps e.design.now (g.V.Bounds.bound_of e.view.now) in
     let none : length e.net.now.arcs ≡ 0 = omega (arith, c.if-len-eq0.true, c.len.ensures) in
     rw (← c.self.view_is)
-    (pair_is s e.number.0 e.net.now.given
-    (source_is s e.number.0 Rise e.net.now _ c.self.invariant.there none refl)
-    (source_is s e.number.0 Fall e.net.now _ c.self.invariant.there none refl))
+    (pair_is s e.number.0 _
+    (source_is s e.number.0 Rise e.net.now _ c.self.invariant.there none c.at.ensures)
+    (source_is s e.number.0 Fall e.net.now _ c.self.invariant.there none c.at-then-len-eq0.ensures))
 
 pub returns-then-len-eq0-clause-range : goal.returns-then-len-eq0-clause-range
 returns-then-len-eq0-clause-range g c =
     let e = c.self.inside in let sound = c.self.invariant.sound in
-    record { rise = source_in_range e.design.now e.number.0 e.net.now Rise sound; fall = source_in_range e.design.now e.number.0 e.net.now Fall sound }
+    record {
+      rise = rw c.at.ensures (source_in_range e.design.now e.number.0 e.net.now Rise sound);
+      fall = rw c.at-then-len-eq0.ensures (source_in_range e.design.now e.number.0 e.net.now Fall sound);
+    }
 
 pub load_ranges-requires : goal.load_ranges-requires
 load_ranges-requires g c =
