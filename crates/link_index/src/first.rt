@@ -1,6 +1,7 @@
 //! Tables in which the first value of a name counts.
 
 ghost use Rattle.std.specs.Prelude.{◌≡◌, ℕ, List, Some, None, OnOk, OnErr, bytes_eq, if◌then◌else◌};
+ghost use Rattle.std.specs.Option.{option_or};
 ghost use Rattle.name_numbers.specs.Names.{value_of};
 
 use name_numbers::Named;
