@@ -15,6 +15,7 @@ mod BodyLaws
 mod SoundLaws
 pub mod WholeLaws
 mod Refusals
+mod LineNumbers
 mod WorkedTexts
 mod WorkedMeanings
 mod Pieces

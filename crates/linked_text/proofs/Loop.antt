@@ -1,19 +1,16 @@
 -- Reading values one after the other, as a loop does.
-use Rattle.std.proofs.Common.{◌≡◌, ℕ, suc, List, [], ◌∷◌, ◌++◌, Option, Some, Result, Ok, Err, refl, sym, ap, ◌∙◌, append_assoc}
-use Rattle.std.proofs.lemmas.List.{append-nil}
+use Rattle.std.proofs.Common.{◌≡◌, ℕ, suc, ◌+◌, List, [], ◌∷◌, ◌++◌, length, Option, Some, Result, Ok, Err, refl, sym, subst, ap, ◌∙◌, append_assoc}
+use Rattle.std.proofs.lemmas.List.{append-nil, length-append}
+use Rattle.xt_model.specs.declared.net.Net.{Net}
 use Rattle.linked_text.specs.declared.fault.Fault.{Fault}
 use Rattle.linked_text.specs.declared.fault.Stop.{Stop}
 use Rattle.linked_text.specs.declared.fault.Stop.TheVariants as stops
 use Rattle.linked_text.specs.Gives.{Fails}
 use Rattle.linked_text.specs.declared.head.NetHead.{NetHead}
 use Rattle.linked_text.specs.declared.head.Sums.{Sums}
-use Rattle.linked_text.specs.Meaning.{Read, many_at, head_at, heads_at, sums_with}
+use Rattle.linked_text.specs.Meaning.{Read, with_front, many_at, head_at, heads_at, sums_with, net_at, nets_at, nets_behind}
 use Rattle.xt_model.specs.Results.{◌>>=◌}
 use Rattle.xt_model.specs.Options as options
-
--- what was read before, and what is still read
-abbrev pub with_front : {A : Type 0} → List A → Read (List A) → Read (List A)
-with_front front read = read >>= λ x. Ok (front ++ x.0, x.1)
 
 regroup : {A : Type 0} (front more : List A) (read : Read (List A)) → with_front front (with_front more read) ≡ with_front (front ++ more) read
 regroup {A} front more (Ok x) = ap (λ (xs : List A). Ok (xs, x.1)) (sym (append_assoc front more x.0))
@@ -54,3 +51,14 @@ with_values front found = options.◌>>=◌ found (λ xs. Some (front ++ xs))
 pub heads_next : (k n : ℕ) (names names_then : List (List ℕ)) (sums sums_then : Sums) (bytes after : List ℕ) (h : NetHead) → k ≡ suc n → head_at names sums bytes ≡ Ok (h, after)
     → names_then ≡ names ++ h.name ∷ [] → sums_then ≡ sums_with sums h → heads_at k names sums bytes ≡ with_front (h ∷ []) (heads_at n names_then sums_then after)
 heads_next k n names names_then sums sums_then bytes after h more read entered added = rw (more, read, entered, added) refl
+
+-- ---- nets
+
+-- the next net is read
+pub behind_next : (sinks : List ℕ) (tables own : ℕ) (nets : List Net) (h : NetHead) (heads : List NetHead) (bytes : List ℕ) (n : Net) (rest : List ℕ)
+    → own ≡ length nets → net_at sinks tables own h bytes ≡ Ok (n, rest) → nets_behind sinks tables (nets ++ n ∷ []) heads rest ≡ nets_behind sinks tables nets (h ∷ heads) bytes
+behind_next sinks tables own nets h heads bytes n rest place read =
+    let one : length (nets ++ n ∷ []) ≡ length nets + 1 = length-append nets (n ∷ []) in
+    let here : net_at sinks tables (length nets) h bytes ≡ Ok (n, rest) = subst (λ i. net_at sinks tables i h bytes ≡ Ok (n, rest)) place read in
+    rw one (goes_on nets (n ∷ []) (nets_at sinks tables (length nets) (h ∷ heads) bytes) (nets_at sinks tables (length nets + 1) heads rest)
+    (nets_behind sinks tables nets (h ∷ heads) bytes) (rw here refl) refl)

@@ -24,7 +24,7 @@ use Rattle.linked_text.specs.declared.fault.Fault.TheVariants as faults
 use Rattle.linked_text.specs.Linked.{is_classical, table_lines, net_line, net_lines, check_line, linked}
 use Rattle.text_lines.specs.Miller.{miller_lines}
 use Rattle.linked_text.specs.EachLine.{version_in, counts_in, period_in, miller_in, check_in, end_in}
-use Rattle.linked_text.specs.Meaning.{Read, line_at, many_at, refuse, counts_at, miller_at, table_at, heads_at, nets_at, checks_at, no_sums, parts_at, end_at, closed_by, Ends, Comes, Means}
+use Rattle.linked_text.specs.Meaning.{Read, line_at, many_at, newlines, refuse, counts_at, miller_at, table_at, heads_at, nets_at, checks_at, no_sums, parts_at, end_at, closed_by, Ends, Comes, Means}
 use Rattle.linked_text.specs.Answers.{IsTextOf}
 use Rattle.xt_model.specs.Results.{◌>>=◌}
 use Rattle.linked_text.proofs.Inversions.{ok_step, ok_is, keeps_ok, keeps_again}
@@ -296,7 +296,7 @@ pub sound_parts : (bytes : List ℕ) (d : Parts) (last : List ℕ) (u : Unit {0}
 sound_parts bytes d last u rest e f = parts_sound d (parts_take bytes d last e).1 (end_take d last u rest f).1
 
 pub means_loop : (bytes : List ℕ) (d : Parts) (last : List ℕ) (u : Unit {0}) (rest : List ℕ) → parts_at bytes ≡ Ok (d, last) → end_at d last ≡ Ok (u, rest) → (AreLevelled d.nets → ⊥)
-    → Means bytes (Err (faults.Refused (length last) X3))
+    → Means bytes (Err (faults.Refused (newlines last) X3))
 means_loop bytes d last u rest e f never =
     subst (λ (r : Read Parts). Comes r (refuse last X3)) (sym e) (subst (λ (r : Read (Unit {0})). Ends d last r (refuse last X3)) (sym f) (inr (never, refl)))
 

@@ -93,7 +93,7 @@ no_edge_word : arc_in (1 ∷ []) 1 (fields_of (codes "arc 0 00 rise up 0 0")) �
 unfolding arc_in digits
 no_edge_word = refl
 
--- ---- texts: the number in a refusal says how many bytes are left where the line begins
+-- ---- texts: the number in a refusal says how many newlines are left where the line begins
 
 -- the limits of a line are tested in the order of its counts
 too_many_tables : parts_at (codes "xtalk-design 1" ++ 10 ∷ codes "counts 262145 0 1" ++ 10 ∷ []) ≡ Err (Limit kinds.Tables None 262145)
@@ -101,9 +101,9 @@ unfolding parts_at line_at cut_at version_in counts_at counts_in digits
 too_many_tables = refl
 
 -- a line without its newline is none
-no_newline : parts_at (codes "xtalk-design 1" ++ 10 ∷ codes "counts 0 0 0") ≡ Err (Refused 12 X1)
+no_newline : parts_at (codes "xtalk-design 1" ++ 10 ∷ codes "counts 0 0 0") ≡ Err (Refused 0 X1)
 unfolding parts_at line_at cut_at version_in counts_at digits
 no_newline = refl
 
-second_line : line_number (codes "xtalk-design 1" ++ 10 ∷ codes "counts 0 1 1" ++ 10 ∷ []) 13 ≡ 2
+second_line : line_number (codes "xtalk-design 1" ++ 10 ∷ codes "counts 0 1 1" ++ 10 ∷ []) 1 ≡ 2
 second_line = refl

@@ -1,7 +1,7 @@
 -- What a linked text means: its lines one after another, each at its place, up to the first refusal.
 use Rattle.std.specs.Prelude.{◌≡◌, ℕ, zero, suc, ◌+◌, ◌-◌, ◌*◌, ◌==◌, nat_le, unsigned_abs, ℤ, Bool, true, false}
 use Rattle.std.specs.Prelude.{if◌then◌else◌, ◌⊎◌, Option, Some, None, is_some, Result, Ok, Err}
-use Rattle.std.specs.Prelude.{List, [], ◌∷◌, ◌++◌, length, map, take, codes}
+use Rattle.std.specs.Prelude.{List, [], ◌∷◌, ◌++◌, length, map, codes}
 use Rattle.std.specs.List.{count_by, sum_by}
 use Rattle.xt_model.specs.declared.code.Code.{Code}
 use Rattle.xt_model.specs.declared.code.Code.TheVariants.{X1, X3}
@@ -39,9 +39,13 @@ use Rattle.xt_model.specs.Results.{◌>>=◌}
 abbrev pub Read : Type 0 → Type 0
 Read A = Result (A × List ℕ) Fault
 
+-- how many newlines there are
+abbrev pub newlines : List ℕ → ℕ
+newlines bytes = count_by (λ b. b == 10) bytes
+
 -- the line that these bytes begin with is refused
 abbrev pub refuse : {A : Type 0} → List ℕ → Code → Result A Fault
-refuse bytes code = Err (faults.Refused (length bytes) code)
+refuse bytes code = Err (faults.Refused (newlines bytes) code)
 
 -- what the first line of the bytes gives
 abbrev pub with_rest : {A : Type 0} → List ℕ → List ℕ → Result A Code → Read A
@@ -192,6 +196,14 @@ nets_at sinks tables own (h ∷ heads) bytes =
     net_at sinks tables own h bytes >>= λ n. nets_at sinks tables (own + 1) heads n.1 >>= λ more.
     Ok (n.0 ∷ more.0, more.1)
 
+-- what was read before, and what is still read
+abbrev pub with_front : {A : Type 0} → List A → Read (List A) → Read (List A)
+with_front front read = read >>= λ x. Ok (front ++ x.0, x.1)
+
+-- these nets, and behind them those of these heads
+abbrev pub nets_behind : List ℕ → ℕ → List Net → List NetHead → List ℕ → Read (List Net)
+nets_behind sinks tables nets heads bytes = with_front nets (nets_at sinks tables (length nets) heads bytes)
+
 -- ---- all of it
 
 -- so many checks behind the nets of these heads, where there is a period or none and there are so many tables
@@ -250,9 +262,9 @@ Means bytes outcome = Comes (parts_at bytes) outcome
 
 -- ---- the lines of refusals
 
--- the number of the line that begins where so many bytes are left: 1 more than the newlines before it
+-- the number of the line from which on so many newlines are left: 1 more than the newlines before it
 abbrev pub line_number : List ℕ → ℕ → ℕ
-line_number bytes left = 1 + count_by (λ b. b == 10) (take (length bytes - left) bytes)
+line_number bytes left = 1 + (newlines bytes - left)
 
 -- a refusal as it is told
 abbrev pub told : List ℕ → Fault → LinkedFault

@@ -1,9 +1,9 @@
 //! The bodies of the nets.
 
-ghost use Rattle.std.specs.Prelude.{◌≡◌, ◌^◌, ◌≤ℤ◌, neg_ℤ, pos, unsigned_abs, [], ◌∷◌, MatchOption};
+ghost use Rattle.std.specs.Prelude.{◌≡◌, ◌≤◌, ◌^◌, ◌≤ℤ◌, neg_ℤ, pos, unsigned_abs, [], ◌∷◌, length, MatchOption, IfOk, IfErr, OnOk};
 ghost use Rattle.xt_model.specs.Sound.{coupling_sum, greatest_load};
-ghost use Rattle.linked_text.specs.Gives.{Gives};
-ghost use Rattle.linked_text.specs.Meaning.{coupled_net, couplings_at, net_at, nets_at, pair_at};
+ghost use Rattle.linked_text.specs.Gives.{Fails, Gives};
+ghost use Rattle.linked_text.specs.Meaning.{coupled_net, couplings_at, net_at, nets_at, nets_behind, pair_at};
 
 use crate::fault::{Fault, Stop};
 use crate::head::NetHead;
@@ -107,7 +107,7 @@ fn net<'a>(
     Ok((net, rest))
 }
 
-/// Takes out the first head. The room of the heads shrinks with them.
+/// Takes out the first head, if there is any. The room of the heads shrinks with them.
 fn next_head(heads: &mut VecDeque<NetHead>) -> Option<NetHead>
     ensures { MatchOption result ((heads.old.items ≡ []) × (heads.new.items ≡ []))
         (λ h. heads.old.items ≡ h ∷ heads.new.items) }
@@ -119,23 +119,67 @@ fn next_head(heads: &mut VecDeque<NetHead>) -> Option<NetHead>
     Some(head)
 }
 
-/// The nets of these heads.
-pub fn nets<'a>(
+/// Takes out the first head, if there is any, where `left` bytes are at least `least`.
+fn head_above(heads: &mut VecDeque<NetHead>, left: usize, least: usize) -> Option<NetHead>
+    ensures { MatchOption result (heads.new.items ≡ heads.old.items) (λ h. heads.old.items ≡ h ∷ heads.new.items) }
+{
+    if left < least {
+        return None;
+    }
+    next_head(heads)
+}
+
+/// Reads the net of a head behind others, and those of the next heads until less than half of the bytes is left.
+/// Gives a copy of the bytes behind them.
+fn stretch(
+    alloc: Global,
+    sinks: &[u32],
+    tables: u32,
+    nets: &mut Vec<Net>,
+    head: NetHead,
+    heads: &mut VecDeque<NetHead>,
+    bytes: &[u8],
+) -> Result<Vec<u8>, Stop>
+    ensures ok { IfOk result (λ rest. nets_behind sinks.now tables nets.new.items heads.new.items rest.items
+        ≡ nets_behind sinks.now tables nets.old.items (head ∷ heads.old.items) bytes.now) }
+    ensures err { IfErr result (λ e.
+        Fails e (nets_behind sinks.now tables nets.old.items (head ∷ heads.old.items) bytes.now)) }
+    ensures fewer { OnOk result (length heads.new.items ≤ length heads.old.items) }
+{
+    let least = bytes.len() / 2;
+    let (first, mut rest) = net(alloc, sinks, tables, nets.len(), head, bytes)?;
+    nets.push(first)?;
+    while let Some(head) = head_above(heads, rest.len(), least) {
+        let (next, after) = net(alloc, sinks, tables, nets.len(), head, rest)?;
+        nets.push(next)?;
+        rest = after;
+    }
+    Ok(Vec::from_slice(alloc, rest)?)
+}
+
+/// The nets of these heads. The bytes that are read are let go each time half of those that were left is read.
+pub fn nets(
     alloc: Global,
     sinks: &[u32],
     tables: u32,
     heads: Vec<NetHead>,
-    bytes: &'a [u8],
-) -> Result<(Vec<Net>, &'a [u8]), Stop>
-    ensures { Gives (λ x. (x.0.items, x.1.now)) result (nets_at sinks.now tables 0 heads.items bytes.entry.now) }
+    bytes: Vec<u8>,
+) -> Result<(Vec<Net>, Vec<u8>), Stop>
+    ensures { Gives (λ x. (x.0.items, x.1.items)) result (nets_at sinks.now tables 0 heads.items bytes.items) }
 {
     let mut nets = Vec::with_capacity(alloc, heads.len())?;
     let mut heads = VecDeque::from(heads);
     let mut rest = bytes;
     while let Some(head) = next_head(&mut heads) {
-        let (net, after) = net(alloc, sinks, tables, nets.len(), head, rest)?;
-        nets.push(net)?;
-        rest = after;
+        rest = stretch(
+            alloc,
+            sinks,
+            tables,
+            &mut nets,
+            head,
+            &mut heads,
+            rest.as_slice(),
+        )?;
     }
     Ok((nets, rest))
 }

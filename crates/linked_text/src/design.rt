@@ -1,6 +1,6 @@
 //! From a linked text to a design.
 
-ghost use Rattle.std.specs.Prelude.{◌≡◌, ◌<◌, ◌≤◌, ◌+◌, ◌==◌, ◌^◌, ◌↔◌, ℕ, List, length, Option};
+ghost use Rattle.std.specs.Prelude.{◌≡◌, ◌<◌, ◌+◌, ◌-◌, ◌==◌, ◌^◌, ◌↔◌, ℕ, List, Option};
 ghost use Rattle.std.specs.Prelude.{Err, IfOk, IsTrue};
 ghost use Rattle.std.specs.List.{count_by};
 ghost use Rattle.xt_model.specs.declared.code.Code.{Code};
@@ -11,21 +11,12 @@ ghost use Rattle.text_lines.specs.Lines.{text_of};
 ghost use Rattle.linked_text.specs.declared.fault.LinkedFault.TheVariants.{Refused, Limit};
 ghost use Rattle.linked_text.specs.Linked.{linked};
 ghost use Rattle.linked_text.specs.Answers.{Answers, IsTextOf, Tells};
-ghost use Rattle.linked_text.specs.Meaning.{line_number};
 
 use crate::fault::{Fault, LinkedFault, Stop};
 use crate::parts::{end, parts};
-use crate::read_line::refused;
+use crate::read_line::{newlines, refused};
 use std::alloc::Global;
 use xt_model::{BuildFault, Code, Design};
-
-/// How many newlines there are.
-fn newlines(bytes: &[u8]) -> usize
-    ensures value { result ≡ count_by (λ b. b == 10) bytes.now }
-    ensures within { result ≤ length bytes.now }
-{
-    bytes.iter().filter(|b| **b == b'\n').count()
-}
 
 /// Whether the number of each line of a text fits 32 bits, which `read_linked` asks for.
 pub fn has_numbered_lines(bytes: &[u8]) -> bool
@@ -34,20 +25,20 @@ pub fn has_numbered_lines(bytes: &[u8]) -> bool
     newlines(bytes) < (1 << 32) - 1
 }
 
-/// The number of the line that begins where `left` bytes are left.
-fn line_number(bytes: &[u8], left: usize) -> u32
-    requires { count_by (λ b. b == 10) bytes.now + 1 < 2 ^ 32 }
-    ensures { result ≡ line_number bytes.now left }
+/// The number of the line from which on `left` of all newlines are left.
+fn line_number(all: usize, left: usize) -> u32
+    requires { all + 1 < 2 ^ 32 }
+    ensures { result ≡ 1 + (all - left) }
 {
-    let (before, _) = bytes.split_at(bytes.len().saturating_sub(left));
-    1 + newlines(before) as u32
+    1 + all.saturating_sub(left) as u32
 }
 
 /// The design of a text, or its first refusal.
-fn read(alloc: Global, bytes: &[u8]) -> Result<Design, Stop>
-    ensures { Answers bytes.now result }
+fn read(alloc: Global, bytes: Vec<u8>) -> Result<Design, Stop>
+    ensures { Answers bytes.items result }
 {
-    let (parts, last) = parts(alloc, bytes)?;
+    let (parts, behind) = parts(alloc, bytes)?;
+    let last = behind.as_slice();
     let (_, rest) = end(alloc, &parts, last)?;
     match Design::from_parts(alloc, parts) {
         Ok(design) => {
@@ -62,14 +53,15 @@ fn read(alloc: Global, bytes: &[u8]) -> Result<Design, Stop>
 }
 
 /// The same with the number of the line that is refused.
-fn tell(alloc: Global, bytes: &[u8]) -> Result<Design, LinkedFault>
-    requires { count_by (λ b. b == 10) bytes.now + 1 < 2 ^ 32 }
-    ensures { Tells bytes.now result }
+fn tell(alloc: Global, bytes: Vec<u8>) -> Result<Design, LinkedFault>
+    requires { count_by (λ b. b == 10) bytes.items + 1 < 2 ^ 32 }
+    ensures { Tells bytes.items result }
 {
+    let all = newlines(bytes.as_slice());
     match read(alloc, bytes) {
         Ok(design) => Ok(design),
         Err(Stop::At(Fault::Refused { left, code })) => Err(LinkedFault::Refused {
-            line: line_number(bytes, left),
+            line: line_number(all, left),
             code,
         }),
         Err(Stop::At(Fault::Limit { what, name, value })) => {
@@ -94,6 +86,16 @@ pub fn read_linked(alloc: Global, bytes: &[u8]) -> Result<Design, LinkedFault>
         → (d : Parts) → IsTextOf bytes.now d → ⊥ }
     ensures limited { (what : LimitKind) (name : Option (List ℕ)) (value : ℕ) → result ≡ Err (Limit what name value)
         → (d : Parts) → IsTextOf bytes.now d → ⊥ }
+{
+    let text = Vec::from_slice(alloc, bytes)?;
+    tell(alloc, text)
+}
+
+/// The same as `read_linked`, of a text that is let go while it is read: each time half of what was left is read.
+pub fn read_linked_text(alloc: Global, bytes: Vec<u8>) -> Result<Design, LinkedFault>
+    requires { count_by (λ b. b == 10) bytes.items + 1 < 2 ^ 32 }
+    ensures means { Tells bytes.items result }
+    ensures ok { IfOk result (IsTextOf bytes.items) }
 {
     tell(alloc, bytes)
 }

@@ -38,7 +38,7 @@ impl<T: Drop> From<AllocFailed<T>> for LineStop {
 /// The first refusal of a text.
 #[derive(Debug, Drop, Error)]
 pub enum Fault {
-    /// The line is refused that begins where `left` bytes of the text are left.
+    /// The line is refused from which on `left` newlines of the text are left.
     #[error("a line that is refused")]
     Refused {
         left: usize,

@@ -16,6 +16,7 @@ use crate::read_line::{read_line, read_lines};
 use crate::tables::tables;
 use sound_parts::reads_in_all;
 use std::alloc::Global;
+use std::mem::drop;
 use xt_model::limits::{MOST_CHECKS, MOST_NETS, MOST_READS, MOST_TABLES};
 use xt_model::{DesignParts, LimitKind, Miller, Row};
 
@@ -52,23 +53,26 @@ fn miller(alloc: Global, classical: bool, bytes: &[u8]) -> Result<(Miller, &[u8]
 
 /// The parts of a text up to its last line, and the bytes from that line on.
 #[tactic(auto, unfolding(crate::specs::Meaning::parts_at))]
-pub fn parts(alloc: Global, bytes: &[u8]) -> Result<(DesignParts, &[u8]), Stop>
-    ensures { Gives (λ x. (x.0, x.1.now)) result (parts_at bytes.now) }
+pub fn parts(alloc: Global, bytes: Vec<u8>) -> Result<(DesignParts, Vec<u8>), Stop>
+    ensures { Gives (λ x. (x.0, x.1.items)) result (parts_at bytes.items) }
 {
-    let (version, rest) = read_line(alloc, &VersionReader, bytes)?;
+    let (version, rest) = read_line(alloc, &VersionReader, bytes.as_slice())?;
     let (counts, rest) = counts(alloc, rest)?;
     let (period, rest) = read_line(alloc, &PeriodReader, rest)?;
     let (miller, rest) = miller(alloc, version, rest)?;
     let (tables, rest) = tables(alloc, counts.tables, rest)?;
     let (heads, rest) = heads(alloc, counts.nets, rest)?;
     let sinks = sink_counts(alloc, heads.as_slice())?;
-    let (nets, rest) = nets(alloc, sinks.as_slice(), counts.tables, heads, rest)?;
+    let bodies = Vec::from_slice(alloc, rest)?;
+    drop(bytes);
+    let (nets, rest) = nets(alloc, sinks.as_slice(), counts.tables, heads, bodies)?;
     let reader = CheckReader {
         period: period.is_some(),
         sinks: sinks.as_slice(),
         tables: counts.tables,
     };
-    let (checks, rest) = read_lines(alloc, &reader, counts.checks, rest)?;
+    let (checks, rest) = read_lines(alloc, &reader, counts.checks, rest.as_slice())?;
+    let last = Vec::from_slice(alloc, rest)?;
     let parts = DesignParts {
         period,
         tables: Row::from_vec(tables),
@@ -76,7 +80,7 @@ pub fn parts(alloc: Global, bytes: &[u8]) -> Result<(DesignParts, &[u8]), Stop>
         checks: Row::from_vec(checks),
         miller,
     };
-    Ok((parts, rest))
+    Ok((parts, last))
 }
 
 /// The last line, at which the reads of all nets are tested, and the bytes behind it.

@@ -1,6 +1,6 @@
 //! Lines one after another.
 
-ghost use Rattle.std.specs.Prelude.{◌≡◌, List, Option, Result, ℕ, length};
+ghost use Rattle.std.specs.Prelude.{◌≡◌, ◌≤◌, List, Option, Result, ℕ, length};
 ghost use Rattle.xt_model.specs.declared.code.Code.{Code};
 ghost use Rattle.text_lines.specs.Lines.{Line};
 ghost use Rattle.linked_text.specs.declared.fault.Fault.TheVariants.{Refused};
@@ -8,7 +8,7 @@ ghost use Rattle.linked_text.specs.declared.fault.Stop.TheVariants.{At};
 ghost use Rattle.linked_text.specs.EachLine.{numbered};
 ghost use Rattle.linked_text.specs.Fields.{Finds, each, fields_of};
 ghost use Rattle.linked_text.specs.Gives.{Gives, LineGives};
-ghost use Rattle.linked_text.specs.Meaning.{line_at, many_at};
+ghost use Rattle.linked_text.specs.Meaning.{line_at, many_at, newlines};
 
 use crate::fault::{Fault, LineStop, NUMBERS, Stop};
 use crate::line::{Fields, cut};
@@ -56,12 +56,20 @@ pub trait LineReader {
         ensures { LineGives (λ x. x) result (of self.now (fields_of line.now)) };
 }
 
+/// How many newlines there are.
+pub fn newlines(bytes: &[u8]) -> usize
+    ensures value { result ≡ newlines bytes.now }
+    ensures within { result ≤ length bytes.now }
+{
+    bytes.iter().filter(|b| **b == b'\n').count()
+}
+
 /// The refusal of the line that these bytes begin with.
 pub fn refused(bytes: &[u8], code: Code) -> Stop
-    ensures { result ≡ At (Refused (length bytes.now) code) }
+    ensures { result ≡ At (Refused (newlines bytes.now) code) }
 {
     Stop::At(Fault::Refused {
-        left: bytes.len(),
+        left: newlines(bytes),
         code,
     })
 }

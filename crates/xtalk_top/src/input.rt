@@ -9,7 +9,7 @@ ghost use Rattle.xtalk_top.specs.declared.refusal.Failure.TheVariants.{NoText};
 
 use crate::file_name::FileName;
 use crate::refusal::{FileRefusal, Refusal, Stop, TextRefusal};
-use linked_text::{LinkedFault, read_linked};
+use linked_text::{LinkedFault, read_linked_text};
 use std::alloc::Global;
 use xt_io::{Files, ReadFail, read_whole};
 use xt_model::Design;
@@ -42,12 +42,12 @@ pub fn read_file<F: Files>(
 }
 
 /// The design whose linked text a file of this name holds.
-pub fn read_design(alloc: Global, file: FileName, bytes: &[u8]) -> Result<Design, Stop>
-    requires { length bytes.now ≤ most_bytes }
-    ensures ok { IfOk result (IsDesignText bytes.now) }
-    ensures stop { IfErr result (IsStop (LinkedMeans file bytes.now (λ _. ⊥)) (λ _. ⊥)) }
+pub fn read_design(alloc: Global, file: FileName, bytes: Vec<u8>) -> Result<Design, Stop>
+    requires { length bytes.items ≤ most_bytes }
+    ensures ok { IfOk result (IsDesignText bytes.items) }
+    ensures stop { IfErr result (IsStop (LinkedMeans file bytes.items (λ _. ⊥)) (λ _. ⊥)) }
 {
-    match read_linked(alloc, bytes) {
+    match read_linked_text(alloc, bytes) {
         Ok(design) => Ok(design),
         Err(LinkedFault::Refused { line, code }) => Err(Stop::Refused(Refusal::File {
             file,

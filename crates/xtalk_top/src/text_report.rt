@@ -15,7 +15,6 @@ use crate::input::{read_design, read_file};
 use crate::refusal::Stop;
 use report_text::ReportKind;
 use std::alloc::Global;
-use std::mem::drop;
 use xt_io::Files;
 use xt_model::Miller;
 
@@ -38,9 +37,7 @@ pub fn report_of_text<F: Files>(
         → KeepsCounts (F.faults files.old) (F.faults files.new)) }
 {
     let (file, bytes) = read_file(alloc, files, file)?;
-    let design = read_design(alloc, file, &bytes)?;
-    // The design stands without its text, whose memory is free for the windows.
-    drop(bytes);
+    let design = read_design(alloc, file, bytes)?;
     let design = counted_by(design, miller);
     report(alloc, &design, kind, picks)
 }

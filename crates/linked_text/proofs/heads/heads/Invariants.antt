@@ -1,7 +1,6 @@
 use Rattle.std.proofs.Common.{◌≡◌, []}
 use Rattle.linked_text.specs.Fits.{AreFew}
-use Rattle.linked_text.specs.Meaning.{heads_at, no_sums}
-use Rattle.linked_text.proofs.Loop.{with_front}
+use Rattle.linked_text.specs.Meaning.{heads_at, no_sums, with_front}
 use Rattle.linked_text.proofs.heads.heads.Given as goal
 
 abbrev pub invariant-loop-left : goal.invariant-loop-left

@@ -1,6 +1,5 @@
 use Rattle.std.proofs.Common.{◌≡◌}
-use Rattle.linked_text.specs.Meaning.{line_at, many_at}
-use Rattle.linked_text.proofs.Loop.{with_front}
+use Rattle.linked_text.specs.Meaning.{line_at, many_at, with_front}
 use Rattle.linked_text.proofs.read_line.read_lines.Given as goal
 
 abbrev pub invariant-loop-left : goal.invariant-loop-left

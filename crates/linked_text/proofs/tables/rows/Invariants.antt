@@ -1,6 +1,5 @@
 use Rattle.std.proofs.Common.{◌≡◌, ◌-◌}
-use Rattle.linked_text.specs.Meaning.{rows_at}
-use Rattle.linked_text.proofs.Loop.{with_front}
+use Rattle.linked_text.specs.Meaning.{rows_at, with_front}
 use Rattle.linked_text.proofs.tables.rows.Given as goal
 
 abbrev pub invariant-loop : goal.invariant-loop

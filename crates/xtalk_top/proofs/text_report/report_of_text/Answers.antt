@@ -17,18 +17,18 @@ returns-in_err-design-clause-stop g c =
     (λ o h. file_leads file content (λ b. LinkedMeans file b (λ d. DesignMeans kind (counted_by miller d) o) o) o bytes c.in_ok-file.ensures.whole c.in_ok-file.ensures.fits
     (linked_stops file bytes (λ d. DesignMeans kind (counted_by miller d) o) o h))
     (λ f h. absurd h)
-    (rw (c.deref.ensures.value, c.in_ok-file.ensures.name) at c.in_err-design.ensures.stop)))
+    (rw c.in_ok-file.ensures.name at c.in_err-design.ensures.stop)))
 
 pub returns-clause-ok : goal.returns-clause-ok
 returns-clause-ok g c =
-    let text = rw c.deref.ensures.value at c.in_ok-design.ensures.ok in
+    let text = c.in_ok-design.ensures.ok in
     IfOk-weaker c.report.result _ _ (λ report h.
     design_leads c.args.file c.args.miller c.args.kind (g.F.Files.content c.args.files.now) c.in_ok-file.bytes.items c.in_ok-design.design c.counted_by-design.result (prints report.items)
     c.in_ok-file.ensures.whole c.in_ok-file.ensures.fits text c.counted_by-design.ensures.value h) c.report.ensures.ok
 
 pub returns-clause-stop : goal.returns-clause-stop
 returns-clause-stop g c =
-    let text = rw c.deref.ensures.value at c.in_ok-design.ensures.ok in
+    let text = c.in_ok-design.ensures.ok in
     let content = g.F.Files.content c.args.files.now in
     IfErr-weaker c.report.result _ _ (λ stop h.
     lift_stop (DesignMeans c.args.kind c.counted_by-design.result) (TextReportMeans c.args.file c.args.miller c.args.kind content) (λ _. ⊥)
