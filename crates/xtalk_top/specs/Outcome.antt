@@ -58,7 +58,7 @@ FileMeans file content Leads outcome =
 abbrev pub IsDesignText : Text → Parts → Type 0
 IsDesignText bytes d = IsTextOf bytes d
 
--- why a linked text is refused: its first refusal, by the line that begins where so many bytes are left, or by the
+-- why a linked text is refused: its first refusal, by the line from which on so many newlines are left, or by the
 -- limit that it passes
 abbrev pub why_refused : Text → Fault → TextRefusal
 why_refused bytes (faults.Refused left code) = At (line_number bytes left) code
