@@ -110,7 +110,8 @@ fn end_node(alloc: Global, delimiter: u8, end: &End) -> Result<Name, AllocError>
     requires { IsName (delimiter ∷ []) }
     ensures { IfOk result (λ name. name ≡ end_name delimiter end.now) }
 {
-    prove!(!end.name().bytes().is_empty());
+    let name = end.name().bytes();
+    prove!(!name.is_empty());
     let bytes = end.node(alloc, delimiter)?;
     Ok(Name::new(bytes))
 }
