@@ -144,7 +144,7 @@ def first_use(at):
     assert status == 7 and said == f"{at.kit}|a|b c|", (status, said, told)
     count = len(set(at.done()[1]))
     assert at.done() == (1, list(dict.fromkeys(at.done()[1])))
-    assert f"proving {count} crates" in told and f"xtalk: {count} of {count} after" in told, told
+    assert told.startswith(f"xtalk: proving {count} crates, ") and f"xtalk: {count} of {count} after" in told, told
     assert at.work_of(lambda: at.call("a")) == (0, 0)
     assert at.call("a")[2] == ""
     assert sorted(path.name for path in (at.top / "crates/xtalk_cli/out").glob("launcher*")) in (

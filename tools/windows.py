@@ -51,7 +51,7 @@ def read(path, wanted):
                         windows[words[1], words[2]] = tuple(numbers[:4]), tuple(numbers[4:])
                     if wanted is None and len(windows) > MOST_LANES:
                         stop(f"{path} has more than {MOST_LANES // 2} nets: name those to draw")
-                elif words[:1] == ["guilty"]:
+                elif words[:1] == ["guilty"] and (wanted is None or {words[1], words[3]} <= wanted):
                     links.append((words[1], words[2], words[3], words[6], words[8]))
                 elif words[:1] == ["period"]:
                     period = words[1]
@@ -72,6 +72,15 @@ def span(quad):
     """From the first to the last moment at which the edge can be under way."""
     half = -(-quad[3] // 2)
     return quad[0] - half, quad[1] + half
+
+
+def told(lane, quads):
+    """A lane's windows in words, which a browser shows over its band."""
+    words = " ".join(lane)
+    for name, quad in zip(("least", "greatest"), quads):
+        numbers = [f"{'-' if time < 0 else ''}{abs(time) // 1000}.{abs(time) % 1000:03}" for time in quad]
+        words += "\n{}: {} to {} ps, slew {} to {} ps".format(name, *numbers) if is_live(quad) else f"\n{name}: never"
+    return words
 
 
 def ticks(low, high):
@@ -115,6 +124,7 @@ def picture(windows, links, period, names):
             out.append(f'<line x1="{left}" y1="{y}" x2="{left + WIDTH}" y2="{y}" stroke="#dddddd"/>')
             out.append(f'<text x="{left + 6}" y="{y - 3:.1f}" fill="{GREY}" font-size="9">quiet</text>')
             continue
+        out.append(f"<g><title>{escape(told(lane, windows[lane]))}</title>")
         start, end = (y + HEIGHT / 2, y - HEIGHT / 2) if lane[1] == "rise" else (y - HEIGHT / 2, y + HEIGHT / 2)
         for quad, colour in zip(reversed(windows[lane]), (GREATEST, LEAST)):
             if is_live(quad):
@@ -124,19 +134,21 @@ def picture(windows, links, period, names):
                 points = " ".join(f"{x(time):.1f},{at:.1f}" for time, at in corners)
                 out.append(f'<polygon points="{points}" fill="{colour}" stroke="{colour}" stroke-width="1.5" '
                            'stroke-linejoin="round" fill-opacity="0.75"/>')
+        out.append("</g>")
     drawn = 0
     for victim, edge, aggressor, fast, slow in links:
         other = EDGES[1 - EDGES.index(edge)]
-        for mark, at, colour in ((fast, edge, FAST), (slow, other, SLOW)):
+        for word, mark, at, colour, lower in (("fast", fast, edge, FAST, -3), ("slow", slow, other, SLOW, 3)):
             if mark == "no" or (victim, edge) not in place or (aggressor, at) not in place:
                 continue
-            a, b = middle((aggressor, at)), middle((victim, edge))
+            a, b = middle((aggressor, at)), middle((victim, edge)) + lower
             right = left + WIDTH + 4
             reach = right + 22 + 12 * (drawn % 8)
             dash = "" if mark == "sure" else ' stroke-dasharray="4 3"'
+            out.append(f"<g><title>{escape(f'{aggressor} {at} can make {victim} {edge} {word}: {mark}')}</title>")
             out.append(f'<path d="M{right},{a:.1f} C{reach},{a:.1f} {reach},{b:.1f} {right + 5},{b:.1f}" fill="none" '
                        f'stroke="{colour}"{dash}/>')
-            out.append(f'<path d="M{right},{b:.1f} l7,-3 l0,6 z" fill="{colour}"/>')
+            out.append(f'<path d="M{right},{b:.1f} l7,-3 l0,6 z" fill="{colour}"/></g>')
             drawn += 1
     key = [("least window", LEAST, ""), ("greatest window", GREATEST, ""), ("fast", FAST, ""), ("slow", SLOW, "")]
     at = left
