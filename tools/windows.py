@@ -172,6 +172,8 @@ def main():
         return
     path, names = sys.argv[1], list(dict.fromkeys(sys.argv[2:]))
     windows, links, period = read(path, set(names) if names else None)
+    if not windows and not names:
+        stop(f"{path} has no `net` lines, as by --kind checks: there is nothing to draw")
     for name in names:
         if not any((name, edge) in windows for edge in EDGES):
             stop(f"{path} has no windows of a net {name}")
