@@ -48,7 +48,8 @@ for crate, lock in zip(order, held):
         print(f"rt: waiting for another rt to finish in {top}/crates/{crate}", file=sys.stderr, flush=True)
         fcntl.flock(lock, fcntl.LOCK_EX)
 def files(crate, part):
-    return [f"{at}/{file}" for at, _, names in sorted(os.walk(f"{top}/crates/{crate}/{part}")) for file in sorted(names)]
+    walk = sorted(os.walk(f"{top}/crates/{crate}/{part}"))
+    return [f"{at}/{file}" for at, _, names in walk for file in sorted(names)]
 def prove(crate):
     texts = [(file, open(file, "rb").read()) for part in ("src", "specs", "proofs") for file in files(crate, part)]
     kept, state = f"{top}/crates/{crate}/out/kept", hashlib.sha256(repr(texts).encode()).hexdigest()
@@ -102,6 +103,8 @@ class Place:
         self.top, self.kit, self.tools = folder / "a clone", folder / "kit", folder / "tools"
         self.tools.mkdir()
         (self.kit / "bin").mkdir(parents=True)
+        (folder / "temporary").mkdir()
+        self.temporary = folder / "temporary"
         (self.kit / "KIT-ID").write_text(f"stand-in logic {LOGIC}\n")
         (self.kit / "START-HERE.md").touch()
         (self.kit / "builds").touch()
@@ -116,11 +119,13 @@ class Place:
         path.chmod(path.stat().st_mode | stat.S_IXUSR)
 
     def environment(self, **more):
-        return dict(os.environ, **{"PATH": f"{self.tools}:{self.kit}/bin:{os.environ['PATH']}", **more})
+        return dict(os.environ, **{"PATH": f"{self.tools}:{self.kit}/bin:{os.environ['PATH']}",
+                                     "TMPDIR": str(self.temporary), **more})
 
     def begin(self, *words, launcher=None, **more):
-        return subprocess.Popen([*(launcher or [self.top / "xtalk"]), *words], cwd=self.kit, env=self.environment(**more),
-                                stdout=subprocess.PIPE, stderr=subprocess.PIPE, text=True, start_new_session=True)
+        how = {"stdout": subprocess.PIPE, "stderr": subprocess.PIPE, "text": True, "start_new_session": True}
+        return subprocess.Popen([*(launcher or [self.top / "xtalk"]), *words], cwd=self.kit,
+                                env=self.environment(**more), **how)
 
     def call(self, *words, **more):
         run = self.begin(*words, **more)
@@ -180,7 +185,7 @@ def changes(at):
         "its going again": lambda: (crates / "xtalk_cli/specs").rmdir(),
         "crates.txt": lambda: same_time(at.top / "crates.txt"),
         "HANDLES": lambda: same_time(at.top / "HANDLES"),
-        "another kit": lambda: (at.kit / "KIT-ID").write_text(f"another logic {LOGIC}\n"),
+        "another kit": lambda: (at.kit / "KIT-ID").write_text(f"kit {time.time_ns()} logic {LOGIC}\n"),
         "the program gone": lambda: (crates / "xtalk_cli/out/xtalk_cli").unlink(),
     }
     for what, change in every.items():
@@ -265,7 +270,8 @@ def places(at):
     link.symlink_to(at.top / "xtalk")
     for launcher in ([link], ["bash", at.top / "xtalk"], [os.path.relpath(at.top / "xtalk", at.kit)]):
         assert at.work_of(lambda: at.call("a", launcher=launcher)) == (0, 0)
-    run = subprocess.run(["bash", "xtalk", "a"], cwd=at.top, env=at.environment(CDPATH="/"), capture_output=True, text=True)
+    run = subprocess.run(["bash", "xtalk", "a"], cwd=at.top, env=at.environment(CDPATH="/"), capture_output=True,
+                         text=True)
     assert run.returncode == 7 and run.stdout == f"{at.top}|a|" and not run.stderr, run
 
 
@@ -312,6 +318,7 @@ def main():
         tests = (first_use, changes, two_at_once, stopped, failing, toolchains, places, terminal, old_find)
         for test in tests if not sys.argv[1:] else tests[:1] + tuple(it for it in tests if it.__name__ in sys.argv):
             test(at)
+            assert not list(at.temporary.iterdir()), "a temporary file is left"
             print(f"{test.__name__}: well", flush=True)
         cost(at)
 
