@@ -9,8 +9,8 @@ pub unreachable-requires : goal.unreachable-requires
 unreachable-requires c =
     bit_there c.args.index.now c.args.index.now refl _ (c.requires c.loop-net.net-index _ c.loop-net-test.true) c.in_default.ensures.value
 
-pub new-requires-in-loop-net : goal.new-requires-in-loop-net
-new-requires-in-loop-net c = subst IsName (sym c.in_ok-bytes.ensures.items) c.in-Some.ensures.spelled
+pub new-requires : goal.new-requires
+new-requires c = subst IsName (sym c.in_ok-bytes.ensures.items) c.in-Some.ensures.spelled
 
 pub returns : goal.returns
 returns c =
