@@ -6,7 +6,8 @@
 writes block.lib, block.v, block.spef and block.sdc into FOLDER, the same ones for the same words. A sixth of the cells
 are flip-flops. A gate's inputs come from the layer before it, now and then from an earlier one; the first layer reads
 input ports and flip-flops, and the last one goes to flip-flops and output ports. In an order in which nets of one layer
-lie near one another each net couples with the one before and the one behind it. STYLE is how the extractor writes:
+lie near one another each net couples with the one before and the one behind it. STYLE is how the extractor writes (each
+style draws wires of its own, so reports of two styles differ):
 
   mapped   names by number, entries of pins, each coupling on both sides (the default)
   plain    names as they are, brackets escaped, FF and KOHM
