@@ -16,7 +16,6 @@ use Rattle.name_numbers.specs.Names.{Text, value_of, with_value}
 use Rattle.link_index.specs.Cells.{at_place}
 use Rattle.link_index.proofs.BitLaws.{or_none, from-append}
 
-
 -- a test of bytes, as an equation or not
 module _ {V : Type 0} where
   set_here : (m n k : Text) (v w : V) (rest : Option V) (b c : Bool) → bytes_eq n k ≡ true → bytes_eq m k ≡ b → bytes_eq m n ≡ c

@@ -50,7 +50,13 @@ pub fn limit_of(
     ensures { IfOk result (λ f. f ≡ limit_by listed net.now nodes load) }
 {
     if listed {
-        let fault = passed(alloc, LimitKind::Nodes, net, u128::from(nodes), MOST_NODES as u128)?;
+        let fault = passed(
+            alloc,
+            LimitKind::Nodes,
+            net,
+            u128::from(nodes),
+            MOST_NODES as u128,
+        )?;
         if fault.is_some() {
             return Ok(fault);
         }

@@ -98,7 +98,10 @@ enum CommandName {
 const WORKERS: OptionRule = OptionRule {
     name: "workers",
     is_required: false,
-    value: ValueRule::Number { least: 1, most: MOST_WORKERS as u64 },
+    value: ValueRule::Number {
+        least: 1,
+        most: MOST_WORKERS as u64,
+    },
 };
 
 const KIND: OptionRule = OptionRule {
@@ -112,7 +115,9 @@ const KIND: OptionRule = OptionRule {
 const MILLER: OptionRule = OptionRule {
     name: "miller",
     is_required: false,
-    value: ValueRule::RisingThree { most: MOST_FACTOR as u64 },
+    value: ValueRule::RisingThree {
+        most: MOST_FACTOR as u64,
+    },
 };
 
 const SOLVE: CommandRule = CommandRule {
@@ -144,7 +149,10 @@ const ORDER: OptionRule = OptionRule {
 const SOME_WORKERS: OptionRule = OptionRule {
     name: "workers",
     is_required: true,
-    value: ValueRule::Number { least: 1, most: MOST_WORKERS as u64 },
+    value: ValueRule::Number {
+        least: 1,
+        most: MOST_WORKERS as u64,
+    },
 };
 
 const REPLAY: CommandRule = CommandRule {
@@ -257,7 +265,11 @@ fn workers_or_one(text: Option<&str>) -> u32
     ensures { result ≡ Words.workers_or_one (option_map (λ t. t.now) text.entry) }
 {
     let count = number_or_one(text);
-    if 1 <= count && count <= MOST_WORKERS { count } else { 1 }
+    if 1 <= count && count <= MOST_WORKERS {
+        count
+    } else {
+        1
+    }
 }
 
 // The count of nets that is given: from 1 to 100,000.

@@ -35,7 +35,7 @@ returns-in_err-check_sizes-clause-fault c =
     let x : Inputs = record { library = c.args.cells.now; netlist = c.args.index.now; parasitics = c.args.parasitics.now; constraints = c.args.constraints.now } in
     let kept = subst (λ (n : Netlist). instance_fault c.args.cells.now n ≡ None) c.netlist.ensures c.in_ok-check_instances.ensures in
     let found = subst (λ (l : Library). IsFound (size_fault (plain_parts l c.in_ok-circuit.circuit c.deref.result.now)) c.in_err-check_sizes.field-0.0)
-        c.library.ensures c.in_err-check_sizes.ensures in
+    c.library.ensures c.in_err-check_sizes.ensures in
     let h : Links x (Err c.in_err-check_sizes.field-0.0) =
     refused x c.args.cells.now c.args.index.now c.in_ok-circuit.circuit c.as_slice-nets.result.now c.in_ok-wires.wires.items c.deref.result.now refl refl
     c.requires.counts kept c.in_ok-circuit.ensures c.as_slice-nets.ensures c.in_ok-wires.ensures.ok c.deref.ensures.value
