@@ -1,6 +1,7 @@
 //! The bodies of the nets.
 
-ghost use Rattle.std.specs.Prelude.{◌≡◌, ◌≤◌, ◌^◌, ◌≤ℤ◌, neg_ℤ, pos, unsigned_abs, [], ◌∷◌, length, MatchOption, IfOk, IfErr, OnOk};
+ghost use Rattle.std.specs.Prelude.{◌≡◌, ◌≤◌, ◌^◌, ◌≤ℤ◌, neg_ℤ, pos, unsigned_abs, [], ◌∷◌, length};
+ghost use Rattle.std.specs.Prelude.{MatchOption, IfOk, IfErr, OnOk};
 ghost use Rattle.xt_model.specs.Sound.{coupling_sum, greatest_load};
 ghost use Rattle.linked_text.specs.Gives.{Fails, Gives};
 ghost use Rattle.linked_text.specs.Meaning.{coupled_net, couplings_at, net_at, nets_at, nets_behind, pair_at};
