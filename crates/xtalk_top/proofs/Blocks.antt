@@ -3,6 +3,9 @@ use Rattle.std.proofs.Common.{◌≡◌, ◌⊎◌, ◌<◌, ◌≤◌, ◌∙�
 use Rattle.xt_model.specs.declared.code.Code.{Code}
 use Rattle.xt_model.specs.Parts.{Parts}
 use Rattle.text_forms.specs.Forms.{Refusal as Place}
+use Rattle.liberty_cells.specs.declared.library.Library.{Library}
+use Rattle.verilog_net.specs.declared.netlist.Netlist.{Netlist}
+use Rattle.spef_read.specs.Reading.{parasitics_of}
 use Rattle.link_rules.specs.Bare.{Inputs}
 use Rattle.xt_io.specs.Outside.{KeepsCounts, Rose}
 use Rattle.xtalk_top.specs.Words.{Text}
@@ -11,7 +14,7 @@ use Rattle.xtalk_top.specs.declared.refusal.TextRefusal.TheVariants.{At}
 use Rattle.xtalk_top.specs.declared.refusal.FileRefusal.TheVariants.{Content}
 use Rattle.xtalk_top.specs.declared.refusal.Refusal.TheVariants.{File}
 use Rattle.xtalk_top.specs.Call.{HasFault}
-use Rattle.xtalk_top.specs.Linking.{BlockMeans, FileAndText, FilesMean, HoldInputs, HoldsText, LinkingMeans, MakeDesign, SourceMeans}
+use Rattle.xtalk_top.specs.Linking.{BlockMeans, FileAndText, FilesMean, HoldInputs, HoldsText, LastFilesMean, LinkingMeans, MakeDesign, SourceMeans, constraints_for}
 use Rattle.xtalk_top.specs.declared.words.BlockFiles.{BlockFiles}
 
 -- a text that is refused, wherever a value would lead
@@ -52,6 +55,24 @@ pub holds_as : {V : Type 0} (file : Text) (before now : Contents) (meant : Text 
     → now file ≡ before file → HoldsText file now meant v → HoldsText file before meant v
 holds_as file before now meant v e h = record { bytes = h.bytes; held = if_same (λ whole. h.bytes ≡ whole) (now file) (before file) e h.held; fits = h.fits; means = h.means }
 
+-- files whose values make no design, wherever a design would lead
+pub sources_stop : {V : Type 0} (file : Text) (content : Contents) (meant : Text → Result V (Place Code)) (P Q : V → Type 0) (o : Outcome)
+    → ((v : V) → P v → Q v) → FileAndText file content meant P o → FileAndText file content meant Q o
+sources_stop file content meant P Q o f (inl cannot) = inl cannot
+sources_stop file content meant P Q o f (inr (inl long)) = inr (inl long)
+sources_stop {V} file content meant P Q o f (inr (inr held)) = inr (inr (held.0, held.1, held.2, go (meant held.0) held.3))
+  where
+    go : (r : Result V (Place Code)) → SourceMeans file r P o → SourceMeans file r Q o
+    go (Ok v) h = f v h
+    go (Err p) h = h
+
+-- the last two files, whose contents are as before
+pub last_as : (spef sdc : Text) (before now : Contents) (library : Library) (netlist : Netlist) (Leads : Inputs → Type 0) (o : Outcome) → now spef ≡ before spef → now sdc ≡ before sdc
+    → LastFilesMean spef sdc now library netlist Leads o → LastFilesMean spef sdc before library netlist Leads o
+last_as spef sdc before now library netlist Leads o one two h =
+    text_as spef before now parasitics_of _ o one
+    (sources_stop spef now parasitics_of _ _ o (λ p k. text_as sdc before now (constraints_for library netlist) _ o two k) h)
+
 -- ---- the four files
 
 module _ (files : BlockFiles) (content : Contents) (Leads : Inputs → Type 0) (o : Outcome) where
@@ -66,17 +87,6 @@ module _ (files : BlockFiles) (content : Contents) (Leads : Inputs → Type 0) (
 pub linking_stops : (x : Inputs) (Leads : Parts → Type 0) (o : Outcome) → LinkingMeans x (λ _. ⊥) o → LinkingMeans x Leads o
 linking_stops x Leads o (inl none) = inl none
 linking_stops x Leads o (inr some) = absurd some.3
-
--- files whose values make no design, wherever a design would lead
-pub sources_stop : {V : Type 0} (file : Text) (content : Contents) (meant : Text → Result V (Place Code)) (P Q : V → Type 0) (o : Outcome)
-    → ((v : V) → P v → Q v) → FileAndText file content meant P o → FileAndText file content meant Q o
-sources_stop file content meant P Q o f (inl cannot) = inl cannot
-sources_stop file content meant P Q o f (inr (inl long)) = inr (inl long)
-sources_stop {V} file content meant P Q o f (inr (inr held)) = inr (inr (held.0, held.1, held.2, go (meant held.0) held.3))
-  where
-    go : (r : Result V (Place Code)) → SourceMeans file r P o → SourceMeans file r Q o
-    go (Ok v) h = f v h
-    go (Err p) h = h
 
 pub block_stops : (files : BlockFiles) (content : Contents) (Leads : Parts → Type 0) (o : Outcome) → BlockMeans files content (λ _. ⊥) o → BlockMeans files content Leads o
 block_stops files content Leads o h =

@@ -10,6 +10,7 @@ use Rattle.liberty_cells.specs.declared.library.Library.{Library}
 use Rattle.verilog_net.specs.Reading.{netlist_of_text}
 use Rattle.verilog_net.specs.declared.netlist.Netlist.{Netlist}
 use Rattle.spef_read.specs.Reading.{parasitics_of}
+use Rattle.spef_read.specs.declared.parasitics.Parasitics.{Parasitics}
 use Rattle.sdc_read.specs.Reading.{constraints_of}
 use Rattle.sdc_read.specs.declared.constraints.Constraints.{Constraints}
 use Rattle.link_rules.specs.Bare.{Inputs}
@@ -43,20 +44,25 @@ abbrev pub constraints_for : Library → Netlist → Text → Result Constraints
 constraints_for library netlist bytes =
     constraints_of bytes netlist.nets library.time_scale library.cap_scale
 
+-- the last two files in their order, for the library and the netlist of the first two
+abbrev pub LastFilesMean : Text → Text → Contents → Library → Netlist → (Inputs → Type 0) → Outcome → Type 0
+LastFilesMean spef sdc content library netlist Leads outcome =
+    FileAndText spef content parasitics_of (λ parasitics.
+    FileAndText sdc content (constraints_for library netlist) (λ constraints.
+    Leads (record {
+      library = library;
+      netlist = netlist;
+      parasitics = parasitics;
+      constraints = constraints;
+    })) outcome) outcome
+
 -- the four files in their order, each read and then its text: the first that gives nothing has the outcome, or their
 -- values lead to it
 abbrev pub FilesMean : BlockFiles → Contents → (Inputs → Type 0) → Outcome → Type 0
 FilesMean files content Leads outcome =
     FileAndText files.lib content library_meant (λ library.
     FileAndText files.netlist content netlist_of_text (λ netlist.
-    FileAndText files.spef content parasitics_of (λ parasitics.
-    FileAndText files.sdc content (constraints_for library netlist) (λ constraints.
-    Leads (record {
-      library = library;
-      netlist = netlist;
-      parasitics = parasitics;
-      constraints = constraints;
-    })) outcome) outcome) outcome) outcome
+    LastFilesMean files.spef files.sdc content library netlist Leads outcome) outcome) outcome
 
 -- ---- linking
 
@@ -91,6 +97,21 @@ pub record HoldInputs (files : BlockFiles) (content : Contents) (x : Inputs) : T
   pub netlist : HoldsText files.netlist content netlist_of_text x.netlist
   pub parasitics : HoldsText files.spef content parasitics_of x.parasitics
   pub constraints : HoldsText files.sdc content (constraints_for x.library x.netlist) x.constraints
+
+-- the last two files make this design, for the library and the netlist of the first two
+pub record FinishDesign (spef sdc : Text) (content : Contents) (library : Library) (netlist : Netlist) (d : Parts)
+    : Type 0 where
+  pub parasitics : Parasitics
+  pub constraints : Constraints
+  pub spef_held : HoldsText spef content parasitics_of parasitics
+  pub sdc_held : HoldsText sdc content (constraints_for library netlist) constraints
+  pub linked : IsLinked (record {
+    library = library;
+    netlist = netlist;
+    parasitics = parasitics;
+    constraints = constraints;
+  }) d
+  pub sound : IsSound d
 
 -- the four files make this design
 pub record MakeDesign (files : BlockFiles) (content : Contents) (d : Parts) : Type 0 where

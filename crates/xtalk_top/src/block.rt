@@ -12,6 +12,7 @@ ghost use Rattle.link_rules.specs.Link.{IsLinked};
 ghost use Rattle.link_rules.specs.Sound.{AreSoundConstraints, AreSoundParasitics, IsSoundLibrary, IsSoundNetlist};
 ghost use Rattle.xtalk_top.specs.Call.{HasFault, IsStop, status_of};
 ghost use Rattle.xtalk_top.specs.Linking.{BlockMeans, FileAndText, HoldsText, LinkingMeans, MakeDesign};
+ghost use Rattle.xtalk_top.specs.Linking.{FinishDesign, LastFilesMean};
 ghost use Rattle.xtalk_top.specs.Linking.{constraints_for};
 ghost use Rattle.xtalk_top.specs.Words.{Text};
 ghost use Rattle.xtalk_top.specs.declared.refusal.Failure.TheVariants.{NoText};
@@ -178,6 +179,32 @@ fn linked(
     }
 }
 
+// The design that the last two files of a block make, for the library and the netlist of the first two.
+fn finish_block<F: Files>(
+    alloc: Global,
+    files: &mut F,
+    spef: FileName,
+    sdc: FileName,
+    library: &Library,
+    netlist: &Netlist,
+) -> Result<Design, Stop>
+    requires library { IsSoundLibrary library.now }
+    requires time { IsScale library.now.time_scale }
+    requires cap { IsScale library.now.cap_scale }
+    requires netlist { IsSoundNetlist netlist.now }
+    ensures ok { IfOk result (FinishDesign spef sdc (F.content files.old) library.now netlist.now) }
+    ensures stop { IfErr result (IsStop
+        (λ o. LastFilesMean spef sdc (F.content files.old) library.now netlist.now (λ x. LinkingMeans x (λ _. ⊥) o) o)
+        (HasFault (F.faults files.old) (F.faults files.new))) }
+    ensures calm { IfOk result (λ _. KeepsCounts (F.faults files.old) (F.faults files.new)) }
+    ensures read { IfErr result (λ stop. status_of (NoText stop) ≢ 6
+        → KeepsCounts (F.faults files.old) (F.faults files.new)) }
+{
+    let parasitics = parasitics(alloc, files, spef)?;
+    let constraints = constraints(alloc, files, sdc, library, netlist)?;
+    linked(alloc, library, netlist, &parasitics, &constraints)
+}
+
 /// The design that the four files of a block make.
 pub fn read_block<F: Files>(alloc: Global, files: &mut F, block: BlockFiles) -> Result<Design, Stop>
     ensures ok { IfOk result (MakeDesign block (F.content files.old)) }
@@ -195,7 +222,5 @@ pub fn read_block<F: Files>(alloc: Global, files: &mut F, block: BlockFiles) -> 
     } = block;
     let library = library(alloc, files, lib)?;
     let netlist = netlist(alloc, files, netlist_file)?;
-    let parasitics = parasitics(alloc, files, spef)?;
-    let constraints = constraints(alloc, files, sdc, &library, &netlist)?;
-    linked(alloc, &library, &netlist, &parasitics, &constraints)
+    finish_block(alloc, files, spef, sdc, &library, &netlist)
 }
