@@ -1,12 +1,13 @@
 ghost use Rattle.std.specs.Prelude.{IfOk};
-ghost use Rattle.xt_model.specs.declared.direction.Direction.TheVariants.{Narrow};
+ghost use Rattle.xt_model.specs.declared.direction.Direction.TheVariants.{Narrow, Widen};
 ghost use Rattle.xt_meaning.specs.Barrier.{IsFittingStart};
 ghost use Rattle.xt_meaning.specs.Fixpoint.{IsLeastFixpoint, IsGreatestFixpoint};
+ghost use Rattle.net_eval.specs.ReadLists.{AreReadLists};
 ghost use Rattle.xtalk_top.specs.Words.{IsWorkerCount};
 
 use chaos_core::settle_picked;
 use envelope::quiet;
-use net_eval::read_lists;
+use net_eval::{ReadLists, read_lists};
 use std::alloc::Global;
 use xt_model::{Design, Direction, NoMemory, Windows};
 
@@ -46,22 +47,41 @@ pub fn least_and_greatest(
 {
     let lists = read_lists(alloc, design)?;
     let bottom = quiet(alloc, design)?;
+    both_runs(alloc, design, &lists, &bottom, &top, picks)
+}
+
+// What a run makes of each of two starts: wider from `bottom`, and narrower from `top`.
+fn both_runs(
+    alloc: Global,
+    design: &Design,
+    lists: &ReadLists,
+    bottom: &Windows,
+    top: &Windows,
+    picks: Picks,
+) -> Result<Fixpoints, NoMemory>
+    requires lists { AreReadLists design.now lists.now }
+    requires bottom { IsFittingStart Widen design.now bottom.now }
+    requires top { IsFittingStart Narrow design.now top.now }
+    requires workers { IsWorkerCount picks.workers }
+    ensures least { IfOk result (λ found. IsLeastFixpoint design.now found.low) }
+    ensures greatest { IfOk result (λ found. IsGreatestFixpoint design.now found.high) }
+{
     let Picks { workers, number } = picks;
     let low = settle_picked(
         alloc,
         design,
-        &lists,
+        lists,
         Direction::Widen,
-        &bottom,
+        bottom,
         workers,
         number,
     )?;
     let high = settle_picked(
         alloc,
         design,
-        &lists,
+        lists,
         Direction::Narrow,
-        &top,
+        top,
         workers,
         number,
     )?;
