@@ -41,7 +41,7 @@ returns-clause-ok g c =
       constraints = c.in_ok-constraints.constraints;
       spef_held = c.in_ok-parasitics.ensures.ok;
       sdc_held = holds_as c.args.sdc (content c.args.files.now) (content c.parasitics.new.files) (constraints_for c.args.library.now c.args.netlist.now) c.in_ok-constraints.constraints
-        (c.parasitics.ensures.content c.args.sdc) c.in_ok-constraints.ensures.ok;
+          (c.parasitics.ensures.content c.args.sdc) c.in_ok-constraints.ensures.ok;
       linked = h.0;
       sound = h.1;
     }) c.linked.ensures.ok
