@@ -90,7 +90,7 @@ pub fn opened<R: Threads + Sync>(
     let mut recorded = RecordedFiles::new(alloc, files);
     let mut out = MemorySink::new(alloc, Vec::new(alloc), ROOM, ROOM)?;
     let mut err = MemorySink::new(alloc, Vec::new(alloc), ROOM, ROOM)?;
-    let _status = xtalk(rt, alloc, &words, &mut recorded, &mut out, &mut err);
+    xtalk(rt, alloc, &words, &mut recorded, &mut out, &mut err);
     let mut names = String::new(alloc);
     for name in recorded.opened.iter() {
         names.push_str(name.as_str())?;

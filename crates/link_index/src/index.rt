@@ -65,7 +65,8 @@ impl<'a> NetIndex<'a> {
 
     /// The netlist.
     pub fn netlist(&self) -> &'a Netlist
-        ensures { result.now ≡ self.now }
+        ensures value { result.now ≡ self.now }
+        ensures sound { IsSoundNetlist self.now }
     {
         self.netlist
     }

@@ -31,7 +31,6 @@ pub fn connect<'a>(
     requires instances { length nets.now.instances ≤ most_instances }
     ensures { Connects cells.now nets.now constraints.now result }
 {
-    let _count = nets.count();
     let bits = bits_of(alloc, nets.netlist())?;
     let pins = pins_on(alloc, cells, nets)?;
     let drivers = drivers_of(alloc, cells, nets, &bits, &pins)?;

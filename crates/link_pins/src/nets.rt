@@ -81,7 +81,6 @@ pub fn add_all_ports<'a>(
         (checks.new.items
         ≡ checks.old.items ++ port_checks_from cells.now nets.now constraints.now 0 (bits_of nets.now.nets)) }
 {
-    let _library = cells.library();
     for net in 0..nets.count() {
         let place = net as usize;
         add_port(
@@ -147,7 +146,6 @@ pub fn all_nets<'a>(
         mut sinks,
         mut arcs,
     } = gathered;
-    let _library = cells.library();
     let mut made = Vec::new(alloc);
     for net in 0..nets.count() {
         let at = net as usize;

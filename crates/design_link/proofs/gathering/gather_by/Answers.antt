@@ -33,7 +33,7 @@ check_sizes-requires c =
 pub returns-in_err-check_sizes-clause-fault : goal.returns-in_err-check_sizes-clause-fault
 returns-in_err-check_sizes-clause-fault c =
     let x : Inputs = record { library = c.args.cells.now; netlist = c.args.index.now; parasitics = c.args.parasitics.now; constraints = c.args.constraints.now } in
-    let kept = subst (λ (n : Netlist). instance_fault c.args.cells.now n ≡ None) c.netlist.ensures c.in_ok-check_instances.ensures in
+    let kept = subst (λ (n : Netlist). instance_fault c.args.cells.now n ≡ None) c.netlist.ensures.value c.in_ok-check_instances.ensures in
     let found = subst (λ (l : Library). IsFound (size_fault (plain_parts l c.in_ok-circuit.circuit c.deref.result.now)) c.in_err-check_sizes.field-0.0)
     c.library.ensures c.in_err-check_sizes.ensures in
     let h : Links x (Err c.in_err-check_sizes.field-0.0) =
@@ -46,7 +46,7 @@ returns-in_err-check_sizes-clause-fault c =
 pub returns-clause-ok : goal.returns-clause-ok
 returns-clause-ok c =
     let x : Inputs = record { library = c.args.cells.now; netlist = c.args.index.now; parasitics = c.args.parasitics.now; constraints = c.args.constraints.now } in
-    let kept = subst (λ (n : Netlist). instance_fault c.args.cells.now n ≡ None) c.netlist.ensures c.in_ok-check_instances.ensures in
+    let kept = subst (λ (n : Netlist). instance_fault c.args.cells.now n ≡ None) c.netlist.ensures.value c.in_ok-check_instances.ensures in
     let sized = subst (λ (l : Library). size_fault (plain_parts l c.in_ok-circuit.circuit c.deref.result.now) ≡ None) c.library.ensures c.in_ok-check_sizes.ensures in
     gathered x c.args.cells.now c.args.index.now c.in_ok-circuit.circuit c.as_slice-nets.result.now c.in_ok-wires.wires.items c.deref.result.now refl refl
     c.requires.counts kept c.in_ok-circuit.ensures c.as_slice-nets.ensures c.in_ok-wires.ensures.ok c.deref.ensures.value

@@ -7,7 +7,7 @@ use Rattle.link_pins.proofs.pins.pins_on.Goals as goal
 
 pub loop-number-preserved : goal.loop-number-preserved
 loop-number-preserved c =
-    let same : c.as_slice-instances.result.now ≡ c.args.nets.now.instances = c.as_slice-instances.ensures ∙ ap (λ (n : Netlist). n.instances) c.netlist.ensures in
+    let same : c.as_slice-instances.result.now ≡ c.args.nets.now.instances = c.as_slice-instances.ensures ∙ ap (λ (n : Netlist). n.instances) c.netlist.ensures.value in
     let at : slice_get c.as_slice-instances.result.now c.loop-number.number ≡ Some c.index-instances-number.result =
     slice_get_read c.as_slice-instances.result.now _ c.loop-number.number c.index-instances-number.result refl c.loop-number-test.true c.index-instances-number.is in
     record {
@@ -18,5 +18,5 @@ loop-number-preserved c =
 
 pub returns-clause-all : goal.returns-clause-all
 returns-clause-all c =
-    let same : c.as_slice-instances.result.now ≡ c.args.nets.now.instances = c.as_slice-instances.ensures ∙ ap (λ (n : Netlist). n.instances) c.netlist.ensures in
+    let same : c.as_slice-instances.result.now ≡ c.args.nets.now.instances = c.as_slice-instances.ensures ∙ ap (λ (n : Netlist). n.instances) c.netlist.ensures.value in
     instances_all c.args.cells.now c.args.nets.now c.loop-number.number _ (rw same at c.loop-number-test.false) c.loop-number.invariant.all

@@ -12,7 +12,7 @@ pin-requires-clause-instance c =
     let k = some_is _ c.requires.there in
     let short = told_of _ _ k.0 k.1 c.requires.short in
     let p = parts_of c.args.cells.now c.args.nets.now c.args.pin k.0 k.1 in
-    let same : c.as_slice.result.now ≡ c.args.nets.now.instances = c.as_slice.ensures ∙ ap (λ (n : Netlist). n.instances) c.netlist.ensures in
+    let same : c.as_slice.result.now ≡ c.args.nets.now.instances = c.as_slice.ensures ∙ ap (λ (n : Netlist). n.instances) c.netlist.ensures.value in
     let read : slice_get c.as_slice.result.now c.args.pin.instance ≡ Some c.index-as_slice-pin.result =
     slice_get_read c.as_slice.result.now _ c.args.pin.instance c.index-as_slice-pin.result refl (slice_get_within c.as_slice.result.now c.args.pin.instance p.instance (rw same p.at)) c.index-as_slice-pin.is in
     let one : p.instance ≡ c.index-as_slice-pin.result = same_Some p.instance c.index-as_slice-pin.result (sym p.at ∙ (rw same at read)) in
@@ -22,7 +22,7 @@ pub returns : goal.returns
 returns c =
     let k = some_is _ c.requires.there in
     let p = parts_of c.args.cells.now c.args.nets.now c.args.pin k.0 k.1 in
-    let same : c.as_slice.result.now ≡ c.args.nets.now.instances = c.as_slice.ensures ∙ ap (λ (n : Netlist). n.instances) c.netlist.ensures in
+    let same : c.as_slice.result.now ≡ c.args.nets.now.instances = c.as_slice.ensures ∙ ap (λ (n : Netlist). n.instances) c.netlist.ensures.value in
     let read : slice_get c.as_slice.result.now c.args.pin.instance ≡ Some c.index-as_slice-pin.result =
     slice_get_read c.as_slice.result.now _ c.args.pin.instance c.index-as_slice-pin.result refl (slice_get_within c.as_slice.result.now c.args.pin.instance p.instance (rw same p.at)) c.index-as_slice-pin.is in
     let one : p.instance ≡ c.index-as_slice-pin.result = same_Some p.instance c.index-as_slice-pin.result (sym p.at ∙ (rw same at read)) in
