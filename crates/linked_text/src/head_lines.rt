@@ -106,10 +106,7 @@ fn other_miller(low: u32, mid: u32, high: u32) -> Option<Miller>
     ensures { let m : MillerNumbers = record { low = low; mid = mid; high = high } in
         MatchOption result (is_other_miller m ≡ false) (λ x. (x ≡ m) × (is_other_miller m ≡ true)) }
 {
-    if low > mid || mid > high || high > u32::from(MOST_FACTOR) {
-        return None;
-    }
-    let miller = Miller::new(low as u8, mid as u8, high as u8)?;
+    let miller = Miller::from_numbers(u64::from(low), u64::from(mid), u64::from(high))?;
     if miller.is_classical() {
         return None;
     }

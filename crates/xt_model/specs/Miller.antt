@@ -1,5 +1,5 @@
 -- The factors by which a coupling capacitor counts, in quarters.
-use Rattle.std.specs.Prelude.{ℕ, ◌≤◌, ◌==◌, Bool, ◌&&◌}
+use Rattle.std.specs.Prelude.{ℕ, ◌≤◌, nat_le, ◌==◌, Bool, ◌&&◌, Option, Some, None, if◌then◌else◌}
 use Rattle.xt_model.specs.Limits.{most_factor}
 
 -- where the aggressor switches the same way at the same time, where it stands still, and where it switches
@@ -14,6 +14,12 @@ pub record IsMiller (m : MillerNumbers) : Type 0 where
   pub low : m.low ≤ m.mid
   pub mid : m.mid ≤ m.high
   pub high : m.high ≤ most_factor
+
+-- the Miller numbers that three numbers are: they rise up to three whole capacitors
+abbrev pub miller_of : ℕ × ℕ × ℕ → Option MillerNumbers
+miller_of t =
+    if nat_le t.0 t.1 && (nat_le t.1 t.2 && nat_le t.2 most_factor) then
+    Some (record { low = t.0; mid = t.1; high = t.2 }) else None
 
 -- the classical factors 0, 1 and 2
 abbrev pub classical : MillerNumbers

@@ -23,18 +23,26 @@ impl Model for Miller {
 }
 
 impl Miller {
-    ghost use Rattle.std.specs.Prelude.{◌≡◌, MatchOption};
-    ghost use Rattle.xt_model.specs.Miller.{MillerNumbers, IsMiller, classical, is_classical};
+    ghost use Rattle.std.specs.Prelude.{◌≡◌};
+    ghost use Rattle.xt_model.specs.Miller.{IsMiller, miller_of, classical, is_classical};
 
     /// The three factors in quarters, or none where they fall or the last is above 12.
     pub fn new(low: u8, mid: u8, high: u8) -> Option<Miller>
-        ensures { MatchOption
-            result
-            (IsMiller (record { low = low; mid = mid; high = high }) → ⊥)
-            (λ m. (m ≡ record { low = low; mid = mid; high = high }) × IsMiller m) }
+        ensures { result ≡ miller_of (low, mid, high) }
     {
-        if low <= mid && mid <= high && high <= MOST_FACTOR {
-            Some(Miller { low, mid, high })
+        Miller::from_numbers(u64::from(low), u64::from(mid), u64::from(high))
+    }
+
+    /// The same of numbers of any size.
+    pub fn from_numbers(low: u64, mid: u64, high: u64) -> Option<Miller>
+        ensures { result ≡ miller_of (low, mid, high) }
+    {
+        if low <= mid && mid <= high && high <= u64::from(MOST_FACTOR) {
+            Some(Miller {
+                low: low as u8,
+                mid: mid as u8,
+                high: high as u8,
+            })
         } else {
             None
         }

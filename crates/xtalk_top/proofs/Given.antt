@@ -12,11 +12,11 @@ use Rattle.xt_model.specs.declared.check.CheckPoint.{CheckPoint}
 use Rattle.xt_model.specs.declared.check.CheckPoint.TheVariants.{Flop, Port}
 use Rattle.xt_model.specs.Limits.{most_factor}
 use Rattle.report_text.specs.declared.kind.ReportKind.{ReportKind}
-use Rattle.xt_model.specs.Miller.{MillerNumbers, IsMiller}
+use Rattle.xt_model.specs.Miller.{MillerNumbers, IsMiller, miller_of}
 use Rattle.xt_model.specs.Parts.{Parts}
 use Rattle.xt_model.specs.Sound.{IsSound, IsSoundArc, IsSoundCheck, IsSoundCoupling, IsSoundNet}
 use Rattle.xtalk_top.specs.Grammar.{Text, Item, given_of, three_of, value_of}
-use Rattle.xtalk_top.specs.Words.{command_named, form_of_command, job_for, job_of, miller_of, miller_or_none}
+use Rattle.xtalk_top.specs.Words.{command_named, form_of_command, job_for, job_of, miller_or_none}
 use Rattle.xtalk_top.specs.Outcome.{Contents, Outcome, DesignMeans, IsDesignText, LinkedMeans, TextReportMeans, counted_by, most_bytes}
 use Rattle.xtalk_top.specs.declared.words.CommandName.{CommandName}
 use Rattle.xtalk_top.specs.declared.words.CommandName.TheVariants as command

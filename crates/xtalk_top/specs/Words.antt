@@ -3,7 +3,7 @@ use Rattle.std.specs.Prelude.{ℕ, ◌≤◌, nat_le, true, false, ◌&&◌, if�
 use Rattle.std.specs.Prelude.{Option, Some, None, option_and_then, unwrap_or}
 use Rattle.std.specs.Str.{bytes_eq}
 use Rattle.xt_model.specs.Limits.{most_factor, most_generated, most_workers}
-use Rattle.xt_model.specs.Miller.{MillerNumbers}
+use Rattle.xt_model.specs.Miller.{MillerNumbers, miller_of}
 use Rattle.report_text.specs.declared.kind.ReportKind.{ReportKind}
 use Rattle.report_text.specs.declared.kind.ReportKind.TheVariants.{All, Checks}
 use Rattle.design_gen.specs.Laws.{IsCount}
@@ -108,12 +108,6 @@ number_or_one text = unwrap_or (option_and_then (number_of 32) text) 1
 abbrev pub kind_or_all : Option Text → ReportKind
 kind_or_all None = All
 kind_or_all (Some text) = if bytes_eq text (codes "checks") then Checks else All
-
--- the Miller numbers that three numbers are: they rise up to three whole capacitors
-abbrev pub miller_of : ℕ × ℕ × ℕ → Option MillerNumbers
-miller_of t =
-    if nat_le t.0 t.1 && (nat_le t.1 t.2 && nat_le t.2 most_factor) then
-    Some (record { low = t.0; mid = t.1; high = t.2 }) else None
 
 -- the Miller numbers that are given, if any are
 abbrev pub miller_or_none : Option Text → Option MillerNumbers

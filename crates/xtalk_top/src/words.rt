@@ -232,22 +232,12 @@ fn kind_or_all(text: Option<&str>) -> ReportKind
     }
 }
 
-// The Miller numbers that these are, in quarters.
-fn miller_of(low: u64, mid: u64, high: u64) -> Option<Miller>
-    ensures { result ≡ Words.miller_of (low, mid, high) }
-{
-    if low > mid || mid > high || high > u64::from(MOST_FACTOR) {
-        return None;
-    }
-    Miller::new(low as u8, mid as u8, high as u8)
-}
-
 // The Miller numbers that are given, if any are.
 fn miller_or_none(text: Option<&str>) -> Option<Miller>
     ensures { result ≡ Words.miller_or_none (option_map (λ t. t.now) text.entry) }
 {
     let (low, mid, high) = three_numbers(text?)?;
-    miller_of(low, mid, high)
+    Miller::from_numbers(low, mid, high)
 }
 
 // The number that is given, or zero.
