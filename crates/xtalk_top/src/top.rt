@@ -43,10 +43,11 @@ pub fn xtalk<R: Threads + Sync, F: Files, O: Sink, E: Sink>(
         (IsCutOff (O.written out.old) (O.written out.new) (O.faults out.old) (O.faults out.new)) failure
         × WritesLine (E.written err.old) (E.written err.new) (E.faults err.old) (E.faults err.new) (line_of failure) }
 
-    // What else stays as it was.
-    ensures out_kept { result ≢ 0 → result ≢ 7 → out.new ≡ out.old }
-    ensures out_calm { result ≢ 7 → O.faults out.new ≡ O.faults out.old }
-    ensures files_calm { result ≢ 6 → KeepsCounts (F.faults files.old) (F.faults files.new) }
+    // All else stays as it was: out, but for a text (0) and for a first part of one, behind which a write came to a
+    // fault (7); its count of faults, but for 7; the counts of all files, but for a read fault (6).
+    ensures kept { (result ≢ 0 → result ≢ 7 → out.new ≡ out.old)
+        × (result ≢ 7 → O.faults out.new ≡ O.faults out.old)
+        × (result ≢ 6 → KeepsCounts (F.faults files.old) (F.faults files.new)) }
 
     // A refusal that the words and the files mean comes, unless memory runs out or a read fault came before it.
     ensures refused { (why : Refusal) → Means (bytes_of words.now) (F.content files.old) (refuses why)

@@ -7,7 +7,7 @@ use Rattle.linked_text.specs.EachLine.{is_other_miller}
 use Rattle.linked_text.proofs.head_lines.other_miller.Goals as goal
 
 -- three numbers, as Miller numbers
-three : ℕ → ℕ → ℕ → MillerNumbers
+abbrev three : ℕ → ℕ → ℕ → MillerNumbers
 three low mid high = record { low = low; mid = mid; high = high }
 
 -- those that are no Miller numbers
