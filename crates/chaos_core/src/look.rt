@@ -13,14 +13,7 @@ ghost use Rattle.chaos_core.specs.Looks.{AreUnmoved, AreMarked, AreSameAt};
 
 use net_eval::{ReadLists, closed_part};
 use std::alloc::Global;
-use xt_model::{Design, NetId, NoMemory, Pair, Windows};
-
-/// Whether the two windows of two pairs are the same.
-fn are_same(a: &Pair, b: &Pair) -> bool
-    ensures { IsTrue result ↔ (a.now ≡ b.now) }
-{
-    a.rise.same(&b.rise) && a.fall.same(&b.fall)
-}
+use xt_model::{Design, NetId, NoMemory, Windows};
 
 /// Of each net whether its windows are the same before and after a round.
 fn unmoved_nets(alloc: Global, before: &Windows, after: &Windows) -> Result<Vec<bool>, NoMemory>
@@ -29,7 +22,7 @@ fn unmoved_nets(alloc: Global, before: &Windows, after: &Windows) -> Result<Vec<
 {
     let mut marks = Vec::new(alloc);
     for net in 0..before.pairs().len() {
-        marks.push(are_same(&before.pair(net), &after.pair(net)))?;
+        marks.push(before.pair(net).same(&after.pair(net)))?;
     }
     Ok(marks)
 }

@@ -9,14 +9,7 @@ ghost use Rattle.net_eval.specs.Closing.{IsSteadyAt};
 
 use crate::evaluation::Evaluation;
 use miller_bits::Overlaps;
-use xt_model::{Design, NetId, Pair, Windows};
-
-/// Whether the two windows of two pairs are the same.
-fn same(a: &Pair, b: &Pair) -> bool
-    ensures { IsTrue result ↔ (a.now ≡ b.now) }
-{
-    a.rise.same(&b.rise) && a.fall.same(&b.fall)
-}
+use xt_model::{Design, NetId, Windows};
 
 /// Whether the operator gives the windows of a net back.
 fn is_steady(design: &Design, windows: &Windows, net: u32) -> bool
@@ -32,7 +25,7 @@ fn is_steady(design: &Design, windows: &Windows, net: u32) -> bool
         number: NetId(net),
         net: design.net(net as usize),
     };
-    same(&evaluation.pair(), &windows.pair(net as usize))
+    evaluation.pair().same(&windows.pair(net as usize))
 }
 
 /// Whether the operator gives the windows back at each net from number `from` to before number `to`.

@@ -104,4 +104,11 @@ impl Pair {
             Edge::Fall => self.fall,
         }
     }
+
+    /// Whether the two are the same windows.
+    pub fn same(&self, other: &Pair) -> bool
+        ensures { IsTrue result ↔ (self.now ≡ other.now) }
+    {
+        self.rise.same(&other.rise) && self.fall.same(&other.fall)
+    }
 }

@@ -15,8 +15,8 @@ loop-net-preserved c =
     let v = c.args.before.now in
     let w = c.args.after.now in
     let P : ℕ → Type 0 = λ n. (e : Edge) → assigned v n e ≡ assigned w n e in
-    let here : IsTrue c.are_same.result → P (length c.loop-net.marks.items) = λ t.
-    subst P (sym inv.count) (same_pairs v w c.loop-net.net _ _ c.pair.ensures.value c.pair-in-loop-net.ensures.value (c.are_same.ensures.0 t)) in
-    let more : length (c.loop-net.marks.items ++ c.are_same.result ∷ []) ≡ length c.loop-net.marks.items + 1 = length-append c.loop-net.marks.items (c.are_same.result ∷ []) in
+    let here : IsTrue c.same.result → P (length c.loop-net.marks.items) = λ t.
+    subst P (sym inv.count) (same_pairs v w c.loop-net.net _ _ c.pair.ensures.value c.pair-in-loop-net.ensures.value (c.same.ensures.0 t)) in
+    let more : length (c.loop-net.marks.items ++ c.same.result ∷ []) ≡ length c.loop-net.marks.items + 1 = length-append c.loop-net.marks.items (c.same.result ∷ []) in
     let count = inv.count in
-    rw c.in_ok-push.ensures.items (record { count = omega (arith, more, count); same = λ n t. marks_more P c.loop-net.marks.items c.are_same.result inv.same here n t })
+    rw c.in_ok-push.ensures.items (record { count = omega (arith, more, count); same = λ n t. marks_more P c.loop-net.marks.items c.same.result inv.same here n t })
