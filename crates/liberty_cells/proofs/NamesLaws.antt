@@ -5,7 +5,7 @@ use Rattle.std.specs.List.{list_all}
 use Rattle.name_numbers.specs.Names.{Text}
 use Rattle.xt_model.specs.declared.code.Code.TheVariants.{L1}
 use Rattle.text_forms.specs.Refusals.{Meant, refuse}
-use Rattle.liberty_tables.specs.Contents.{is_name}
+use Rattle.text_forms.specs.Names.{is_name}
 use Rattle.liberty_cells.specs.Names.{some_names}
 
 one_fails : (done more : List Text) (name : Text) → is_name name ≡ false → list_all is_name (done ++ name ∷ more) ≡ false

@@ -4,7 +4,7 @@ use Rattle.std.specs.List.{list_all}
 use Rattle.name_numbers.specs.Names.{Text}
 use Rattle.xt_model.specs.declared.code.Code.TheVariants.{L1}
 use Rattle.text_forms.specs.Refusals.{Meant, refuse}
-use Rattle.liberty_tables.specs.Contents.{is_name}
+use Rattle.text_forms.specs.Names.{is_name}
 
 -- some names, or a refusal at this line
 abbrev pub some_names : ℕ → List Text → Meant (List Text)

@@ -8,9 +8,10 @@ ghost use Rattle.liberty_cells.specs.Names.{some_names};
 
 use indexmap::IndexSet;
 use liberty_groups::Span;
-use liberty_tables::{content, first_item, is_name};
+use liberty_tables::{content, first_item};
 use std::alloc::{AllocError, Global};
 use std::marker::Model;
+use text_forms::is_name;
 use xt_lex::TextFault;
 use xt_model::{Code, Name};
 

@@ -1,4 +1,3 @@
-mod NameLaws
 mod NumberLaws
 mod PlainLaws
 mod TableLaws

@@ -1,9 +1,7 @@
 -- The bytes of a Liberty text: words, strings, and what stands in them.
-use Rattle.std.specs.Prelude.{ℕ, Bool, true, false, not, ◌&&◌, ◌||◌, nat_le, List, [], ◌∷◌, ◌++◌, length, ◌==◌}
+use Rattle.std.specs.Prelude.{ℕ, Bool, true, false, ◌&&◌, ◌||◌, nat_le, List, [], ◌∷◌, ◌++◌, length, ◌==◌}
 use Rattle.std.specs.Prelude.{if◌then◌else◌}
-use Rattle.std.specs.Char.{is_ascii_graphic}
-use Rattle.std.specs.List.{slice_range, list_all}
-use Rattle.xt_model.specs.Limits.{most_text_name}
+use Rattle.std.specs.List.{slice_range}
 use Rattle.xt_lex.specs.Bytes.{is_white}
 use Rattle.liberty_groups.specs.declared.span.Span.{Span}
 
@@ -62,7 +60,3 @@ numbers_in bytes = items_from true [] bytes
 -- the names in a string
 abbrev pub names_in : List ℕ → List (List ℕ)
 names_in bytes = items_from false [] bytes
-
--- a name has 1 to 1,024 bytes, each a printable one other than a space
-abbrev pub is_name : List ℕ → Bool
-is_name name = not (length name == 0) && (nat_le (length name) most_text_name && list_all is_ascii_graphic name)

@@ -1,12 +1,7 @@
-//! The items in words and strings, and which of them are names.
+//! The items in words and strings.
 
-ghost use Rattle.std.specs.Prelude.{◌≡◌, [], ◌∷◌, true, MatchOption};
-ghost use Rattle.std.specs.List.{list_all};
-ghost use Rattle.std.specs.Char.{is_ascii_graphic};
-ghost use Rattle.xt_model.specs.Names.{IsName};
-ghost use Rattle.liberty_tables.specs.Contents.{separates, items_from, is_name};
-
-use xt_model::limits::MOST_TEXT_NAME;
+ghost use Rattle.std.specs.Prelude.{◌≡◌, [], ◌∷◌, MatchOption};
+ghost use Rattle.liberty_tables.specs.Contents.{separates, items_from};
 
 /// Whether a byte stands between items: white space, and between numbers a comma too.
 #[inline]
@@ -40,20 +35,4 @@ pub fn first_item(commas: bool, bytes: &[u8]) -> Option<(&[u8], &[u8])>
     } else {
         None
     }
-}
-
-/// Whether all bytes are printable ones other than a space.
-fn is_printable(bytes: &[u8]) -> bool
-    ensures { result ≡ list_all is_ascii_graphic bytes.now }
-{
-    bytes.iter().all(|b| b.is_ascii_graphic())
-}
-
-/// Whether the bytes may be a name: 1 to 1,024 printable ones other than a space.
-#[tactic(auto, using(crate::proofs::NameLaws::is_name_sound))]
-pub fn is_name(name: &[u8]) -> bool
-    ensures exact { result ≡ is_name name.now }
-    ensures sound { result ≡ true → IsName name.now }
-{
-    !name.is_empty() && (name.len() <= MOST_TEXT_NAME && is_printable(name))
 }

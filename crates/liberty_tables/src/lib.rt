@@ -14,7 +14,7 @@ mod units;
 
 pub use axis::{Axes, Axis, Index, Side, Variable};
 pub use contents::{content, only, text_in};
-pub use items::{first_item, is_name};
+pub use items::first_item;
 pub use name::only_name;
 pub use numbers::Numbers;
 pub use search::{attribute, first_named, has_group, is_group};

@@ -7,9 +7,9 @@ ghost use Rattle.text_forms.specs.Stops.{Gives};
 ghost use Rattle.liberty_tables.specs.Templates.{only_name};
 
 use crate::contents::only;
-use crate::items::is_name;
 use liberty_groups::Group;
 use std::alloc::Global;
+use text_forms::is_name;
 use xt_lex::TextFault;
 use xt_model::Code;
 

@@ -1,10 +1,10 @@
 -- The commands of SDC texts with their options, and which words may stand where.
 use Rattle.std.specs.Prelude.{ℕ, Bool, true, false, not, ◌&&◌, ◌||◌, ◌==◌, nat_le, if◌then◌else◌}
 use Rattle.std.specs.Prelude.{List, [], ◌∷◌, length, codes, Option, Some, None, is_some}
-use Rattle.std.specs.Char.{is_ascii_graphic}
 use Rattle.std.specs.List.{list_all}
 use Rattle.std.specs.Str.{bytes_eq}
 use Rattle.xt_model.specs.Limits.{most_text_name}
+use Rattle.text_forms.specs.Names.{is_name}
 use Rattle.xt_lex.specs.Bytes.{begins}
 use Rattle.xt_number.specs.Reading.{numeral_of}
 use Rattle.sdc_words.specs.Items.{items_of}
@@ -161,10 +161,7 @@ are_objects AllInputs = true
 are_objects AllOutputs = true
 are_objects _ = false
 
--- a name of a clock: 1 to 1,024 bytes, each a printable one other than a space
-abbrev pub is_name : Text → Bool
-is_name name = not (length name == 0) && (is_short name && list_all is_ascii_graphic name)
-
+-- a word that may be the name of a clock
 abbrev pub is_name_in : Option Text → Bool
 is_name_in (Some name) = is_name name
 is_name_in None = false

@@ -1,16 +1,16 @@
 //! Which words may stand where.
 
 ghost use Rattle.std.specs.Prelude.{◌≡◌, [], option_map};
-ghost use Rattle.std.specs.Char.{is_ascii_graphic};
 ghost use Rattle.std.specs.List.{list_all};
 ghost use Rattle.sdc_words.specs.Items.{items_of};
 ghost use Rattle.sdc_words.specs.View.{word_text, names_text};
-ghost use Rattle.sdc_forms.specs.Options.{text_in, is_short, are_short, are_objects, is_name, is_name_in, fits};
+ghost use Rattle.sdc_forms.specs.Options.{text_in, is_short, are_short, are_objects, is_name_in, fits};
 ghost use Rattle.sdc_forms.specs.Options.{first_slot, is_number, is_option};
 ghost use Rattle.sdc_forms.specs.View.{is_form};
 
 use crate::command::CommandName;
 use sdc_words::{NameList, Word, first_item};
+use text_forms::is_name;
 use xt_model::limits::MOST_TEXT_NAME;
 use xt_number::{NumberFault, read_fixed};
 
@@ -83,20 +83,6 @@ fn are_objects(word: Word<'_>) -> bool
         Word::AllOutputs => true,
         _ => false,
     }
-}
-
-/// Whether all bytes are printable ones other than a space.
-fn is_printable(bytes: &[u8]) -> bool
-    ensures { result ≡ list_all is_ascii_graphic bytes.now }
-{
-    bytes.iter().all(|b| b.is_ascii_graphic())
-}
-
-/// Whether the bytes may be the name of a clock.
-fn is_name(name: &[u8]) -> bool
-    ensures { result ≡ is_name name.now }
-{
-    !name.is_empty() && (is_short(name) && is_printable(name))
 }
 
 impl Slot {

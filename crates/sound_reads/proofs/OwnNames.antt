@@ -11,7 +11,7 @@ use Rattle.std.proofs.lemmas.Slice.Eq.{bytes_eq-Decides}
 use Rattle.xt_model.specs.Options.{◌>>=◌}
 use Rattle.name_numbers.specs.Names.{Text, found, value_of, with_value}
 use Rattle.verilog_net.specs.declared.netlist.Net.{Net}
-use Rattle.verilog_net.specs.Sorts.{is_name}
+use Rattle.text_forms.specs.Names.{is_name}
 use Rattle.verilog_net.specs.Nets.{Nets, most_bit, has_bit, named_bit, bit_from, BitNets, bit_nets_of, with_bit_net, with_net_at, with_net, has_bit_net}
 use Rattle.sound_reads.proofs.NameLaws.{entry, entry_at}
 use Rattle.sound_reads.proofs.BitNames.{tail, found_bit}

@@ -10,7 +10,7 @@ use Rattle.name_numbers.specs.Names.{Text}
 use Rattle.verilog_net.specs.declared.netlist.Netlist.{Netlist}
 use Rattle.verilog_net.specs.declared.netlist.Instance.{Instance}
 use Rattle.verilog_net.specs.declared.netlist.PortRole.{PortRole}
-use Rattle.verilog_net.specs.Sorts.{is_name}
+use Rattle.text_forms.specs.Names.{is_name}
 use Rattle.verilog_net.specs.Nets.{Nets, has_bit}
 use Rattle.link_rules.specs.Bits.{Bit, rising, falling, numbers_of, bit_name, bus_bit, bits_by, bits_from, bits}
 use Rattle.link_rules.specs.Sound.{IsShortName, IsSoundInstance, HaveOwnNames, IsSoundNetlist}

@@ -14,7 +14,7 @@ use Rattle.verilog_net.specs.declared.netlist.Wire.{Wire}
 use Rattle.verilog_net.specs.declared.netlist.Wire.TheVariants as wires
 use Rattle.verilog_net.specs.declared.netlist.PortRole.{PortRole}
 use Rattle.verilog_net.specs.declared.netlist.PortRole.TheVariants as roles
-use Rattle.verilog_net.specs.Sorts.{is_name}
+use Rattle.text_forms.specs.Names.{is_name}
 use Rattle.verilog_net.specs.Nets.{Nets, NetBit, most_bit, value_after, number_of, has_bit, named_bit, same_range, joined_role, BitNets, has_bit_net, is_port}
 use Rattle.verilog_net.specs.Meaning.{State, nothing, begin_module, name_module, list_name, netlist_of, end_module, with_further, declare_again, declare_new}
 use Rattle.verilog_net.specs.Meaning.{declare_as, declare, left_as, left_bound, right_as, right_bound, begin_further, begin_pin, connect}

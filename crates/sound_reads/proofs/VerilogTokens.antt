@@ -13,7 +13,8 @@ use Rattle.xt_lex.specs.declared.token.Kind.{Kind}
 use Rattle.xt_lex.specs.declared.token.Kind.TheVariants as kinds
 use Rattle.verilog_net.specs.declared.sort.Sort.{Sort}
 use Rattle.verilog_net.specs.declared.sort.Sort.TheVariants as sorts
-use Rattle.verilog_net.specs.Sorts.{same_sort, is_direction, is_net_type, is_unsupported, is_name, name_sort, digits_sort, letters_sort, word_sort, mark_sort, sort_by, netlist_tokens}
+use Rattle.text_forms.specs.Names.{is_name}
+use Rattle.verilog_net.specs.Sorts.{same_sort, is_direction, is_net_type, is_unsupported, name_sort, digits_sort, letters_sort, word_sort, mark_sort, sort_by, netlist_tokens}
 
 -- where the sort is that of a name, the bytes are one
 abbrev IsNameAs : List ℕ → Sort → Type 0

@@ -1,11 +1,10 @@
 -- The sorts of tokens of a structural Verilog text.
-use Rattle.std.specs.Prelude.{ℕ, Bool, not, ◌&&◌, ◌||◌, nat_le, List, [], ◌∷◌, length}
+use Rattle.std.specs.Prelude.{ℕ, Bool, ◌||◌, List, [], ◌∷◌}
 use Rattle.std.specs.Prelude.{codes, ◌==◌, if◌then◌else◌}
-use Rattle.std.specs.Char.{is_ascii_digit, is_ascii_graphic}
-use Rattle.std.specs.List.{list_all}
+use Rattle.std.specs.Char.{is_ascii_digit}
 use Rattle.std.specs.Str.{bytes_eq}
-use Rattle.xt_model.specs.Limits.{most_text_name}
 use Rattle.text_forms.specs.Forms.{Token}
+use Rattle.text_forms.specs.Names.{is_name}
 use Rattle.text_forms.specs.Tokens.{sorted_tokens}
 use Rattle.xt_lex.specs.Bytes.{begins}
 use Rattle.xt_lex.specs.declared.rules.Rules.TheVariants.{Verilog}
@@ -56,10 +55,6 @@ is_unsupported word =
     bytes_eq word (codes "assign") || (bytes_eq word (codes "inout") || (bytes_eq word (codes "parameter")
     || (bytes_eq word (codes "always") || (bytes_eq word (codes "initial") || (bytes_eq word (codes "reg")
     || (bytes_eq word (codes "function") || (bytes_eq word (codes "task") || bytes_eq word (codes "generate"))))))))
-
--- a name has 1 to 1,024 bytes, each a printable one other than a space
-abbrev pub is_name : List ℕ → Bool
-is_name name = not (length name == 0) && (nat_le (length name) most_text_name && list_all is_ascii_graphic name)
 
 -- a name, where the bytes may be one
 abbrev pub name_sort : List ℕ → Sort

@@ -1,14 +1,11 @@
 //! The sorts of tokens.
 
 ghost use Rattle.std.specs.Prelude.{◌≡◌};
-ghost use Rattle.std.specs.Char.{is_ascii_graphic};
-ghost use Rattle.std.specs.List.{list_all};
-ghost use Rattle.verilog_net.specs.Sorts.{is_direction, is_net_type, is_unsupported, is_name};
+ghost use Rattle.verilog_net.specs.Sorts.{is_direction, is_net_type, is_unsupported};
 ghost use Rattle.verilog_net.specs.Sorts.{name_sort, digits_sort, letters_sort, word_sort, mark_sort, same_sort};
 
-use text_forms::TokenSort;
+use text_forms::{TokenSort, is_name};
 use xt_lex::Kind;
-use xt_model::limits::MOST_TEXT_NAME;
 
 /// What a token is to the grammar. A token of another sort than these fits nowhere.
 #[derive(Clone, Copy, Debug, PartialEq, Eq)]
@@ -80,22 +77,6 @@ fn is_unsupported(word: &[u8]) -> bool
                             || (word == b"function".as_slice()
                                 || (word == b"task".as_slice()
                                     || word == b"generate".as_slice())))))))
-}
-
-/// Whether each byte is a printable one other than a space.
-#[inline]
-fn is_printable(bytes: &[u8]) -> bool
-    ensures { result ≡ list_all is_ascii_graphic bytes.now }
-{
-    bytes.iter().all(|b| b.is_ascii_graphic())
-}
-
-/// Whether the bytes may be a name.
-#[inline]
-fn is_name(name: &[u8]) -> bool
-    ensures { result ≡ is_name name.now }
-{
-    !name.is_empty() && (name.len() <= MOST_TEXT_NAME && is_printable(name))
 }
 
 /// What bytes are that stand where a name may stand.

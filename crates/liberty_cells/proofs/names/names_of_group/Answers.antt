@@ -1,5 +1,6 @@
 use Rattle.std.proofs.Common.{◌≡◌, sym, ap, ◌∙◌, ◌++◌, map, rules, false}
-use Rattle.liberty_tables.specs.Contents.{is_name, content}
+use Rattle.text_forms.specs.Names.{is_name}
+use Rattle.liberty_tables.specs.Contents.{content}
 use Rattle.liberty_cells.proofs.NamesLaws.{name_refused}
 use Rattle.liberty_cells.proofs.names.names_of_group.Goals as goal
 

@@ -1,6 +1,7 @@
 use Rattle.std.proofs.Common.{◌≡◌, ◌++◌, length, map, true}
 use Rattle.std.specs.List.{list_all}
-use Rattle.liberty_tables.specs.Contents.{content, is_name}
+use Rattle.text_forms.specs.Names.{is_name}
+use Rattle.liberty_tables.specs.Contents.{content}
 use Rattle.liberty_cells.proofs.names.names_of_group.Given as goal
 
 abbrev pub invariant-names : goal.invariant-names

@@ -1,6 +1,7 @@
 use Rattle.std.proofs.Common.{◌≡◌, ◌++◌, [], length, true, false}
 use Rattle.std.specs.List.{list_all}
-use Rattle.liberty_tables.specs.Contents.{items_from, is_name}
+use Rattle.text_forms.specs.Names.{is_name}
+use Rattle.liberty_tables.specs.Contents.{items_from}
 use Rattle.liberty_cells.proofs.names.names_of_string.Given as goal
 
 abbrev pub invariant-items : goal.invariant-items

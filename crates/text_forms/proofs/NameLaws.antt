@@ -7,7 +7,7 @@ use Rattle.std.specs.Prelude.{Bool, true, false, not, ◌&&◌, nat_le, ◌==◌
 use Rattle.std.specs.Char.{is_ascii_graphic}
 use Rattle.std.specs.List.{list_all, AllByRecursion}
 use Rattle.xt_model.specs.Names.{IsName}
-use Rattle.liberty_tables.specs.Contents.{is_name}
+use Rattle.text_forms.specs.Names.{is_name}
 
 abbrev IsPrintable : ℕ → Type 0
 IsPrintable b = (33 ≤ b) × (b ≤ 126)
