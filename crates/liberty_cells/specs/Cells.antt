@@ -6,8 +6,7 @@ use Rattle.xt_model.specs.Tables.{TableParts}
 use Rattle.liberty_groups.specs.Trees.{Tree, head_of}
 use Rattle.liberty_tables.specs.declared.units.Scales.{Scales}
 use Rattle.xt_model.specs.Results.{◌>>=◌}
-use Rattle.text_forms.specs.Refusals.{Meant, refuse}
-use Rattle.liberty_tables.specs.Refusals.{over}
+use Rattle.text_forms.specs.Refusals.{Meant, refuse, over}
 use Rattle.liberty_tables.specs.Search.{groups_named, has_group}
 use Rattle.liberty_tables.specs.Templates.{Templates, only_name}
 use Rattle.liberty_cells.specs.declared.cell.Cell.{Cell}

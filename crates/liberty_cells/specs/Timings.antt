@@ -7,8 +7,7 @@ use Rattle.xt_model.specs.Tables.{TableParts}
 use Rattle.liberty_groups.specs.Trees.{Entry, Tree, head_of, groups_of}
 use Rattle.liberty_tables.specs.declared.units.Scales.{Scales}
 use Rattle.xt_model.specs.Results.{◌>>=◌}
-use Rattle.text_forms.specs.Refusals.{Meant, refuse}
-use Rattle.liberty_tables.specs.Refusals.{over}
+use Rattle.text_forms.specs.Refusals.{Meant, refuse, over}
 use Rattle.liberty_tables.specs.Contents.{text_in, names_in}
 use Rattle.liberty_tables.specs.Search.{attribute, contents, only, groups_named, has_group}
 use Rattle.liberty_tables.specs.Templates.{Templates}

@@ -4,7 +4,7 @@ ghost use Rattle.std.specs.Prelude.{◌≡◌, option_map, IfOk};
 ghost use Rattle.liberty_groups.specs.Trees.{tree_of, entry_of, groups_of};
 ghost use Rattle.text_forms.specs.Stops.{Gives};
 ghost use Rattle.liberty_tables.specs.Units.{AreScales};
-ghost use Rattle.liberty_tables.specs.Refusals.{over};
+ghost use Rattle.text_forms.specs.Refusals.{over};
 ghost use Rattle.liberty_cells.specs.Timings.{with_table, related_of, add_table, lacks_table, does_not_fit};
 ghost use Rattle.liberty_cells.specs.Timings.{empty_timing, read_tables, timing_of, timings_of};
 

@@ -1,8 +1,7 @@
 -- Refusals in the order in which they are met.
-use Rattle.std.specs.Prelude.{ℕ, nat_le, List, [], ◌∷◌, Option, Some, None, Ok, if◌then◌else◌}
+use Rattle.std.specs.Prelude.{ℕ, nat_le, Option, Some, None, if◌then◌else◌}
 use Rattle.text_forms.specs.Refusals.{Meant, refuse}
 use Rattle.xt_model.specs.declared.code.Code.{Code}
-use Rattle.xt_model.specs.Results.{◌>>=◌}
 
 -- the lesser of two lines
 abbrev pub lesser : ℕ → ℕ → ℕ
@@ -18,8 +17,3 @@ earlier (Some line) (Some other) = Some (lesser line other)
 abbrev pub unless_at : {A : Type 0} → Code → Option ℕ → Meant A → Meant A
 unless_at code None meant = meant
 unless_at code (Some line) meant = refuse line code
-
--- each item in turn changes a state, up to the first refusal
-abbrev pub over : {A S : Type 0} → (A → S → Meant S) → List A → S → Meant S
-over f [] s = Ok s
-over f (x ∷ xs) s = f x s >>= over f xs

@@ -10,8 +10,7 @@ use Rattle.liberty_tables.specs.declared.axis.Axis.{Axis}
 use Rattle.liberty_tables.specs.declared.axis.Axes.{Axes}
 use Rattle.liberty_tables.specs.declared.template.Template.{Template}
 use Rattle.text_forms.specs.Names.{is_name}
-use Rattle.text_forms.specs.Refusals.{Meant, refuse}
-use Rattle.liberty_tables.specs.Refusals.{over}
+use Rattle.text_forms.specs.Refusals.{Meant, refuse, over}
 use Rattle.liberty_tables.specs.Search.{attribute, groups_named, contents, only}
 use Rattle.liberty_tables.specs.Axes.{variable_by, second_variable, axis_by}
 

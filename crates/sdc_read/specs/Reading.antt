@@ -1,7 +1,7 @@
 -- What a whole SDC text means for a netlist: the constraints, or the first refusal in the order of the commands.
-use Rattle.std.specs.Prelude.{ℕ, ℤ, List, [], ◌∷◌, map, Result, Ok, Err}
+use Rattle.std.specs.Prelude.{ℕ, ℤ, List, map, Result, Ok, Err}
 use Rattle.text_forms.specs.Forms.{at_line}
-use Rattle.text_forms.specs.Refusals.{Meant, tokens_refused, unless}
+use Rattle.text_forms.specs.Refusals.{Meant, over, tokens_refused, unless}
 use Rattle.xt_lex.specs.declared.rules.Rules.TheVariants.{Sdc}
 use Rattle.xt_model.specs.declared.code.Code.{Code}
 use Rattle.xt_model.specs.Results.{◌>>=◌}
@@ -19,8 +19,7 @@ command_means nets c s = said_by_words c.words >>= λ said. means nets said s
 
 -- what commands mean, one after another
 abbrev pub commands_mean : Nets → List CommandText → State → Meant State
-commands_mean nets [] s = Ok s
-commands_mean nets (c ∷ cs) s = at_line c.line (command_means nets c s) >>= commands_mean nets cs
+commands_mean nets = over (λ c s. at_line c.line (command_means nets c s))
 
 -- the constraints of a state
 abbrev pub constraints_in : Meant State → Meant Constraints

@@ -1,11 +1,12 @@
 -- What a text means: a value, or its first refusal.
-use Rattle.std.specs.Prelude.{ℕ, List, Option, Some, None, Result, Ok, Err}
+use Rattle.std.specs.Prelude.{ℕ, List, [], ◌∷◌, Option, Some, None, Result, Ok, Err}
 use Rattle.text_forms.specs.Forms.{Refusal}
 use Rattle.xt_lex.specs.Faults.{fault_of}
 use Rattle.xt_lex.specs.declared.fault.LexFault.{LexFault}
 use Rattle.xt_lex.specs.declared.fault.LexFault.TheVariants.{Byte, Unended}
 use Rattle.xt_lex.specs.declared.rules.Rules.{Rules}
 use Rattle.xt_model.specs.declared.code.Code.{Code}
+use Rattle.xt_model.specs.Results.{◌>>=◌}
 
 -- a value, or the refusal of the text
 abbrev pub Meant : Type 0 → Type 0
@@ -30,3 +31,8 @@ tokens_refused rules byte early bytes = refusal_by byte early (fault_of rules by
 abbrev pub unless : {A : Type 0} → Option (Refusal Code) → Meant A → Meant A
 unless (Some r) meant = Err r
 unless None meant = meant
+
+-- each item in turn changes a state, up to the first refusal
+abbrev pub over : {A S : Type 0} → (A → S → Meant S) → List A → S → Meant S
+over f [] s = Ok s
+over f (x ∷ xs) s = f x s >>= over f xs

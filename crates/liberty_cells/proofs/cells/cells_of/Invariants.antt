@@ -1,7 +1,7 @@
 use Rattle.std.proofs.Common.{◌≡◌, length}
 use Rattle.std.specs.Prelude.{codes}
 use Rattle.liberty_groups.specs.Trees.{tree_of}
-use Rattle.liberty_tables.specs.Refusals.{over}
+use Rattle.text_forms.specs.Refusals.{over}
 use Rattle.liberty_tables.specs.Search.{named_among}
 use Rattle.liberty_cells.specs.Cells.{names_of, add_cell, cells_of}
 use Rattle.liberty_cells.proofs.cells.cells_of.Given as goal

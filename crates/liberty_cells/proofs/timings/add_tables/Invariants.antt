@@ -1,6 +1,6 @@
 use Rattle.std.proofs.Common.{◌≡◌, length, map}
 use Rattle.liberty_groups.specs.Trees.{tree_of, groups_of}
-use Rattle.liberty_tables.specs.Refusals.{over}
+use Rattle.text_forms.specs.Refusals.{over}
 use Rattle.liberty_cells.specs.Timings.{add_table}
 use Rattle.liberty_cells.proofs.timings.add_tables.Given as goal
 

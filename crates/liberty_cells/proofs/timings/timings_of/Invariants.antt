@@ -1,7 +1,7 @@
 use Rattle.std.proofs.Common.{◌≡◌, length}
 use Rattle.std.specs.Prelude.{codes}
 use Rattle.liberty_groups.specs.Trees.{tree_of}
-use Rattle.liberty_tables.specs.Refusals.{over}
+use Rattle.text_forms.specs.Refusals.{over}
 use Rattle.liberty_tables.specs.Search.{named_among}
 use Rattle.liberty_cells.specs.Timings.{add_timing, timings_of}
 use Rattle.liberty_cells.proofs.timings.timings_of.Given as goal

@@ -1,7 +1,7 @@
 use Rattle.std.proofs.Common.{◌≡◌, length}
 use Rattle.std.specs.Prelude.{codes}
 use Rattle.liberty_groups.specs.Trees.{tree_of}
-use Rattle.liberty_tables.specs.Refusals.{over}
+use Rattle.text_forms.specs.Refusals.{over}
 use Rattle.liberty_tables.specs.Search.{named_among}
 use Rattle.liberty_tables.specs.Templates.{add_template, templates_of}
 use Rattle.liberty_tables.proofs.template.templates_of.Given as goal
