@@ -4,10 +4,10 @@ use Rattle.std.specs.Int.{int_min, int_max}
 use Rattle.std.proofs.lemmas.Bool.{cases_lt}
 use Rattle.std.proofs.lemmas.Int.{ints, clamps}
 use Rattle.xt_model.specs.Tables.{IsIndex, IsTableNumber}
-use Rattle.xt_meaning.specs.Lookup.{Box, Span, clamped, span_of}
+use Rattle.xt_meaning.specs.Lookup.{Box, Span, clamped, span_at, span_of}
 use Rattle.table_box.specs.Spans.{IsSpan, LieBelow, ReachUpTo}
 use Rattle.table_box.proofs.Cells.{IsCell, rises}
-use Rattle.table_box.proofs.Axis.{ends_at_least, span_of_sound}
+use Rattle.table_box.proofs.Axis.{clamped_keeps, ends_at_least, span_in_cell, span_of_sound}
 
 -- a difference of two numbers of a table, as the machine makes it
 pub difference_back : (x y : ℤ) → IsTableNumber x → IsTableNumber y → to_z w64 (of_z w64 (to_z w64 (of_z w64 x) -ℤ to_z w64 (of_z w64 y))) ≡ x -ℤ y
@@ -48,6 +48,15 @@ found_cell xs x n i ok h found e =
           let b : first <ℤ get_or xs (i + 1) (pos 0) = ok.rising.each 0 (i + 1) (omega arith) (omega arith) in
           below_end first last (get_or xs (i + 1) (pos 0)) x a b;
     }
+
+-- a number between two lines keeps its place, in the cell of the last line at or below it
+pub span_between : (xs : List ℤ) (x : ℤ) (n : ℕ) → IsIndex xs → ReachUpTo xs x n → 0 < n → n < length xs → span_of xs x ≡ span_at xs x (n - 1)
+span_between xs x n ok found some more =
+    let a = found.reached 0 some in
+    let b = found.beyond (length xs - 1) (omega arith) (omega arith) in
+    let keeps : clamped xs x ≡ x = clamped_keeps xs ok x a (omega (arith, ints, b)) in
+    let cell : IsCell xs (clamped xs x) (n - 1) = found_cell xs x n (n - 1) ok (omega arith) found (omega arith) in
+    span_in_cell xs ok x (n - 1) cell ∙ ap (λ y. span_at xs y (n - 1)) keeps
 
 least_fits : (x l : ℤ) → SFits w64 x → SFits w64 l → SFits w64 (int_min x l)
 least_fits x l p q = omega (arith, ints, clamps)

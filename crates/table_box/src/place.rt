@@ -1,4 +1,4 @@
-ghost use Rattle.std.specs.Prelude.{◌≡◌, ◌+◌, ◌<◌, ◌≤ℤ◌, pos, length};
+ghost use Rattle.std.specs.Prelude.{◌≡◌, ◌+◌, ◌<◌, ◌≤ℤ◌, pos, length, IsTrue};
 ghost use Rattle.std.specs.List.{slice_index_or};
 ghost use Rattle.xt_model.specs.Tables.{IsIndex, IsTableNumber};
 ghost use Rattle.xt_meaning.specs.Lookup.{clamped, span_at, span_of, whole_span};
@@ -58,6 +58,13 @@ fn brought_within(index: &[i64], x: i64) -> i64
     index[0].max(x.min(index[index.len() - 1]))
 }
 
+/// Whether a number lies between two grid lines, where so many lie at or below it: one at least, and not all.
+fn is_between_lines(index: &[i64], lines: usize) -> bool
+    ensures { IsTrue result → (0 < lines) × (lines < length index.now) }
+{
+    0 < lines && lines < index.len()
+}
+
 impl Place {
     /// The place of `x`, once it is brought within the ends of the index: by binary search.
     pub fn of(index: &[i64], x: i64) -> Place
@@ -67,8 +74,22 @@ impl Place {
         Place::among(index, x, lines_up_to(index, x))
     }
 
-    /// The place of `x`, where so many grid lines lie at or below it.
+    /// The place of `x`, where so many grid lines lie at or below it. Between two lines it stands as it is.
+    #[inline(always)]
     pub fn among(index: &[i64], x: i64, lines: usize) -> Place
+        requires index { IsIndex index.now }
+        requires lines { ReachUpTo index.now x lines }
+        ensures { span_in result ≡ span_of index.now x }
+    {
+        if is_between_lines(index, lines) {
+            return between(index, x, lines - 1);
+        }
+        Place::of_clamped(index, x, lines)
+    }
+
+    /// The place of `x`, once it is brought within the ends of the index, where so many grid lines lie at or below it.
+    #[inline(never)]
+    fn of_clamped(index: &[i64], x: i64, lines: usize) -> Place
         requires index { IsIndex index.now }
         requires lines { ReachUpTo index.now x lines }
         ensures { span_in result ≡ span_of index.now x }

@@ -1,28 +1,26 @@
--- The cell that the search finds is the one that holds the number.
-use Rattle.std.proofs.Common.{◌+◌, ◌∙◌, sym, ap, subst, get_or, pos, ◌≤ℤ◌, ℤ}
+-- Between two lines the number is no less than the first and less than the second, and lies within the ends.
+use Rattle.std.proofs.Common.{◌+◌, ◌-◌, ◌∙◌, sym, ap, subst, arith, refl, get_or, pos, ◌≤ℤ◌, ℤ, to_z-of_z}
+use Rattle.std.proofs.lemmas.Int.{ints}
 use Rattle.xt_meaning.specs.Lookup.{span_at}
-use Rattle.table_box.proofs.Axis.{closed_cell, span_in_cell}
-use Rattle.table_box.proofs.Places.{cell_among, number_found}
+use Rattle.table_box.proofs.Places.{span_between}
 use Rattle.table_box.proofs.place.Place.among.Goals as goal
 
 pub between-requires-clause-low : goal.between-requires-clause-low
 between-requires-clause-low c =
-    let cell = cell_among _ _ _ _ _ c.requires.index c.if-index-eq1.false c.requires.lines c.saturating_sub.ensures c.min-cell.ensures in
-    let P : ℤ → Type 0 = λ y. get_or c.args.index.now c.min-cell.result (pos 0) ≤ℤ y in
-    subst P (sym (number_found c.args.index.now c.args.x _ c.ranges.x c.brought_within.ensures.value c.brought_within.ensures.number))
-    (closed_cell c.args.index.now c.requires.index c.args.x c.min-cell.result cell).0
+    let h = c.if-is_between_lines.ensures refl in let r = c.requires.lines in
+    let P : ℤ → Type 0 = λ y. get_or c.args.index.now (c.args.lines - 1) (pos 0) ≤ℤ y in
+    subst P (sym (to_z-of_z c.ranges.x)) (r.reached (c.args.lines - 1) (omega (arith, h)))
 
 pub between-requires-clause-high : goal.between-requires-clause-high
 between-requires-clause-high c =
-    let cell = cell_among _ _ _ _ _ c.requires.index c.if-index-eq1.false c.requires.lines c.saturating_sub.ensures c.min-cell.ensures in
-    let P : ℤ → Type 0 = λ y. y ≤ℤ get_or c.args.index.now (c.min-cell.result + 1) (pos 0) in
-    subst P (sym (number_found c.args.index.now c.args.x _ c.ranges.x c.brought_within.ensures.value c.brought_within.ensures.number))
-    (closed_cell c.args.index.now c.requires.index c.args.x c.min-cell.result cell).1
+    let h = c.if-is_between_lines.ensures refl in let r = c.requires.lines in
+    let b = r.beyond ((c.args.lines - 1) + 1) (omega (arith, h)) (omega (arith, h)) in
+    let P : ℤ → Type 0 = λ y. y ≤ℤ get_or c.args.index.now ((c.args.lines - 1) + 1) (pos 0) in
+    subst P (sym (to_z-of_z c.ranges.x)) (omega (arith, ints, b))
 
-pub returns : goal.returns
-returns c =
-    let cell = cell_among _ _ _ _ _ c.requires.index c.if-index-eq1.false c.requires.lines c.saturating_sub.ensures c.min-cell.ensures in
+pub returns-then-is_between_lines : goal.returns-then-is_between_lines
+returns-then-is_between_lines c =
+    let h = c.if-is_between_lines.ensures refl in
     c.between.ensures
-    ∙ (ap (λ y. span_at c.args.index.now y c.min-cell.result)
-    (number_found c.args.index.now c.args.x _ c.ranges.x c.brought_within.ensures.value c.brought_within.ensures.number)
-    ∙ sym (span_in_cell c.args.index.now c.requires.index c.args.x c.min-cell.result cell))
+    ∙ (ap (λ y. span_at c.args.index.now y (c.args.lines - 1)) (to_z-of_z c.ranges.x)
+    ∙ sym (span_between _ _ _ c.requires.index c.requires.lines h.0 h.1))
