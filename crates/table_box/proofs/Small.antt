@@ -8,7 +8,7 @@ use Rattle.xt_meaning.specs.Lookup.{Span, cell_value, span_at, span_of, value_in
 use Rattle.table_box.specs.declared.cell.Cell.{Cell}
 use Rattle.table_box.specs.Spans.{IsSpan, AreAlike, span_in}
 use Rattle.table_box.specs.Mixes.{mixed, along_slews}
-use Rattle.table_box.specs.Cells.{AreMixable, IsAtMost, IsSmallCell}
+use Rattle.table_box.specs.Cells.{AreAtMost, AreMixable, DoRise, IsAtMost, IsSmallCell}
 use Rattle.table_box.proofs.Products.{mixed_least, mixed_most, mul_add_left, mul_add_right, mul_mono}
 use Rattle.table_box.proofs.Bilinear.{mul_assoc, cell_number, value_number, value_by_load, area_positive}
 use Rattle.table_box.proofs.Widths.{factors_back, sum_same}
@@ -58,6 +58,17 @@ module _ (p q m : ℤ) (s : Span) (ok : AreMixable p q m s) where
 
   pub mixed_fits : SFits w64 (mixed p q s.below s.above)
   mixed_fits = fits _ _ mixed_small ok.room
+
+-- where numbers rise, the least and the greatest stand at two corners
+pub rising_at_most : (most a b c d : ℤ) → DoRise a b c d → neg_ℤ most ≤ℤ a → d ≤ℤ most → AreAtMost most a b c d
+rising_at_most most a b c d r low high =
+    let p = r.first_row in let q = r.second_row in let u = r.first_column in let v = r.second_column in
+    record {
+      first_first = record { low = low; high = omega (arith, ints, p, v, high) };
+      first_second = record { low = omega (arith, ints, p, low); high = omega (arith, ints, v, high) };
+      second_first = record { low = omega (arith, ints, u, low); high = omega (arith, ints, q, high) };
+      second_second = record { low = omega (arith, ints, p, v, low); high = high };
+    }
 
 -- the room of a mix of mixes is that of the area
 pub area_room : (m a w h : ℤ) → a ≡ w *ℤ h → (m *ℤ a) ≤ℤ pos (2 ^ 62) → ((m *ℤ w) *ℤ h) ≤ℤ pos (2 ^ 62)

@@ -22,7 +22,25 @@ pub record AreMixable (p q most : ℤ) (s : Span) : Type 0 where
   pub width : s.width ≤ℤ pos (2 ^ 41)
   pub room : (most *ℤ s.width) ≤ℤ pos (2 ^ 62)
 
--- the numbers at the corners of a cell, of a size that times its area is at most 2^62
+-- four numbers of at most this size
+pub record AreAtMost (most first_first first_second second_first second_second : ℤ) : Type 0 where
+  pub first_first : IsAtMost most first_first
+  pub first_second : IsAtMost most first_second
+  pub second_first : IsAtMost most second_first
+  pub second_second : IsAtMost most second_second
+
+-- no number at a corner is greater than one at a greater slew or load
+pub record DoRise (first_first first_second second_first second_second : ℤ) : Type 0 where
+  pub first_row : first_first ≤ℤ first_second
+  pub second_row : second_first ≤ℤ second_second
+  pub first_column : first_first ≤ℤ second_first
+  pub second_column : first_second ≤ℤ second_second
+
+-- so it is at the corners of this cell
+abbrev pub IsRising : Cell → Type 0
+IsRising k = DoRise k.first_first k.first_second k.second_first k.second_second
+
+-- the numbers at the corners of a cell, of a size that times its area is at most 2^62, and that rise where it is said
 pub record IsSmallCell (k : Cell) : Type 0 where
   pub table : IsTable k.table.now
   pub slew : IsSpan (length k.table.now.slews) (span_in k.slew.now)
@@ -40,6 +58,7 @@ pub record IsSmallCell (k : Cell) : Type 0 where
   pub first_second_small : IsAtMost most k.first_second
   pub second_first_small : IsAtMost most k.second_first
   pub second_second_small : IsAtMost most k.second_second
+  pub rising : IsTrue k.rising → IsRising k
 
 -- cells of one table and one place of slews, in which the least and the greatest of several loads lie
 pub record AreEnds (k l : Cell) (r : Stretch) : Type 0 where
@@ -50,13 +69,6 @@ pub record AreEnds (k l : Cell) (r : Stretch) : Type 0 where
   pub loads : IsStretch k.table.now.loads r
   pub start : AreAlike (span_in k.load.now) (span_in r.start)
   pub end : AreAlike (span_in l.load.now) (span_in r.end)
-
--- no number at a corner is greater than one at a greater slew or load
-pub record IsRising (k : Cell) : Type 0 where
-  pub first_row : k.first_first ≤ℤ k.first_second
-  pub second_row : k.second_first ≤ℤ k.second_second
-  pub first_column : k.first_first ≤ℤ k.second_first
-  pub second_column : k.first_second ≤ℤ k.second_second
 
 -- the ends lie in neighbouring cells, and no line lies between them but that between the cells
 pub record AreNeighbours (r : Stretch) : Type 0 where

@@ -1,6 +1,6 @@
 //! Ranges of values within one cell of a table, by 64 bits.
 
-ghost use Rattle.std.specs.Prelude.{◌≡◌, ◌^◌, ℤ, ◌*ℤ◌, ◌≤ℤ◌, ◌<ℤ◌, pos, length, IsTrue, IfSome};
+ghost use Rattle.std.specs.Prelude.{◌≡◌, ◌^◌, ℤ, ◌*ℤ◌, ◌≤ℤ◌, ◌<ℤ◌, pos, neg_ℤ, length, IsTrue, IfSome};
 ghost use Rattle.std.specs.Int.{int_div_euclid};
 ghost use Rattle.xt_model.specs.Tables.{IsIndex, IsTable, IsTableNumber};
 ghost use Rattle.xt_meaning.specs.Lookup.{span_of, value_in};
@@ -8,7 +8,8 @@ ghost use Rattle.table_box.specs.Spans.{IsSpan, AreAlike, span_in};
 ghost use Rattle.table_box.specs.Stretches.{IsStretch, box_of};
 ghost use Rattle.table_box.specs.Rows.{row_least, row_greatest};
 ghost use Rattle.table_box.specs.Mixes.{mixed};
-ghost use Rattle.table_box.specs.Cells.{AreEnds, AreMixable, AreNeighbours, AreRising, IsAtMost, IsRising, IsSmallCell};
+ghost use Rattle.table_box.specs.Cells.{AreAtMost, AreEnds, AreMixable, AreNeighbours, AreRising};
+ghost use Rattle.table_box.specs.Cells.{DoRise, IsAtMost, IsRising, IsSmallCell};
 ghost use Rattle.table_box.specs.Ranges.{IsRange};
 
 use crate::place::Place;
@@ -43,12 +44,12 @@ fn most_within(area: i64) -> i64
     4_611_686_018_427_387_904 / area
 }
 
-/// Whether a number is of at most this size.
-fn is_at_most(number: i64, most: i64) -> bool
+/// Whether the numbers between two are of at most this size.
+fn lie_within(least: i64, greatest: i64, most: i64) -> bool
     requires { pos 0 ≤ℤ most }
-    ensures { IsTrue result → IsAtMost most number }
+    ensures { IsTrue result → (neg_ℤ most ≤ℤ least) × (greatest ≤ℤ most) }
 {
-    -most <= number && number <= most
+    -most <= least && greatest <= most
 }
 
 /// Whether two numbers are of at most this size.
@@ -56,7 +57,37 @@ fn are_at_most(a: i64, b: i64, most: i64) -> bool
     requires { pos 0 ≤ℤ most }
     ensures { IsTrue result → (IsAtMost most a) × (IsAtMost most b) }
 {
-    is_at_most(a, most) && is_at_most(b, most)
+    lie_within(a, a, most) && lie_within(b, b, most)
+}
+
+/// Whether no number at a corner of a cell is greater than one at a greater slew or load.
+fn do_rise(first_first: i64, first_second: i64, second_first: i64, second_second: i64) -> bool
+    ensures { IsTrue result → DoRise first_first first_second second_first second_second }
+{
+    first_first <= first_second
+        && second_first <= second_second
+        && first_first <= second_first
+        && first_second <= second_second
+}
+
+/// Whether the numbers at the corners of a cell are of at most this size. Where they rise, it looks at the least and at
+/// the greatest alone.
+fn are_within(
+    rising: bool,
+    first_first: i64,
+    first_second: i64,
+    second_first: i64,
+    second_second: i64,
+    most: i64,
+) -> bool
+    requires natural { pos 0 ≤ℤ most }
+    requires rising { IsTrue rising → DoRise first_first first_second second_first second_second }
+    ensures { IsTrue result → AreAtMost most first_first first_second second_first second_second }
+{
+    if rising {
+        return lie_within(first_first, second_second, most);
+    }
+    are_at_most(first_first, first_second, most) && are_at_most(second_first, second_second, most)
 }
 
 /// Whether two numbers lie in neighbouring cells of an axis, and no line between them but that between the cells.
@@ -69,8 +100,9 @@ fn are_neighbours(index: &[i64], ends: &Stretch) -> bool
     ends.start.second == line && ends.first == line && ends.last <= ends.first + 1
 }
 
-/// A cell of a table with room for its sums in 64 bits: a place in it on each axis, its area, and the numbers at its
-/// corners, the first word of each name for the line of the slews and the second for that of the loads.
+/// A cell of a table with room for its sums in 64 bits: a place in it on each axis, its area, the numbers at its
+/// corners, the first word of each name for the line of the slews and the second for that of the loads, and whether
+/// none of these is greater than one at a greater slew or load.
 #[derive(Clone, Copy)]
 pub(crate) struct Cell<'a> {
     table: &'a Table,
@@ -81,6 +113,7 @@ pub(crate) struct Cell<'a> {
     first_second: i64,
     second_first: i64,
     second_second: i64,
+    rising: bool,
 }
 
 impl<'a> Cell<'a> {
@@ -100,10 +133,15 @@ impl<'a> Cell<'a> {
         let first_second = number_at(table, slew.first, load.second);
         let second_first = number_at(table, slew.second, load.first);
         let second_second = number_at(table, slew.second, load.second);
-        if !are_at_most(first_first, first_second, most) {
-            return None;
-        }
-        if !are_at_most(second_first, second_second, most) {
+        let rising = do_rise(first_first, first_second, second_first, second_second);
+        if !are_within(
+            rising,
+            first_first,
+            first_second,
+            second_first,
+            second_second,
+            most,
+        ) {
             return None;
         }
         Some(Cell {
@@ -115,6 +153,7 @@ impl<'a> Cell<'a> {
             first_second,
             second_first,
             second_second,
+            rising,
         })
     }
 
@@ -189,12 +228,10 @@ impl<'a> Cell<'a> {
 
     /// Whether no number at a corner is greater than one at a greater slew or load.
     fn is_rising(&self) -> bool
+        requires { IsSmallCell self.now }
         ensures { IsTrue result → IsRising self.now }
     {
-        self.first_first <= self.first_second
-            && self.second_first <= self.second_second
-            && self.first_first <= self.second_first
-            && self.first_second <= self.second_second
+        self.rising
     }
 
     /// Whether the values rise with the slew and with the load, over several loads from this cell to another: where

@@ -23,7 +23,7 @@ returns-clause-small c =
     let h = c.in_ok-area.ensures in
     let area = area_is c.args.slew.now.width c.args.load.now.width c.in_ok-area.area (omega (arith, ints, c.requires.slew)) (omega (arith, ints, c.requires.load)) h.0 h.1 in
     let most_back : to_z w64 (of_z w64 c.most_within-most.result) ≡ c.most_within-most.result = omega (arith, ints, c.most_within-most.type_inv) in
-    let one = c.if-not-are_at_most.ensures refl in let two = c.if-not-are_at_most-2.ensures refl in
+    let within = c.if-not-are_within.ensures refl in
     record {
       table = c.requires.table;
       slew = c.requires.slew;
@@ -37,8 +37,9 @@ returns-clause-small c =
       most = c.most_within-most.result;
       natural = c.most_within-most.ensures.natural;
       room = c.most_within-most.ensures.room;
-      first_first_small = rw most_back at one.0;
-      first_second_small = rw most_back at one.1;
-      second_first_small = rw most_back at two.0;
-      second_second_small = rw most_back at two.1;
+      first_first_small = rw most_back at within.first_first;
+      first_second_small = rw most_back at within.first_second;
+      second_first_small = rw most_back at within.second_first;
+      second_second_small = rw most_back at within.second_second;
+      rising = c.do_rise-rising.ensures;
     }
