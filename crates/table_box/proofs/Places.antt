@@ -1,8 +1,8 @@
 -- The places that the code finds are those of the definitions.
-use Rattle.std.proofs.Common.{◌≡◌, inl, inr, ℕ, ◌+◌, ◌-◌, ◌<◌, refl, sym, ◌∙◌, ap, subst, List, length, get_or, min, ℤ, pos, ◌-ℤ◌, ◌≤ℤ◌, ◌<ℤ◌, arith, to_z, of_z, to_z-of_z, w64, SFits}
+use Rattle.std.proofs.Common.{◌≡◌, inl, inr, Bool, true, false, ℕ, ◌+◌, ◌-◌, ◌<◌, ◌≤◌, refl, sym, ◌∙◌, ap, subst, List, length, get_or, min, ℤ, pos, ◌-ℤ◌, ◌≤ℤ◌, ◌<ℤ◌, arith, to_z, of_z, to_z-of_z, w64, SFits}
 use Rattle.std.specs.Int.{int_min, int_max}
 use Rattle.std.proofs.lemmas.Bool.{cases_lt}
-use Rattle.std.proofs.lemmas.Int.{ints, clamps}
+use Rattle.std.proofs.lemmas.Int.{ints, clamps, by_lt_z}
 use Rattle.xt_model.specs.Tables.{IsIndex, IsTableNumber}
 use Rattle.xt_meaning.specs.Lookup.{Box, Span, clamped, span_at, span_of}
 use Rattle.table_box.specs.Spans.{IsSpan, LieBelow, ReachUpTo}
@@ -90,19 +90,35 @@ pub placed_sound : (xs : List ℤ) (x : ℤ) (p : Span) → IsIndex xs → p ≡
 placed_sound xs x p ok e = subst (IsSpan (length xs)) (sym e) (span_of_sound xs ok x)
 
 -- ---- a range of numbers on an axis
--- the lines at or below a greater number that is below the next line
-pub reach_all : (xs : List ℤ) (x y : ℤ) (n : ℕ) → x ≤ℤ y → ReachUpTo xs x n → n ≡ length xs → ReachUpTo xs y n
-reach_all xs x y n h r e = record {
-  within = r.within;
-  reached = λ j k. let b = r.reached j k in omega (arith, ints, h, b);
-  beyond = λ j k l. absurd (omega arith);
+-- the lines at or below a number lie at or below a greater one
+pub reached_too : (xs : List ℤ) (x y : ℤ) (n : ℕ) → x ≤ℤ y → ReachUpTo xs x n → (j : ℕ) → j < n → get_or xs j (pos 0) ≤ℤ y
+reached_too xs x y n h r j k = let b = r.reached j k in omega (arith, ints, h, b)
+
+-- a line that a number is not found to lie below lies at or below it
+pub not_below : (below : Bool) (x g : ℤ) → (x <ℤ g → below ≡ true) → below ≡ false → g ≤ℤ x
+not_below below x g found is_not = by_lt_z {P = g ≤ℤ x} x g (λ p. let never : true ≡ false = sym (found p) ∙ is_not in cc) (λ p. p)
+
+-- one line more at or below a number
+pub reached_more : (xs : List ℤ) (x : ℤ) (n : ℕ) → ((j : ℕ) → j < n → get_or xs j (pos 0) ≤ℤ x) → get_or xs n (pos 0) ≤ℤ x → (j : ℕ) → j < n + 1 → get_or xs j (pos 0) ≤ℤ x
+reached_more xs x n before here j h = elim (cases_lt j n) [
+  | inl p ↦ before j p
+  | inr p ↦ let e : n ≡ j = omega arith in let P : ℕ → Type 0 = λ i. get_or xs i (pos 0) ≤ℤ x in subst P e here
+]
+
+-- the lines before one that a number lies below are all that lie at or below it
+pub reach_to : (xs : List ℤ) (x : ℤ) (n : ℕ) → IsIndex xs → n < length xs → ((j : ℕ) → j < n → get_or xs j (pos 0) ≤ℤ x) → x <ℤ get_or xs n (pos 0) → ReachUpTo xs x n
+reach_to xs x n ok within reached below = record {
+  within = omega arith;
+  reached = reached;
+  beyond = λ j k l. let b = rises xs ok n j k l in omega (arith, ints, below, b);
 }
 
-pub reach_below : (xs : List ℤ) (x y : ℤ) (n : ℕ) → IsIndex xs → x ≤ℤ y → ReachUpTo xs x n → y <ℤ get_or xs n (pos 0) → ReachUpTo xs y n
-reach_below xs x y n ok h r below = record {
-  within = r.within;
-  reached = λ j k. let b = r.reached j k in omega (arith, ints, h, b);
-  beyond = λ j k l. let b = rises xs ok n j k l in omega (arith, ints, below, b);
+-- and so are all lines, where each does
+pub reach_all : (xs : List ℤ) (x : ℤ) (n : ℕ) → length xs ≤ n → ((j : ℕ) → j < n → get_or xs j (pos 0) ≤ℤ x) → ReachUpTo xs x (length xs)
+reach_all xs x n all reached = record {
+  within = omega arith;
+  reached = λ j k. reached j (omega arith);
+  beyond = λ j k l. absurd (omega arith);
 }
 
 -- the lines below x, where the first n lie at or below it: all of them, or all but the last

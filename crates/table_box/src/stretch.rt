@@ -1,10 +1,9 @@
-ghost use Rattle.std.specs.Prelude.{◌≡◌, ◌↔◌, ◌<◌, ◌≤ℤ◌, ◌<ℤ◌, pos, length, IsTrue};
-ghost use Rattle.std.specs.List.{slice_index_or};
+ghost use Rattle.std.specs.Prelude.{◌≡◌, ◌↔◌, ◌≤ℤ◌, IsTrue};
 ghost use Rattle.xt_model.specs.Tables.{IsIndex};
 ghost use Rattle.table_box.specs.Spans.{LieBelow, ReachUpTo};
 ghost use Rattle.table_box.specs.Stretches.{IsStretch};
 
-use crate::lines::lines_up_to;
+use crate::lines::{lines_from, lines_up_to};
 use crate::place::Place;
 
 /// The numbers from one to another on an axis, in its unit: the places of both ends, and the numbers of the grid lines
@@ -29,31 +28,6 @@ fn are_same(a: i64, b: i64) -> bool
     a == b
 }
 
-/// Whether a number lies below a grid line.
-fn is_below(index: &[i64], x: i64, line: usize) -> bool
-    requires { line < length index.now }
-    ensures { IsTrue result ↔ (x <ℤ slice_index_or index.now line (pos 0)) }
-{
-    x < index[line]
-}
-
-/// How many grid lines lie at or below `to`, where so many lie at or below `from`: as many, where `to` lies below the
-/// next one.
-fn lines_to(index: &[i64], from: i64, to: i64, lines: usize) -> usize
-    requires index { IsIndex index.now }
-    requires ordered { from ≤ℤ to }
-    requires lines { ReachUpTo index.now from lines }
-    ensures { ReachUpTo index.now to result }
-{
-    if lines == index.len() {
-        return lines;
-    }
-    if is_below(index, to, lines) {
-        return lines;
-    }
-    lines_up_to(index, to)
-}
-
 /// How many grid lines lie below `x`, where so many lie at or below it.
 fn lines_below(index: &[i64], x: i64, lines: usize) -> usize
     requires index { IsIndex index.now }
@@ -70,7 +44,7 @@ fn lines_below(index: &[i64], x: i64, lines: usize) -> usize
 }
 
 impl Stretch {
-    /// The numbers from `from` to `to`. It costs two binary searches, or one where both are the same.
+    /// The numbers from `from` to `to`. It costs one search, and a look at each grid line between them.
     #[inline(always)]
     pub fn of(index: &[i64], from: i64, to: i64) -> Stretch
         requires index { IsIndex index.now }
@@ -80,7 +54,7 @@ impl Stretch {
         ensures on_axis { IsStretch index.now result }
     {
         let first = lines_up_to(index, from);
-        let reached = lines_to(index, from, to, first);
+        let reached = lines_from(index, to, first);
         let last = lines_below(index, to, reached);
         let start = Place::among(index, from, first);
         let end = Place::among(index, to, reached);
