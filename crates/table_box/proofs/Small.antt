@@ -64,10 +64,10 @@ pub rising_at_most : (most a b c d : ℤ) → DoRise a b c d → neg_ℤ most �
 rising_at_most most a b c d r low high =
     let p = r.first_row in let q = r.second_row in let u = r.first_column in let v = r.second_column in
     record {
-      first_first = record { low = low; high = omega (arith, ints, p, v, high) };
-      first_second = record { low = omega (arith, ints, p, low); high = omega (arith, ints, v, high) };
-      second_first = record { low = omega (arith, ints, u, low); high = omega (arith, ints, q, high) };
-      second_second = record { low = omega (arith, ints, p, v, low); high = high };
+      first = record { low = low; high = omega (arith, ints, p, v, high) };
+      second = record { low = omega (arith, ints, p, low); high = omega (arith, ints, v, high) };
+      third = record { low = omega (arith, ints, u, low); high = omega (arith, ints, q, high) };
+      fourth = record { low = omega (arith, ints, p, v, low); high = high };
     }
 
 -- the room of a mix of mixes is that of the area

@@ -23,11 +23,11 @@ pub record AreMixable (p q most : ℤ) (s : Span) : Type 0 where
   pub room : (most *ℤ s.width) ≤ℤ pos (2 ^ 62)
 
 -- four numbers of at most this size
-pub record AreAtMost (most first_first first_second second_first second_second : ℤ) : Type 0 where
-  pub first_first : IsAtMost most first_first
-  pub first_second : IsAtMost most first_second
-  pub second_first : IsAtMost most second_first
-  pub second_second : IsAtMost most second_second
+pub record AreAtMost (most a b c d : ℤ) : Type 0 where
+  pub first : IsAtMost most a
+  pub second : IsAtMost most b
+  pub third : IsAtMost most c
+  pub fourth : IsAtMost most d
 
 -- no number at a corner is greater than one at a greater slew or load
 pub record DoRise (first_first first_second second_first second_second : ℤ) : Type 0 where

@@ -60,14 +60,19 @@ fn are_at_most(a: i64, b: i64, most: i64) -> bool
     lie_within(a, a, most) && lie_within(b, b, most)
 }
 
+/// Whether a number lies between two others, or is one of them.
+fn is_between(low: i64, number: i64, high: i64) -> bool
+    ensures { IsTrue result → (low ≤ℤ number) × (number ≤ℤ high) }
+{
+    low <= number && number <= high
+}
+
 /// Whether no number at a corner of a cell is greater than one at a greater slew or load.
 fn do_rise(first_first: i64, first_second: i64, second_first: i64, second_second: i64) -> bool
     ensures { IsTrue result → DoRise first_first first_second second_first second_second }
 {
-    first_first <= first_second
-        && second_first <= second_second
-        && first_first <= second_first
-        && first_second <= second_second
+    is_between(first_first, first_second, second_second)
+        && is_between(first_first, second_first, second_second)
 }
 
 /// Whether the numbers at the corners of a cell are of at most this size. Where they rise, it looks at the least and at

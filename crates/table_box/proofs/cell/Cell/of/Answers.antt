@@ -37,9 +37,9 @@ returns-clause-small c =
       most = c.most_within-most.result;
       natural = c.most_within-most.ensures.natural;
       room = c.most_within-most.ensures.room;
-      first_first_small = rw most_back at within.first_first;
-      first_second_small = rw most_back at within.first_second;
-      second_first_small = rw most_back at within.second_first;
-      second_second_small = rw most_back at within.second_second;
+      first_first_small = rw most_back at within.first;
+      first_second_small = rw most_back at within.second;
+      second_first_small = rw most_back at within.third;
+      second_second_small = rw most_back at within.fourth;
       rising = c.do_rise-rising.ensures;
     }
