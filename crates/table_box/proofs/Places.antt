@@ -3,8 +3,9 @@ use Rattle.std.proofs.Common.{◌≡◌, inl, inr, Bool, true, false, ℕ, ◌+�
 use Rattle.std.specs.Int.{int_min, int_max}
 use Rattle.std.proofs.lemmas.Bool.{cases_lt}
 use Rattle.std.proofs.lemmas.Int.{ints, clamps, by_lt_z}
-use Rattle.xt_model.specs.Tables.{IsIndex, IsTableNumber}
+use Rattle.xt_model.specs.Tables.{IsIndex, IsTableNumber, TableParts}
 use Rattle.xt_meaning.specs.Lookup.{Box, Span, clamped, span_at, span_of}
+use Rattle.table_box.specs.Ranges.{IsRange}
 use Rattle.table_box.specs.Spans.{IsSpan, LieBelow, ReachUpTo}
 use Rattle.table_box.proofs.Cells.{IsCell, rises}
 use Rattle.table_box.proofs.Axis.{clamped_keeps, ends_at_least, span_in_cell, span_of_sound}
@@ -167,3 +168,7 @@ greatest_back a b p q = ap (λ n. int_max n (to_z w64 (of_z w64 b))) (to_z-of_z 
 -- boxes with the same ends are the same
 pub same_box : (a b x y a' b' x' y' : ℤ) → a ≡ a' → b ≡ b' → x ≡ x' → y ≡ y' → ◌≡◌ {A = Box} (record { s0 = a; s1 = b; c0 = x; c1 = y }) (record { s0 = a'; s1 = b'; c0 = x'; c1 = y' })
 same_box a b x y a' b' x' y' p q r s = rw (p, q, r, s) refl
+
+-- a range over a box is one over the same box
+pub range_moved : (t : TableParts) (b d : Box) (r : ℤ × ℤ) → b ≡ d → IsRange t b r → IsRange t d r
+range_moved t b d r e h = subst (λ (x : Box). IsRange t x r) e h

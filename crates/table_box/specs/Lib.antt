@@ -4,3 +4,4 @@ pub mod Stretches
 pub mod Mixes
 pub mod Ranges
 pub mod Cells
+pub mod TablePairs

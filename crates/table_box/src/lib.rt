@@ -3,10 +3,12 @@
 
 mod cell;
 mod lines;
+mod pair;
 mod place;
 mod ranges;
 mod stretch;
 mod values;
 
+pub use pair::TablePair;
 pub use ranges::{both_ranges, range};
 pub use values::at;

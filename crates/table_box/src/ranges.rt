@@ -8,6 +8,7 @@ ghost use Rattle.table_box.specs.Rows.{row_least, row_greatest};
 ghost use Rattle.table_box.specs.Ranges.{IsRange};
 
 use crate::cell::cell_range;
+use crate::pair::TablePair;
 use crate::place::Place;
 use crate::stretch::Stretch;
 use crate::values::{value_at, value_on_line};
@@ -100,7 +101,7 @@ fn swept_range(table: &Table, slews: &Stretch, loads: &Stretch) -> (i64, i64)
 }
 
 /// The least and the greatest value over several slews and several loads.
-fn box_range(table: &Table, slews: &Stretch, loads: &Stretch) -> (i64, i64)
+pub(crate) fn box_range(table: &Table, slews: &Stretch, loads: &Stretch) -> (i64, i64)
     requires table { IsTable table.now }
     requires slews { IsStretch table.now.slews slews.now }
     requires loads { IsStretch table.now.loads loads.now }
@@ -123,7 +124,7 @@ fn are_same_lines(a: &[i64], b: &[i64]) -> bool
 }
 
 /// Whether two tables have the same axes.
-fn have_same_axes(a: &Table, b: &Table) -> bool
+pub(crate) fn have_same_axes(a: &Table, b: &Table) -> bool
     ensures axes { IsTrue result → (a.now.slews ≡ b.now.slews) × (a.now.loads ≡ b.now.loads) }
     ensures table { IsTable b.now }
 {
@@ -162,11 +163,5 @@ pub fn both_ranges(
     ensures first { IsRange a.now (record { s0 = s0; s1 = s1; c0 = c0; c1 = c1 }) result.0 }
     ensures second { IsRange b.now (record { s0 = s0; s1 = s1; c0 = c0; c1 = c1 }) result.1 }
 {
-    let slews = Stretch::of(a.slews(), s0, s1);
-    let loads = Stretch::of(a.loads(), c0, c1);
-    let first = box_range(a, &slews, &loads);
-    if have_same_axes(a, b) {
-        return (first, box_range(b, &slews, &loads));
-    }
-    (first, range(b, s0, s1, c0, c1))
+    TablePair::new(a, b, c0, c1).over_slews(s0, s1)
 }
