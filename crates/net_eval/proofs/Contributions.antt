@@ -23,6 +23,8 @@ use Rattle.xt_meaning.specs.Operator.{Range, contribution_by, load_range}
 use Rattle.xt_meaning.proofs.Ranges.{least_over-slew_value, greatest_over-slew_value}
 use Rattle.net_eval.specs.Arcs.{with_arc_at}
 use Rattle.net_eval.specs.Scenes.{Scene}
+use Rattle.net_eval.specs.Tables.{AreNumbered}
+use Rattle.table_box.specs.TablePairs.{TablesAtLoads}
 use Rattle.xt_meaning.proofs.Growth.{IsWired, IsNatural, HasNaturalCap, HasNaturalCoefs, slew_growth_mono, load_range_ordered}
 
 pub slew_least : (t : TableParts) (b : Box) (stored x read low : ℤ) → stored ≡ x → x ≡ int_max (pos 0) read → read ≡ low → low ≡ least_over (table_value t) b → stored ≡ least_over (slew_value t) b
@@ -89,3 +91,8 @@ join_is s e l c0 c1 xs arcs i q h k same past is =
     let all : take i xs ≡ xs = take_all i xs past in
     let r : ◌≡◌ {A = Range} (record { least = c0; most = c1 }) l = rw (h, k) refl in
     rw (all, same, r) at is
+
+-- two tables at loads, by their numbers
+pub tables_numbered : (d : Parts) (delay slew : ℕ) (t u : TableParts) (c0 c1 : ℤ) (p : TablesAtLoads) → slice_get d.tables delay ≡ Some t → slice_get d.tables slew ≡ Some u
+    → p ≡ record { first = t; second = u; c0 = c0; c1 = c1 } → AreNumbered d delay slew p
+tables_numbered d delay slew t u c0 c1 p first second is = rw is (record { delay = first; slew = second })

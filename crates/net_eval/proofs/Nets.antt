@@ -30,6 +30,8 @@ use Rattle.net_eval.specs.Pins.{IsInputPin, IsPin, IsPinEdge, edge_of_pin, wire_
 use Rattle.net_eval.specs.declared.pin.Pin.{Pin}
 use Rattle.net_eval.specs.declared.pin.PinEdge.{PinEdge}
 use Rattle.net_eval.specs.Scenes.{Scene, operator_in, pair_in, scene_of, IsReady}
+use Rattle.net_eval.specs.Tables.{AreNumbered, AreTablesOf}
+use Rattle.net_eval.specs.declared.tables.ArcTables.{ArcTables}
 
 arcs_is : (s : Scene) (n : ℕ) (net : Net) (e : Edge) (arcs : List TimingArc) → 0 < length arcs
     → arcs_quad s.design s.answers s.windows n net e arcs ≡ fold (with_arc_at s e (load_in s n e net)) bottom arcs
@@ -149,6 +151,12 @@ arc_turn s e load xs i a q r p i_in pin joins before =
     let step = joined_is s e load q arc p.window (wire_to p) pin.window pin.wire in
     let more = fold_more (with_arc_at s e load) bottom xs i a i_in in
     joins ∙ (step ∙ (ap (λ p. with_arc_at s e load p arc) before ∙ sym more))
+
+-- the tables that an arc names, by its numbers
+pub named_tables : (d : Parts) (a : TimingArc) (rise fall : Range) (t : ArcTables) → AreTablesOf d a rise fall t → AreNumbered d a.delay a.slew t.rise × AreNumbered d a.delay a.slew t.fall
+named_tables d a rise fall t h =
+    let delay = h.delay in let slew = h.slew in
+    (rw (delay, slew) at h.tables.rise, rw (delay, slew) at h.tables.fall)
 
 -- a pair of what the operator makes of both edges
 pub pair_is : (s : Scene) (n : ℕ) (p : Pair) → p.rise ≡ operator_in s n Rise → p.fall ≡ operator_in s n Fall → p ≡ pair_in s n

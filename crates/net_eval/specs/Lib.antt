@@ -4,3 +4,4 @@ pub mod Arcs
 pub mod Closing
 pub mod ReadLists
 pub mod Pins
+pub mod Tables

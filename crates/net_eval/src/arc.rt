@@ -1,16 +1,16 @@
 //! What one timing arc contributes to the window of the net that it drives.
 
-ghost use Rattle.std.specs.Prelude.{◌≡◌, ◌≤ℤ◌};
+ghost use Rattle.std.specs.Prelude.{◌≡◌};
 ghost use Rattle.xt_model.specs.Quads.{IsInRange, IsLive, same_edge};
-ghost use Rattle.xt_model.specs.Sound.{IsSoundArc};
 ghost use Rattle.xt_meaning.specs.Operator.{Range, contribution_by};
 ghost use Rattle.net_eval.specs.Arcs.{joined};
 ghost use Rattle.net_eval.specs.Pins.{wire_to};
 ghost use Rattle.net_eval.specs.Room.{FitsWire};
+ghost use Rattle.net_eval.specs.Tables.{AreNumbered, loads_at};
 
 use crate::pin::PinEdge;
 use crate::ranges::{arrival, as_slew, slew_behind};
-use table_box::both_ranges;
+use table_box::TablePair;
 use xt_model::{Design, Edge, Quad, TimingArc};
 
 /// Whether two edges are the same.
@@ -31,7 +31,7 @@ fn wire_to(input: &PinEdge) -> (i64, i64)
     (input.least_wire as i64, input.greatest_wire as i64)
 }
 
-/// The output window of an arc, from its input window, the range of the wire before it and the range of the
+/// The output window of an arc of a design, from its input window, the range of the wire before it and its tables at the
 /// load behind it.
 #[inline(always)]
 fn contribution(
@@ -39,27 +39,17 @@ fn contribution(
     arc: &TimingArc,
     input: &Quad,
     wire: (i64, i64),
-    load: (i64, i64),
+    tables: &TablePair,
 ) -> Quad
-    requires sound { IsSoundArc design.now arc.now }
+    requires tables { AreNumbered design.now arc.now.delay arc.now.slew tables.now }
     requires fits { FitsWire input.now (record { least = wire.0; most = wire.1 }) }
-    requires load { load.0 ≤ℤ load.1 }
     ensures value { let before : Range = record { least = wire.0; most = wire.1 } in
-        let behind : Range = record { least = load.0; most = load.1 } in
-        result ≡ contribution_by design.now arc.now input.now before behind }
+        result ≡ contribution_by design.now arc.now input.now before (loads_at tables.now) }
     ensures range { IsInRange result }
 {
     let least_slew = slew_behind(input.slo, wire.0);
     let most_slew = slew_behind(input.shi, wire.1);
-    let tables = design.tables();
-    let (delays, slews) = both_ranges(
-        &tables[arc.delay as usize],
-        &tables[arc.slew as usize],
-        least_slew,
-        most_slew,
-        load.0,
-        load.1,
-    );
+    let (delays, slews) = tables.over_slews(least_slew, most_slew);
     Quad {
         tlo: arrival(input.tlo, wire.0, delays.0),
         thi: arrival(input.thi, wire.1, delays.1),
@@ -68,23 +58,22 @@ fn contribution(
     }
 }
 
-/// A window of an edge, joined with what an arc contributes to it, where the edge of the pin at its input can switch,
-/// to a net whose range of loads is `load`.
+/// A window of an edge, joined with what an arc of a design contributes to it, where the edge of the pin at its input
+/// can switch, with its tables at the load of the net that it drives.
 #[inline(always)]
 pub(crate) fn with_arc(
     design: &Design,
     arc: &TimingArc,
     edge: Edge,
     input: &PinEdge,
-    load: (i64, i64),
+    tables: &TablePair,
     quad: Quad,
 ) -> Quad
-    requires sound { IsSoundArc design.now arc.now }
+    requires tables { AreNumbered design.now arc.now.delay arc.now.slew tables.now }
     requires fits { IsLive input.now.window → FitsWire input.now.window (wire_to input.now) }
-    requires load { load.0 ≤ℤ load.1 }
     requires range { IsInRange quad }
-    ensures value { let behind : Range = record { least = load.0; most = load.1 } in
-        result ≡ joined design.now edge behind quad arc.now input.now.window (wire_to input.now) }
+    ensures value { result
+        ≡ joined design.now edge (loads_at tables.now) quad arc.now input.now.window (wire_to input.now) }
     ensures range { IsInRange result }
 {
     if !same_edge(arc.output, edge) {
@@ -93,5 +82,5 @@ pub(crate) fn with_arc(
     if !input.window.live() {
         return quad;
     }
-    quad.join(&contribution(design, arc, &input.window, wire_to(input), load))
+    quad.join(&contribution(design, arc, &input.window, wire_to(input), tables))
 }

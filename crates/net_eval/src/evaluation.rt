@@ -2,6 +2,7 @@
 
 use crate::arc::with_arc;
 use crate::pin::Pin;
+use crate::tables::ArcTables;
 use miller_bits::{Overlaps, Victim, load_ranges};
 use std::marker::Model;
 use xt_model::{Bounds, Design, Edge, Net, NetId, Pair, Quad};
@@ -70,13 +71,15 @@ impl<'a, V: Bounds> Evaluation<'a, V> {
             first.from,
             first.sink,
         );
+        let mut tables = ArcTables::of_arc(&first, self.design, rise_load, fall_load);
         let mut rise = Quad::bottom();
         let mut fall = Quad::bottom();
         for arc in self.net.arcs.as_slice() {
             pin.move_to(arc, self.design, self.overlaps, self.view);
+            tables.turn_to(arc, self.design, rise_load, fall_load);
             let input = pin.at(arc.input);
-            rise = with_arc(self.design, arc, Edge::Rise, &input, rise_load, rise);
-            fall = with_arc(self.design, arc, Edge::Fall, &input, fall_load, fall);
+            rise = with_arc(self.design, arc, Edge::Rise, &input, &tables.rise, rise);
+            fall = with_arc(self.design, arc, Edge::Fall, &input, &tables.fall, fall);
         }
         Pair { rise, fall }
     }

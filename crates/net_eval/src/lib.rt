@@ -9,6 +9,7 @@ mod operator;
 mod pin;
 mod ranges;
 mod reads;
+mod tables;
 
 pub use closing::{closed, closed_part};
 pub use operator::{eval, eval_widest};

@@ -1,13 +1,11 @@
-use Rattle.std.proofs.Common.{◌≡◌, ◌∙◌, arith, to_z, of_z, w64}
-use Rattle.std.specs.Prelude.{Some}
-use Rattle.std.specs.List.{slice_get}
+use Rattle.std.proofs.Common.{◌∙◌, arith}
 use Rattle.std.proofs.lemmas.Int.{ints}
 use Rattle.xt_meaning.proofs.Order.{ordered_from_live}
-use Rattle.net_eval.proofs.Contributions.{slews_ordered, slew_least, slew_greatest, contribution_is, kept_mag, kept_time, kept_slew, kept_number, kept_wire, table_at}
+use Rattle.net_eval.proofs.Contributions.{slews_ordered, slew_least, slew_greatest, contribution_is, kept_mag, kept_time, kept_slew, kept_number, kept_wire}
 use Rattle.net_eval.proofs.arc.contribution.Goals as goal
 
-pub both_ranges-requires-clause-slews : goal.both_ranges-requires-clause-slews
-both_ranges-requires-clause-slews c =
+pub over_slews-requires-clause-slews : goal.over_slews-requires-clause-slews
+over_slews-requires-clause-slews c =
     let f = c.requires.fits in
     let q = c.args.input.now in
     let w0 = kept_wire c.args.wire.0 f.low (omega (arith, ints, f.ordered, f.high)) in
@@ -20,21 +18,17 @@ both_ranges-requires-clause-slews c =
 pub returns-clause-value : goal.returns-clause-value
 returns-clause-value c =
     let f = c.requires.fits in
-    let q = c.args.input.now in
-    let l0 : to_z w64 (of_z w64 c.args.load.0) ≡ c.args.load.0 = omega (arith, ints) in
-    let l1 : to_z w64 (of_z w64 c.args.load.1) ≡ c.args.load.1 = omega (arith, ints) in
+    let q = c.args.input.now in let t = c.args.tables.now in
     let w0 = kept_wire c.args.wire.0 f.low (omega (arith, ints, f.ordered, f.high)) in
     let w1 = kept_wire c.args.wire.1 (omega (arith, ints, f.ordered, f.low)) f.high in
-    let t : slice_get c.args.design.now.tables c.args.arc.now.delay ≡ Some c.index-tables-arc.result = table_at _ _ _ _ c.tables-tables.ensures.value c.requires.sound.delay c.index-tables-arc.is in
-    let u : slice_get c.args.design.now.tables c.args.arc.now.slew ≡ Some c.index-tables-arc-2.result = table_at _ _ _ _ c.tables-tables.ensures.value c.requires.sound.slew c.index-tables-arc-2.is in
-    let e = c.both_ranges.ensures in
-    contribution_is c.args.design.now c.args.arc.now q _ _ c.index-tables-arc.result c.index-tables-arc-2.result _ _ _ _ _ _ _ _ t u
+    let e = c.over_slews.ensures in
+    contribution_is c.args.design.now c.args.arc.now q _ _ t.first t.second _ _ _ _ _ _ _ _ c.requires.tables.delay c.requires.tables.slew
     (kept_mag _ c.slew_behind-least_slew.type_inv ∙ (rw (kept_slew q.slo f.driver.slo, w0) at c.slew_behind-least_slew.ensures))
     (kept_mag _ c.slew_behind-most_slew.type_inv ∙ (rw (kept_slew q.shi f.driver.shi, w1) at c.slew_behind-most_slew.ensures))
-    (kept_number _ e.first.least_number ∙ (rw (l0, l1) at e.first.least))
-    (kept_number _ e.first.greatest_number ∙ (rw (l0, l1) at e.first.greatest))
-    (slew_least c.index-tables-arc-2.result _ _ c.as_slew.result _ c.both_ranges.result.1.0 (kept_mag _ c.as_slew.type_inv) c.as_slew.ensures.value (kept_number _ e.second.least_number) (rw (l0, l1) at e.second.least))
-    (slew_greatest c.index-tables-arc-2.result _ _ c.as_slew-2.result _ c.both_ranges.result.1.1 (kept_mag _ c.as_slew-2.type_inv) c.as_slew-2.ensures.value (kept_number _ e.second.greatest_number) (rw (l0, l1) at e.second.greatest))
+    (kept_number _ e.first.least_number ∙ e.first.least)
+    (kept_number _ e.first.greatest_number ∙ e.first.greatest)
+    (slew_least t.second _ _ c.as_slew.result _ c.over_slews.result.1.0 (kept_mag _ c.as_slew.type_inv) c.as_slew.ensures.value (kept_number _ e.second.least_number) e.second.least)
+    (slew_greatest t.second _ _ c.as_slew-2.result _ c.over_slews.result.1.1 (kept_mag _ c.as_slew-2.type_inv) c.as_slew-2.ensures.value (kept_number _ e.second.greatest_number) e.second.greatest)
     (kept_mag _ c.arrival.type_inv ∙ (rw (kept_time q.tlo f.driver.tlo, w0) at c.arrival.ensures.value))
     (kept_mag _ c.arrival-2.type_inv ∙ (rw (kept_time q.thi f.driver.thi, w1) at c.arrival-2.ensures.value))
 
