@@ -20,6 +20,6 @@ box_at p s0 s1 = record { s0 = s0; s1 = s1; c0 = p.c0; c1 = p.c1 }
 pub record IsTablePair (t u : TableParts) (loads : Stretch) (alike : Bool) : Type 0 where
   pub first : IsTable t
   pub second : IsTable u
-  pub loads : IsStretch t.loads loads
+  pub on_axis : IsStretch t.loads loads
   pub slews_same : IsTrue alike → t.slews ≡ u.slews
   pub loads_same : IsTrue alike → t.loads ≡ u.loads

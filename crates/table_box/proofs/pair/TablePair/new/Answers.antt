@@ -7,7 +7,7 @@ pub invariant_of-result : goal.invariant_of-result
 invariant_of-result c = record {
   first = c.loads.ensures.sound;
   second = c.have_same_axes.ensures.table;
-  loads = subst (λ (xs : List ℤ). IsStretch xs c.of.result) c.loads.ensures.value c.of.ensures.on_axis;
+  on_axis = subst (λ (xs : List ℤ). IsStretch xs c.of.result) c.loads.ensures.value c.of.ensures.on_axis;
   slews_same = λ t. (c.have_same_axes.ensures.axes t).0;
   loads_same = λ t. (c.have_same_axes.ensures.axes t).1;
 }

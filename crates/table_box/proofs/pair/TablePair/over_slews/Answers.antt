@@ -15,32 +15,33 @@ box_range-requires-clause-slews c =
 
 pub box_range-requires-clause-loads : goal.box_range-requires-clause-loads
 box_range-requires-clause-loads c =
-    subst (λ (xs : List ℤ). IsStretch xs c.self.inside.loads) (c.self.invariant.loads_same c.if-self.true) c.self.invariant.loads
+    subst (λ (xs : List ℤ). IsStretch xs c.self.inside.loads) (c.self.invariant.loads_same c.if-self.true) c.self.invariant.on_axis
 
 -- the box of the code, and that of the words of the call
-box_is : (c : goal.After-of-slews) → ◌≡◌ {A = Box} (box_of c.of-slews.result c.self.inside.loads) (record { s0 = c.args.s0; s1 = c.args.s1; c0 = c.self.inside.loads.from; c1 = c.self.inside.loads.to })
-box_is c = same_box _ _ _ _ _ _ _ _ (c.of-slews.ensures.from ∙ to_z-of_z c.ranges.s0) (c.of-slews.ensures.to ∙ to_z-of_z c.ranges.s1) refl refl
+box_is : (slews loads : Stretch) (s0 s1 : ℤ) → SFits w64 s0 → SFits w64 s1 → slews.from ≡ to_z w64 (of_z w64 s0) → slews.to ≡ to_z w64 (of_z w64 s1)
+    → ◌≡◌ {A = Box} (box_of slews loads) (record { s0 = s0; s1 = s1; c0 = loads.from; c1 = loads.to })
+box_is slews loads s0 s1 p q e f = same_box _ _ _ _ _ _ _ _ (e ∙ to_z-of_z p) (f ∙ to_z-of_z q) refl refl
 
 pub returns-then-self-clause-first : goal.returns-then-self-clause-first
 returns-then-self-clause-first c =
     let e = c.box_range-first.ensures in
     rw (← c.self.view_is)
-    (range_moved c.self.inside.first.now _ _ c.box_range-first.result (box_is c) (record { least = e.least; greatest = e.greatest; least_number = e.least_number; greatest_number = e.greatest_number }))
+    (range_moved c.self.inside.first.now _ _ c.box_range-first.result (box_is c.of-slews.result c.self.inside.loads _ _ c.ranges.s0 c.ranges.s1 c.of-slews.ensures.from c.of-slews.ensures.to) (record { least = e.least; greatest = e.greatest; least_number = e.least_number; greatest_number = e.greatest_number }))
 
 pub returns-then-self-clause-second : goal.returns-then-self-clause-second
 returns-then-self-clause-second c =
     let e = c.box_range.ensures in
     rw (← c.self.view_is)
-    (range_moved c.self.inside.second.now _ _ c.box_range.result (box_is c) (record { least = e.least; greatest = e.greatest; least_number = e.least_number; greatest_number = e.greatest_number }))
+    (range_moved c.self.inside.second.now _ _ c.box_range.result (box_is c.of-slews.result c.self.inside.loads _ _ c.ranges.s0 c.ranges.s1 c.of-slews.ensures.from c.of-slews.ensures.to) (record { least = e.least; greatest = e.greatest; least_number = e.least_number; greatest_number = e.greatest_number }))
 
 pub returns-clause-first : goal.returns-clause-first
 returns-clause-first c =
     let e = c.box_range-first.ensures in
     rw (← c.self.view_is)
-    (range_moved c.self.inside.first.now _ _ c.box_range-first.result (box_is c) (record { least = e.least; greatest = e.greatest; least_number = e.least_number; greatest_number = e.greatest_number }))
+    (range_moved c.self.inside.first.now _ _ c.box_range-first.result (box_is c.of-slews.result c.self.inside.loads _ _ c.ranges.s0 c.ranges.s1 c.of-slews.ensures.from c.of-slews.ensures.to) (record { least = e.least; greatest = e.greatest; least_number = e.least_number; greatest_number = e.greatest_number }))
 
 pub range-requires-clause-loads : goal.range-requires-clause-loads
-range-requires-clause-loads c = let h = c.self.invariant.loads.ordered in omega (arith, ints, h)
+range-requires-clause-loads c = let h = c.self.invariant.on_axis.ordered in omega (arith, ints, h)
 
 pub returns-clause-second : goal.returns-clause-second
 returns-clause-second c =
