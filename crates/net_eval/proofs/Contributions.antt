@@ -1,5 +1,5 @@
 -- What an arc contributes, from its pieces.
-use Rattle.std.proofs.Common.{◌≡◌, ℕ, ◌^◌, ◌<◌, refl, sym, List, length, take, take_all, get_or, ◌≤◌, to_z, of_z, w64, ℤ, pos, neg_ℤ, ◌+ℤ◌, ◌≤ℤ◌, arith}
+use Rattle.std.proofs.Common.{◌≡◌, ℕ, ◌^◌, ◌<◌, refl, sym, ap, ◌∙◌, List, length, take, take_all, get_or, ◌≤◌, to_z, of_z, w64, ℤ, pos, neg_ℤ, ◌+ℤ◌, ◌≤ℤ◌, arith}
 use Rattle.std.specs.Prelude.{Some}
 use Rattle.std.specs.Int.{int_max}
 use Rattle.std.specs.Int.Signed.{mag}
@@ -17,7 +17,10 @@ use Rattle.xt_model.specs.Parts.{Parts}
 use Rattle.xt_model.specs.Miller.{IsMiller}
 use Rattle.xt_model.specs.Sound.{IsSoundNet, IsSoundCoupling, IsSoundSink, IsProduct, IsSlew, IsTime}
 use Rattle.xt_meaning.specs.Lookup.{Box, table_value, slew_value, least_over, greatest_over}
-use Rattle.xt_meaning.specs.Wires.{slew_growth}
+use Rattle.xt_meaning.specs.Wires.{load_of, slew_growth}
+use Rattle.miller_bits.specs.declared.overlaps.Overlaps.{Overlaps}
+use Rattle.miller_bits.specs.Victims.{VictimEdge, victim_of}
+use Rattle.miller_bits.specs.Views.{answers_by}
 use Rattle.xt_meaning.specs.Overlap.{Answers}
 use Rattle.xt_meaning.specs.Operator.{Range, contribution_by, load_range}
 use Rattle.xt_meaning.proofs.Ranges.{least_over-slew_value, greatest_over-slew_value}
@@ -61,6 +64,12 @@ sound_wired d own n s = record {
 pub loads_ordered : (d : Parts) (own : ℕ) (n : Net) (b : Answers) (e : Edge) (c0 c1 : ℤ) → IsMiller d.miller → IsSoundNet d own n → c0 ≡ (load_range d.miller b own e n).least
     → c1 ≡ (load_range d.miller b own e n).most → c0 ≤ℤ c1
 loads_ordered d own n b e c0 c1 m s h k = rw (h, k) ((load_range_ordered d.miller b own e n m (sound_wired d own n s)).ordered)
+
+-- so they are as the loads of the victim
+pub loads_of_victim : (d : Parts) (own : ℕ) (n : Net) (o : Overlaps) (f : ℕ → ℤ) (e : Edge) (v : VictimEdge) (c0 c1 : ℤ) → IsMiller d.miller → IsSoundNet d own n → v ≡ victim_of o d f own e n
+    → c0 ≡ load_of v.least v.net → c1 ≡ load_of v.greatest v.net → c0 ≤ℤ c1
+loads_of_victim d own n o f e v c0 c1 m s is h k =
+    loads_ordered d own n (answers_by o d f) e c0 c1 m s (h ∙ ap (λ v. load_of v.least v.net) is) (k ∙ ap (λ v. load_of v.greatest v.net) is)
 
 -- ---- numbers as they are stored
 pub kept : (x : ℤ) → neg_ℤ (pos (2 ^ 62)) ≤ℤ x → x ≤ℤ pos (2 ^ 62) → to_z w64 (of_z w64 x) ≡ x

@@ -142,15 +142,15 @@ joined_is : (s : Scene) (e : Edge) (load : Range) (q : Quad) (a : TimingArc) (in
     → wire ≡ wire_range s.design.miller s.answers a.from.0 a.input a.sink (slice_get s.design.nets a.from.0) → joined s.design e load q a input wire ≡ with_arc_at s e load q a
 joined_is s e load q a input wire is_input is_wire = rw (is_input, is_wire) refl
 
--- the join over one arc more
-pub arc_turn : (s : Scene) (e : Edge) (load : Range) (xs : List TimingArc) (i : ℕ) (a : TimingArc) (q r : Quad) (p : PinEdge) → i < length xs
-    → IsPinEdge s (get_or xs i a).from.0 (get_or xs i a).sink (get_or xs i a).input p → r ≡ joined s.design e load q (get_or xs i a) p.window (wire_to p)
+-- the join over one arc more, whose tables are at this range of loads
+pub arc_turn : (s : Scene) (e : Edge) (load at_tables : Range) (xs : List TimingArc) (i : ℕ) (a : TimingArc) (q r : Quad) (p : PinEdge) → i < length xs → at_tables ≡ load
+    → IsPinEdge s (get_or xs i a).from.0 (get_or xs i a).sink (get_or xs i a).input p → r ≡ joined s.design e at_tables q (get_or xs i a) p.window (wire_to p)
     → q ≡ fold (with_arc_at s e load) bottom (take i xs) → r ≡ fold (with_arc_at s e load) bottom (take (i + 1) xs)
-arc_turn s e load xs i a q r p i_in pin joins before =
+arc_turn s e load at_tables xs i a q r p i_in same pin joins before =
     let arc = get_or xs i a in
     let step = joined_is s e load q arc p.window (wire_to p) pin.window pin.wire in
     let more = fold_more (with_arc_at s e load) bottom xs i a i_in in
-    joins ∙ (step ∙ (ap (λ p. with_arc_at s e load p arc) before ∙ sym more))
+    joins ∙ (ap (λ l. joined s.design e l q arc p.window (wire_to p)) same ∙ (step ∙ (ap (λ p. with_arc_at s e load p arc) before ∙ sym more)))
 
 -- the tables that an arc names, by its numbers
 pub named_tables : (d : Parts) (a : TimingArc) (rise fall : Range) (t : ArcTables) → AreTablesOf d a rise fall t → AreNumbered d a.delay a.slew t.rise × AreNumbered d a.delay a.slew t.fall

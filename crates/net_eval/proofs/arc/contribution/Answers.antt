@@ -4,16 +4,18 @@ use Rattle.xt_meaning.proofs.Order.{ordered_from_live}
 use Rattle.net_eval.proofs.Contributions.{slews_ordered, slew_least, slew_greatest, contribution_is, kept_mag, kept_time, kept_slew, kept_number, kept_wire}
 use Rattle.net_eval.proofs.arc.contribution.Goals as goal
 
-pub over_slews-requires-clause-slews : goal.over_slews-requires-clause-slews
-over_slews-requires-clause-slews c =
+pub over_slews-requires : goal.over_slews-requires
+over_slews-requires c =
     let f = c.requires.fits in
     let q = c.args.input.now in
     let w0 = kept_wire c.args.wire.0 f.low (omega (arith, ints, f.ordered, f.high)) in
     let w1 = kept_wire c.args.wire.1 (omega (arith, ints, f.ordered, f.low)) f.high in
-    slews_ordered q.slo q.shi c.args.wire.0 c.args.wire.1 _ _
-    (kept_mag _ c.slew_behind-least_slew.type_inv ∙ (rw (kept_slew q.slo f.driver.slo, w0) at c.slew_behind-least_slew.ensures))
-    (kept_mag _ c.slew_behind-most_slew.type_inv ∙ (rw (kept_slew q.shi f.driver.shi, w1) at c.slew_behind-most_slew.ensures))
-    (ordered_from_live q f.driver.live).slews f.ordered
+    record {
+      slews = slews_ordered q.slo q.shi c.args.wire.0 c.args.wire.1 _ _
+          (kept_mag _ c.slew_behind-least_slew.type_inv ∙ (rw (kept_slew q.slo f.driver.slo, w0) at c.slew_behind-least_slew.ensures))
+          (kept_mag _ c.slew_behind-most_slew.type_inv ∙ (rw (kept_slew q.shi f.driver.shi, w1) at c.slew_behind-most_slew.ensures))
+          (ordered_from_live q f.driver.live).slews f.ordered;
+    }
 
 pub returns-clause-value : goal.returns-clause-value
 returns-clause-value c =

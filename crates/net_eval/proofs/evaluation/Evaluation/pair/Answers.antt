@@ -1,5 +1,5 @@
 -- Each turn joins what one arc contributes to both edges.
-use Rattle.std.proofs.Common.{◌≡◌, ◌<◌, ◌≤ℤ◌, ◌∙◌, ap, refl, length, arith}
+use Rattle.std.proofs.Common.{◌≡◌, ◌<◌, ◌∙◌, ap, refl, length, arith}
 use Rattle.std.proofs.lemmas.Option.{slice_get_within}
 use Rattle.xt_model.specs.declared.edge.Edge.TheVariants.{Rise, Fall}
 use Rattle.xt_meaning.specs.Wires.{load_of}
@@ -7,7 +7,7 @@ use Rattle.miller_bits.specs.Victims.{victim_of}
 use Rattle.miller_bits.proofs.Sums.{found}
 use Rattle.net_eval.specs.Arcs.{load_in}
 use Rattle.net_eval.specs.Scenes.{scene_of}
-use Rattle.net_eval.proofs.Contributions.{loads_ordered, join_is}
+use Rattle.net_eval.proofs.Contributions.{join_is, loads_of_victim}
 use Rattle.net_eval.proofs.Nets.{source_is, source_in_range, own_words, edge_at, ready_at, input_fits, arc_turn, named_tables, operator_is, pair_is}
 use Rattle.net_eval.proofs.evaluation.Evaluation.pair.Goals as goal
 
@@ -54,28 +54,17 @@ with_arc-fall-requires-clause-fits g c =
 pub with_arc-fall-requires-clause-tables : goal.with_arc-fall-requires-clause-tables
 with_arc-fall-requires-clause-tables g c = (named_tables _ _ _ _ _ c.turn_to.ensures).1
 
--- the loads are in order
-rise_ordered : (g : goal.Generics) (c : goal.After-load_ranges) → c.load_ranges.result.0.0 ≤ℤ c.load_ranges.result.0.1
-rise_ordered g c =
-    let e = c.self.inside in let f = g.V.Bounds.bound_of e.view.now in
-    let s = scene_of e.overlaps e.design.now f in
-    let v : c.new-own_rise.result ≡ victim_of e.overlaps e.design.now f e.number.0 Rise e.net.now = found _ _ e.net.now c.self.invariant.there c.new-own_rise.ensures in
-    loads_ordered e.design.now e.number.0 e.net.now s.answers Rise _ _ c.self.invariant.miller c.self.invariant.sound
-    (c.load_ranges.ensures.a_least ∙ ap (λ v. load_of v.least v.net) v) (c.load_ranges.ensures.a_greatest ∙ ap (λ v. load_of v.greatest v.net) v)
-
-fall_ordered : (g : goal.Generics) (c : goal.After-load_ranges) → c.load_ranges.result.1.0 ≤ℤ c.load_ranges.result.1.1
-fall_ordered g c =
-    let e = c.self.inside in let f = g.V.Bounds.bound_of e.view.now in
-    let s = scene_of e.overlaps e.design.now f in
-    let v : c.new-own_fall.result ≡ victim_of e.overlaps e.design.now f e.number.0 Fall e.net.now = found _ _ e.net.now c.self.invariant.there c.new-own_fall.ensures in
-    loads_ordered e.design.now e.number.0 e.net.now s.answers Fall _ _ c.self.invariant.miller c.self.invariant.sound
-    (c.load_ranges.ensures.b_least ∙ ap (λ v. load_of v.least v.net) v) (c.load_ranges.ensures.b_greatest ∙ ap (λ v. load_of v.greatest v.net) v)
-
 pub of_arc-tables-requires-clause-rise_load : goal.of_arc-tables-requires-clause-rise_load
-of_arc-tables-requires-clause-rise_load g c = rise_ordered g c
+of_arc-tables-requires-clause-rise_load g c =
+    let e = c.self.inside in let f = g.V.Bounds.bound_of e.view.now in
+    let v : c.new-own_rise.result ≡ victim_of e.overlaps e.design.now f e.number.0 Rise e.net.now = found _ _ e.net.now c.self.invariant.there c.new-own_rise.ensures in
+    loads_of_victim e.design.now e.number.0 e.net.now e.overlaps f Rise _ _ _ c.self.invariant.miller c.self.invariant.sound v c.load_ranges.ensures.a_least c.load_ranges.ensures.a_greatest
 
 pub of_arc-tables-requires-clause-fall_load : goal.of_arc-tables-requires-clause-fall_load
-of_arc-tables-requires-clause-fall_load g c = fall_ordered g c
+of_arc-tables-requires-clause-fall_load g c =
+    let e = c.self.inside in let f = g.V.Bounds.bound_of e.view.now in
+    let v : c.new-own_fall.result ≡ victim_of e.overlaps e.design.now f e.number.0 Fall e.net.now = found _ _ e.net.now c.self.invariant.there c.new-own_fall.ensures in
+    loads_of_victim e.design.now e.number.0 e.net.now e.overlaps f Fall _ _ _ c.self.invariant.miller c.self.invariant.sound v c.load_ranges.ensures.b_least c.load_ranges.ensures.b_greatest
 
 pub turn_to-requires-clause-sound : goal.turn_to-requires-clause-sound
 turn_to-requires-clause-sound g c =
@@ -83,10 +72,16 @@ turn_to-requires-clause-sound g c =
     (ready_at _ s _ _ c.loop-arc.arc-index _ c.self.invariant.arcs c.as_slice-arc-items.ensures c.loop-arc-test.true).sound
 
 pub turn_to-requires-clause-rise_load : goal.turn_to-requires-clause-rise_load
-turn_to-requires-clause-rise_load g c = rise_ordered g c
+turn_to-requires-clause-rise_load g c =
+    let e = c.self.inside in let f = g.V.Bounds.bound_of e.view.now in
+    let v : c.new-own_rise.result ≡ victim_of e.overlaps e.design.now f e.number.0 Rise e.net.now = found _ _ e.net.now c.self.invariant.there c.new-own_rise.ensures in
+    loads_of_victim e.design.now e.number.0 e.net.now e.overlaps f Rise _ _ _ c.self.invariant.miller c.self.invariant.sound v c.load_ranges.ensures.a_least c.load_ranges.ensures.a_greatest
 
 pub turn_to-requires-clause-fall_load : goal.turn_to-requires-clause-fall_load
-turn_to-requires-clause-fall_load g c = fall_ordered g c
+turn_to-requires-clause-fall_load g c =
+    let e = c.self.inside in let f = g.V.Bounds.bound_of e.view.now in
+    let v : c.new-own_fall.result ≡ victim_of e.overlaps e.design.now f e.number.0 Fall e.net.now = found _ _ e.net.now c.self.invariant.there c.new-own_fall.ensures in
+    loads_of_victim e.design.now e.number.0 e.net.now e.overlaps f Fall _ _ _ c.self.invariant.miller c.self.invariant.sound v c.load_ranges.ensures.b_least c.load_ranges.ensures.b_greatest
 
 pub loop-arc-preserved : goal.loop-arc-preserved
 loop-arc-preserved g c =
@@ -94,8 +89,8 @@ loop-arc-preserved g c =
     record {
       pin = c.move_to.ensures.pin;
       tables = c.turn_to.ensures.tables;
-      rise = arc_turn s Rise _ _ c.loop-arc.arc-index _ c.loop-arc.rise _ c.at-input.result c.loop-arc-test.true (edge_at s _ _ _ _ c.move_to.ensures c.at-input.ensures) (rw c.turn_to.ensures.tables.rise_load at c.with_arc-rise.ensures.value) c.loop-arc.invariant.rise;
-      fall = arc_turn s Fall _ _ c.loop-arc.arc-index _ c.loop-arc.fall _ c.at-input.result c.loop-arc-test.true (edge_at s _ _ _ _ c.move_to.ensures c.at-input.ensures) (rw c.turn_to.ensures.tables.fall_load at c.with_arc-fall.ensures.value) c.loop-arc.invariant.fall;
+      rise = arc_turn s Rise _ _ _ c.loop-arc.arc-index _ c.loop-arc.rise _ c.at-input.result c.loop-arc-test.true c.turn_to.ensures.tables.rise_load (edge_at s _ _ _ _ c.move_to.ensures c.at-input.ensures) c.with_arc-rise.ensures.value c.loop-arc.invariant.rise;
+      fall = arc_turn s Fall _ _ _ c.loop-arc.arc-index _ c.loop-arc.fall _ c.at-input.result c.loop-arc-test.true c.turn_to.ensures.tables.fall_load (edge_at s _ _ _ _ c.move_to.ensures c.at-input.ensures) c.with_arc-fall.ensures.value c.loop-arc.invariant.fall;
       rise_range = c.with_arc-rise.ensures.range;
       fall_range = c.with_arc-fall.ensures.range;
     }

@@ -1,11 +1,9 @@
 -- Both ranges are over one box, whichever places the second takes.
-use Rattle.std.proofs.Common.{◌≡◌, ◌∙◌, refl, sym, subst, List, ℤ, to_z, of_z, w64, SFits, to_z-of_z, arith}
+use Rattle.std.proofs.Common.{◌≡◌, ◌∙◌, refl, subst, List, ℤ, to_z, of_z, w64, SFits, to_z-of_z, arith}
 use Rattle.std.proofs.lemmas.Int.{ints}
-use Rattle.xt_model.specs.Tables.{TableParts}
 use Rattle.xt_meaning.specs.Lookup.{Box}
 use Rattle.table_box.specs.declared.stretch.Stretch.{Stretch}
 use Rattle.table_box.specs.Stretches.{IsStretch, box_of}
-use Rattle.table_box.specs.Ranges.{IsRange}
 use Rattle.table_box.proofs.Places.{range_moved, same_box}
 use Rattle.table_box.proofs.pair.TablePair.over_slews.Goals as goal
 
