@@ -75,7 +75,7 @@ fn range_with_quarters(load: i64, quarters: (i64, i64)) -> (i64, i64)
 
 /// At two edges of one net its least and its greatest load in aF: its load to ground, and of each coupling its least
 /// and its greatest factor times its capacitance. The quarters are summed before they are rounded down. Linear in the
-/// couplings; the windows of each aggressor are looked at once for both edges.
+/// couplings, in one pass over them for both edges.
 #[inline(always)]
 pub fn load_ranges<'a, V: Bounds>(a: &Victim<'a, V>, b: &Victim<'a, V>) -> ((i64, i64), (i64, i64))
     requires net { b.now.net ≡ a.now.net }

@@ -88,7 +88,7 @@ fn delays_of(quarters: (i128, i128)) -> (i128, i128)
 
 /// At two edges of one net, the least and the greatest delay in fs of the wire to one of its sinks, with every coupling
 /// at its least and at its greatest factor (Elmore 1948). The quarters are summed before they are rounded down. Linear
-/// in the couplings; the windows of each aggressor are looked at once for both edges.
+/// in the couplings, in one pass over them for both edges.
 #[inline(always)]
 pub fn wire_ranges<'a, V: Bounds>(
     a: &Victim<'a, V>,

@@ -132,8 +132,8 @@ pub(crate) fn have_same_axes(a: &Table, b: &Table) -> bool
 }
 
 /// The least and the greatest value of a table over every whole slew from `s0` to `s1` fs and every whole load
-/// from `c0` to `c1` aF. It looks at the ends of the box and the grid lines within: at four values for a box
-/// in one cell, and at (k + 2)·(l + 2) where k slews and l loads of the index lie within.
+/// from `c0` to `c1` aF. It looks at the ends of the box and the grid lines within: at four values at most for a
+/// box in one cell, and at (k + 2)·(l + 2) at most where k slews and l loads of the index lie within.
 pub fn range(table: &Table, s0: i64, s1: i64, c0: i64, c1: i64) -> (i64, i64)
     requires slews { s0 ≤ℤ s1 }
     requires loads { c0 ≤ℤ c1 }
