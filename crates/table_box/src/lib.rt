@@ -10,5 +10,5 @@ mod stretch;
 mod values;
 
 pub use pair::TablePair;
-pub use ranges::{both_ranges, range};
+pub use ranges::range;
 pub use values::at;

@@ -5,10 +5,8 @@ ghost use Rattle.xt_meaning.specs.Lookup.{greatest_over, least_over, span_of, ta
 ghost use Rattle.table_box.specs.Spans.{IsSpan, span_in};
 ghost use Rattle.table_box.specs.Stretches.{IsStretch, box_of};
 ghost use Rattle.table_box.specs.Rows.{row_least, row_greatest};
-ghost use Rattle.table_box.specs.Ranges.{IsRange};
 
 use crate::cell::cell_range;
-use crate::pair::TablePair;
 use crate::place::Place;
 use crate::stretch::Stretch;
 use crate::values::{value_at, value_on_line};
@@ -146,22 +144,4 @@ pub fn range(table: &Table, s0: i64, s1: i64, c0: i64, c1: i64) -> (i64, i64)
     let slews = Stretch::of(table.slews(), s0, s1);
     let loads = Stretch::of(table.loads(), c0, c1);
     box_range(table, &slews, &loads)
-}
-
-/// The ranges of two tables over one box, as `range` gives them. Where both have the same axes, the box is looked up
-/// once.
-pub fn both_ranges(
-    a: &Table,
-    b: &Table,
-    s0: i64,
-    s1: i64,
-    c0: i64,
-    c1: i64,
-) -> ((i64, i64), (i64, i64))
-    requires slews { s0 ≤ℤ s1 }
-    requires loads { c0 ≤ℤ c1 }
-    ensures first { IsRange a.now (record { s0 = s0; s1 = s1; c0 = c0; c1 = c1 }) result.0 }
-    ensures second { IsRange b.now (record { s0 = s0; s1 = s1; c0 = c0; c1 = c1 }) result.1 }
-{
-    TablePair::new(a, b, c0, c1).over_slews(s0, s1)
 }
