@@ -43,7 +43,8 @@ impl End {
         ensures { IfOk result (λ e. e ≡ Pin instance.now pin.now) }
     {
         let joint = instance.len();
-        let mut name = Vec::from_slice(alloc, instance)?;
+        let mut name = Vec::with_capacity(alloc, joint + 1 + pin.len())?;
+        name.extend_from_slice(instance)?;
         name.push(b'/')?;
         name.extend_from_slice(pin)?;
         Ok(End {
