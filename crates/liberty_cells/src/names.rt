@@ -93,7 +93,7 @@ pub fn names_of_string(alloc: Global, line: u32, text: &[u8]) -> Result<Vec<Name
         if !is_name(name) {
             return Err(refused);
         }
-        names.push(Name::new(Vec::from_slice(alloc, name)?))?;
+        names.push(Name::from_slice(alloc, name)?)?;
         rest = more;
     }
     if names.is_empty() {
