@@ -12,13 +12,6 @@ use std::alloc::{AllocError, Global};
 use xt_model::limits::{MOST_CAP, MOST_NODES};
 use xt_model::{LimitKind, Name};
 
-/// A name once more.
-fn copied(alloc: Global, name: &Name) -> Result<Name, AllocError>
-    ensures { IfOk result (λ n. n ≡ name.now) }
-{
-    Ok(Name::new(Vec::from_slice(alloc, name.bytes())?))
-}
-
 /// The limit that a net passes, where the value is more than the most.
 fn passed(
     alloc: Global,
@@ -34,7 +27,7 @@ fn passed(
     }
     Ok(Some(LinkFault::Limit {
         what,
-        name: Some(copied(alloc, net)?),
+        name: Some(Name::from_slice(alloc, net.bytes())?),
         value,
     }))
 }
@@ -76,13 +69,13 @@ pub fn refusal_of<'a>(
 {
     match fault {
         TreeFault::NotTree => Ok(LinkFault::Refused(LinkRefusal::K5 {
-            net: copied(alloc, net)?,
+            net: Name::from_slice(alloc, net.bytes())?,
         })),
         TreeFault::NotReached(node) => {
-            let node = Vec::from_slice(alloc, nodes.name(node))?;
+            let node = Name::from_slice(alloc, nodes.name(node))?;
             Ok(LinkFault::Refused(LinkRefusal::K6 {
-                net: copied(alloc, net)?,
-                node: Name::new(node),
+                net: Name::from_slice(alloc, net.bytes())?,
+                node,
             }))
         }
         TreeFault::NoMemory => Ok(LinkFault::NoMemory),
