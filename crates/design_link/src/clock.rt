@@ -4,7 +4,6 @@ ghost use Rattle.std.specs.Prelude.{◌≡◌};
 ghost use Rattle.link_pins.specs.Answers.{Tests};
 ghost use Rattle.link_rules.specs.Refusals.{check_name, unclocked};
 
-use crate::copies::copied;
 use link_rules::{LinkFault, LinkRefusal};
 use std::alloc::Global;
 use xt_model::{CheckPoint, Name};
@@ -26,7 +25,7 @@ pub fn check_unclocked(alloc: Global, checks: &[CheckPoint]) -> Result<(), LinkF
     match checks {
         [] => Ok(()),
         [first, ..] => Err(LinkFault::Refused(LinkRefusal::K7 {
-            check: copied(alloc, name_of(first))?,
+            check: Name::from_slice(alloc, name_of(first).bytes())?,
         })),
     }
 }

@@ -1,4 +1,4 @@
-//! Tables and names once more.
+//! Tables once more.
 
 ghost use Rattle.std.specs.Prelude.{◌≡◌, IfOk};
 ghost use Rattle.std.specs.List.{All};
@@ -6,15 +6,7 @@ ghost use Rattle.xt_model.specs.Tables.{IsTable};
 
 use liberty_cells::Library;
 use std::alloc::{AllocError, Global};
-use xt_model::{Name, Row, Table};
-
-/// A name once more.
-pub fn copied(alloc: Global, name: &Name) -> Result<Name, AllocError>
-    ensures { IfOk result (λ n. n ≡ name.now) }
-{
-    let bytes = Vec::from_slice(alloc, name.bytes())?;
-    Ok(Name::new(bytes))
-}
+use xt_model::{Row, Table};
 
 /// Numbers once more.
 fn copied_row(alloc: Global, numbers: &[i64]) -> Result<Row<i64>, AllocError>

@@ -26,8 +26,7 @@ fn names_by<'a>(
         let Some(name) = index.name(net.0) else {
             unreachable!()
         };
-        let bytes = Vec::from_slice(alloc, name)?;
-        names.push(Name::new(bytes))?;
+        names.push(Name::from_slice(alloc, name)?)?;
     }
     Ok(Row::from_vec(names))
 }

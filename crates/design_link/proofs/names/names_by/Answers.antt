@@ -1,6 +1,5 @@
-use Rattle.std.proofs.Common.{◌∙◌, refl, sym, ap, subst, map}
+use Rattle.std.proofs.Common.{◌∙◌, refl, ap, map}
 use Rattle.std.proofs.lemmas.List.{take_all}
-use Rattle.xt_model.specs.Names.{IsName}
 use Rattle.design_link.specs.Built.{net_name}
 use Rattle.design_link.proofs.NameLaws.{bit_there}
 use Rattle.design_link.proofs.names.names_by.Goals as goal
@@ -9,8 +8,8 @@ pub unreachable-requires : goal.unreachable-requires
 unreachable-requires c =
     bit_there c.args.index.now c.args.index.now refl _ (c.requires c.loop-net.net-index _ c.loop-net-test.true) c.in_default.ensures.value
 
-pub new-requires : goal.new-requires
-new-requires c = subst IsName (sym c.in_ok-bytes.ensures.items) c.in-Some.ensures.spelled
+pub from_slice-requires : goal.from_slice-requires
+from_slice-requires c = c.in-Some.ensures.spelled
 
 pub returns : goal.returns
 returns c =
