@@ -10,14 +10,13 @@ ghost use Rattle.link_pins.specs.Seen.{HasShortNames, connected_at};
 
 use crate::arcs::Places;
 use crate::bits::BitAt;
-use crate::names::copied;
 use crate::pins::PinOn;
 use crate::sinks::end_of;
 use liberty_cells::TimingKind;
 use link_index::{CellIndex, NetIndex};
 use sdc_read::Constraints;
 use std::alloc::{AllocError, Global};
-use xt_model::{CheckPoint, NetId};
+use xt_model::{CheckPoint, Name, NetId};
 
 /// Whether a timing group is a check, and then whether it is one of hold.
 fn side_of(kind: TimingKind) -> Option<bool>
@@ -91,7 +90,7 @@ fn add_side(
     let (rise, fall) = delays;
     if rise.is_some() || fall.is_some() {
         checks.push(CheckPoint::Port {
-            name: copied(alloc, name)?,
+            name: Name::from_slice(alloc, name)?,
             hold,
             net: NetId(at.0),
             sink: at.1,

@@ -9,11 +9,11 @@ ghost use Rattle.link_rules.specs.Refusals.{cell_fault, instance_fault};
 ghost use Rattle.link_rules.specs.Sound.{IsSoundInstance, IsSoundNetlist};
 ghost use Rattle.link_pins.specs.Answers.{Tests, missing_pin};
 
-use crate::names::copied;
 use link_index::CellIndex;
 use link_rules::{LinkFault, LinkRefusal};
 use std::alloc::Global;
 use verilog_net::{Instance, Netlist};
+use xt_model::Name;
 
 /// Tests one pin of an instance: the cell at this place has it.
 fn check_pin<'a>(
@@ -32,8 +32,8 @@ fn check_pin<'a>(
     match cells.pin(cell, pin) {
         Some(_) => Ok(()),
         None => Err(LinkFault::Refused(LinkRefusal::K2 {
-            instance: copied(alloc, instance)?,
-            pin: copied(alloc, pin)?,
+            instance: Name::from_slice(alloc, instance)?,
+            pin: Name::from_slice(alloc, pin)?,
         })),
     }
 }
@@ -50,14 +50,14 @@ fn check_instance<'a>(
     let name = instance.name.bytes();
     let Some(cell) = cells.cell(instance.cell.bytes()) else {
         return Err(LinkFault::Refused(LinkRefusal::K1 {
-            instance: copied(alloc, name)?,
-            cell: copied(alloc, instance.cell.bytes())?,
+            instance: Name::from_slice(alloc, name)?,
+            cell: Name::from_slice(alloc, instance.cell.bytes())?,
         }));
     };
     if cells.is_odd(cell) {
         return Err(LinkFault::Refused(LinkRefusal::K9 {
-            instance: copied(alloc, name)?,
-            cell: copied(alloc, instance.cell.bytes())?,
+            instance: Name::from_slice(alloc, name)?,
+            cell: Name::from_slice(alloc, instance.cell.bytes())?,
         }));
     }
     let mut rest = instance.pins.as_slice();

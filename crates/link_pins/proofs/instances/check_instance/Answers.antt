@@ -8,15 +8,15 @@ use Rattle.link_pins.proofs.instances.check_instance.Goals as goal
 
 pub returns-in_default : goal.returns-in_default
 returns-in_default c =
-    cell_is_missing c.args.cells.now c.args.instance.now c.in_ok-copied.field-0 c.in_ok-copied-2.field-0 c.cell.result c.in_default.is
-    (rw c.bytes.ensures at c.cell.ensures.place) (c.in_ok-copied.ensures ∙ c.bytes-name.ensures) (c.in_ok-copied-2.ensures ∙ c.bytes-in_default.ensures)
+    cell_is_missing c.args.cells.now c.args.instance.now c.in_ok-from_slice.field-0 c.in_ok-from_slice-2.field-0 c.cell.result c.in_default.is
+    (rw c.bytes.ensures at c.cell.ensures.place) (c.in_ok-from_slice.ensures ∙ c.bytes-name.ensures) (c.in_ok-from_slice-2.ensures ∙ c.bytes-in_default.ensures)
 
 pub returns-then-is_odd : goal.returns-then-is_odd
 returns-then-is_odd c =
     let odd = some_and _ _ c.is_odd.ensures in
     cell_is_odd c.args.cells.now c.args.instance.now c.cell.result c.in-Some.cell c.in-Some.is (rw c.bytes.ensures at c.cell.ensures.place) odd.0 odd.1
-    c.in_ok-copied-3.field-0 c.in_ok-copied-4.field-0 (sym odd.2 ∙ c.if-is_odd.true)
-    (c.in_ok-copied-3.ensures ∙ c.bytes-name.ensures) (c.in_ok-copied-4.ensures ∙ c.bytes-then-is_odd.ensures)
+    c.in_ok-from_slice-3.field-0 c.in_ok-from_slice-4.field-0 (sym odd.2 ∙ c.if-is_odd.true)
+    (c.in_ok-from_slice-3.ensures ∙ c.bytes-name.ensures) (c.in_ok-from_slice-4.ensures ∙ c.bytes-then-is_odd.ensures)
 
 pub check_pin-requires-clause-pin : goal.check_pin-requires-clause-pin
 check_pin-requires-clause-pin c =
