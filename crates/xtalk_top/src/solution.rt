@@ -48,10 +48,10 @@ fn passed(alloc: Global, design: &Design, net: NetId, what: What, value: i128) -
     ensures { IsStop (SolvedMeans (λ _. ⊥) design.now) (λ _. ⊥) result }
 {
     let name = design.net(net.0 as usize).name.bytes();
-    match Vec::from_slice(alloc, name) {
-        Ok(bytes) => Stop::Refused(Refusal::Design(DesignRefusal::Limit(PassedLimit {
+    match Name::from_slice(alloc, name) {
+        Ok(name) => Stop::Refused(Refusal::Design(DesignRefusal::Limit(PassedLimit {
             what,
-            name: Some(Name::new(bytes)),
+            name: Some(name),
             value,
         }))),
         Err(_) => Stop::NoMemory,
