@@ -1,8 +1,8 @@
 //! The lines of checks.
 
-ghost use Rattle.std.specs.Prelude.{◌≡◌};
-ghost use Rattle.linked_text.specs.EachLine.{Around, check_in, flop_in, has_table, port_in};
-ghost use Rattle.linked_text.specs.Fields.{Finds, count, delay, fields_of, hold_of, or_dash};
+ghost use Rattle.std.specs.Prelude.{◌≡◌, ◌&&◌};
+ghost use Rattle.linked_text.specs.EachLine.{Around, check_in, flop_in, has_sink, has_table, port_in};
+ghost use Rattle.linked_text.specs.Fields.{Finds, count, delay, fields_of, hold_of, is_name, or_dash};
 ghost use Rattle.linked_text.specs.Gives.{LineGives};
 
 use crate::fault::{HOLDS, LineStop, NUMBERS, WORDS};
@@ -59,6 +59,20 @@ fn has_table(tables: u32, table: Option<u32>) -> bool
     }
 }
 
+/// Whether both tables of a check are there, where it has them.
+fn have_tables(tables: u32, rise: Option<u32>, fall: Option<u32>) -> bool
+    ensures { result ≡ (has_table tables rise && has_table tables fall) }
+{
+    has_table(tables, rise) && has_table(tables, fall)
+}
+
+/// Whether there is a period, a check may have the name, and the net has the sink.
+fn may_stand(period: bool, name: &[u8], sinks: &[u32], net: u32, sink: u32) -> bool
+    ensures { result ≡ (period && (is_name name.now && has_sink sinks.now net sink)) }
+{
+    period && is_name(name) && has_sink(sinks, net, sink)
+}
+
 /// Reads a check of either kind, where there is a period or none, the nets have so many sinks, and there are
 /// `tables` tables.
 #[derive(Drop)]
@@ -108,13 +122,13 @@ fn flop(
     let Some(fall) = table_or_dash(fall) else {
         return Err(NUMBERS);
     };
-    if !(period && is_name(name) && has_sink(sinks, datum, datum_sink)) {
+    if !may_stand(period, name, sinks, datum, datum_sink) {
         return Err(HOLDS);
     }
     if !has_sink(sinks, clock, clock_sink) {
         return Err(HOLDS);
     }
-    if !(has_table(tables, rise) && has_table(tables, fall)) {
+    if !have_tables(tables, rise, fall) {
         return Err(HOLDS);
     }
     let name = Name::from_slice(alloc, name)?;
@@ -163,7 +177,7 @@ fn port(
     let Some(fall) = delay_or_dash(fall) else {
         return Err(NUMBERS);
     };
-    if !(period && is_name(name) && has_sink(sinks, net, sink)) {
+    if !may_stand(period, name, sinks, net, sink) {
         return Err(HOLDS);
     }
     let name = Name::from_slice(alloc, name)?;

@@ -1,6 +1,7 @@
 //! The lines of the nets.
 
-ghost use Rattle.std.specs.Prelude.{◌≡◌, ◌≤◌, ◌<◌, ◌^◌, List, ℕ, IfOk, OnOk, ◌++◌, ◌∷◌, [], None, map};
+ghost use Rattle.std.specs.Prelude.{◌≡◌, ◌≤◌, ◌<◌, ◌^◌, List, ℕ, IfOk, OnOk, ◌++◌, ◌∷◌, [], None, codes, map};
+ghost use Rattle.std.specs.Str.{bytes_eq};
 ghost use Rattle.linked_text.specs.EachLine.{head_in};
 ghost use Rattle.linked_text.specs.Fields.{fields_of};
 ghost use Rattle.linked_text.specs.Fits.{AreFew};
@@ -61,6 +62,13 @@ fn sums_with(sums: &Sums, head: &NetHead) -> Sums
     }
 }
 
+/// Whether it is the word of a net's line.
+fn is_net(word: &[u8]) -> bool
+    ensures { result ≡ bytes_eq word.now (codes "net") }
+{
+    matches!(word, b"net")
+}
+
 /// The line of a net behind nets of these names.
 #[tactic(auto, unfolding(crate::specs::EachLine::head_in))]
 fn head_line<'a>(alloc: Global, names: &mut Names<'a>, line: &'a [u8]) -> Result<NetHead, LineStop>
@@ -70,7 +78,7 @@ fn head_line<'a>(alloc: Global, names: &mut Names<'a>, line: &'a [u8]) -> Result
     let Some((word, name, input, load, couplings, sinks, arcs)) = seven(line) else {
         return Err(WORDS);
     };
-    if !matches!(word, b"net") {
+    if !is_net(word) {
         return Err(WORDS);
     }
     let Some(input) = kind(input) else {

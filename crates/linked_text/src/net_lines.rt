@@ -1,6 +1,7 @@
 //! The lines of the body of a net.
 
-ghost use Rattle.std.specs.Prelude.{◌≡◌, ◌≤◌, ◌∷◌, [], length, map, IfOk};
+ghost use Rattle.std.specs.Prelude.{◌≡◌, ◌≤◌, ◌∷◌, [], codes, length, map, IfOk};
+ghost use Rattle.std.specs.Str.{bytes_eq};
 ghost use Rattle.linked_text.specs.EachLine.{arc_in, bounds_in, coupling_in, given_in, has_sink, quiet_in};
 ghost use Rattle.linked_text.specs.EachLine.{sink_in, sink_fields};
 ghost use Rattle.linked_text.specs.Fields.{Finds, each, fields_of, product};
@@ -14,6 +15,22 @@ use std::alloc::Global;
 use text_lines::edge_word;
 use xt_model::limits::{MOST_CAP, MOST_PRODUCT, MOST_SLEW, MOST_TIME};
 use xt_model::{Coupling, Edge, Name, NetId, Quad, Row, SinkPin, TimingArc};
+
+// ---- the words of the lines
+
+fn is_sink(word: &[u8]) -> bool
+    ensures { result ≡ bytes_eq word.now (codes "sink") }
+{
+    matches!(word, b"sink")
+}
+
+fn is_arc(word: &[u8]) -> bool
+    ensures { result ≡ bytes_eq word.now (codes "arc") }
+{
+    matches!(word, b"arc")
+}
+
+// ---- what is given
 
 /// An edge that never switches.
 #[tactic(auto, unfolding(crate::specs::EachLine::quiet_in))]
@@ -78,6 +95,8 @@ impl LineReader for GivenReader {
     }
 }
 
+// ---- couplings, sinks and arcs
+
 /// Reads a coupling of the net of number `own` to another one of `nets` nets.
 #[derive(Drop)]
 pub struct CouplingReader {
@@ -132,7 +151,7 @@ fn sink_fields<'a>(count: usize, line: &'a [u8]) -> Option<(&'a [u8], &'a [u8], 
     let word = fields.next_field()?;
     let name = fields.next_field()?;
     let base = fields.next_field()?;
-    if !matches!(word, b"sink") || fields.len() != count {
+    if !is_sink(word) || fields.len() != count {
         return None;
     }
     Some((name, base, fields))
@@ -197,7 +216,7 @@ impl<'a> LineReader for ArcReader<'a> {
         let Some((word, from, sink, input, output, delay, slew)) = seven(line) else {
             return Err(WORDS);
         };
-        if !matches!(word, b"arc") {
+        if !is_arc(word) {
             return Err(WORDS);
         }
         let Some(input) = edge(input) else {
