@@ -1,17 +1,18 @@
 //! The nets of a design from their pins and their wires.
 
-ghost use Rattle.std.specs.Prelude.{◌≡◌, length, map, IfOk};
+ghost use Rattle.std.specs.Prelude.{◌≡◌, ◌<◌, ◌^◌, length, map, IfOk};
 ghost use Rattle.std.specs.List.{All};
+ghost use Rattle.xt_model.specs.Names.{IsName};
 ghost use Rattle.elmore_tree.specs.Sums.{IsSinkSums};
 ghost use Rattle.link_rules.specs.Bare.{filled_sinks};
 ghost use Rattle.link_rules.specs.Ends.{sink_name};
-ghost use Rattle.design_link.specs.Nets.{plain_sink, Fits, FitAll, IsMade, AreMade};
+ghost use Rattle.design_link.specs.Nets.{plain_sink, net_by, Fits, FitAll, IsMade, AreMade};
 
-use elmore_tree::SinkForm;
+use elmore_tree::{SinkForm, WireForm};
 use link_rules::{NetPins, Sink};
 use link_wires::{NetWire, form};
 use std::alloc::{AllocError, Global};
-use xt_model::{GivenPair, Net, Row, SinkPin};
+use xt_model::{Coupling, GivenPair, Net, Row, SinkPin};
 
 /// A sink with the sums of its wire.
 fn sink_pin(alloc: Global, sink: Sink, form: &SinkForm) -> Result<SinkPin, AllocError>
@@ -49,35 +50,52 @@ fn sink_pins(
     Ok(Row::from_vec(made))
 }
 
+/// A net by its pins, with its couplings and the form of its wire. More sinks than fit 32 bits are out of memory.
+fn formed_net(
+    alloc: Global,
+    pins: NetPins,
+    couplings: Row<Coupling>,
+    form: &WireForm,
+) -> Result<Net, AllocError>
+    requires { length form.now.sinks ≡ length pins.sinks }
+    ensures is { IfOk result (λ n. n ≡ net_by pins couplings form.now) }
+    ensures sums { IfOk result (λ _. All IsSinkSums form.now.sinks) }
+    ensures name { IfOk result (λ _. IsName pins.name) }
+    ensures few { IfOk result (λ _. length pins.sinks < 2 ^ 32) }
+{
+    prove!(!pins.name.bytes().is_empty());
+    if pins.sinks.len() > u32::MAX as usize {
+        return Err(AllocError);
+    }
+    let given = GivenPair::new(alloc, pins.given)?;
+    let NetPins {
+        name,
+        input,
+        given: _,
+        driver: _,
+        sinks,
+        arcs,
+    } = pins;
+    let sinks = sink_pins(alloc, sinks.into_vec(), form.sinks.as_slice())?;
+    Ok(Net {
+        name,
+        input,
+        load: form.load,
+        given,
+        couplings,
+        sinks,
+        arcs,
+    })
+}
+
 /// A net by its pins with its wire. More sinks than fit 32 bits are out of memory.
 fn net_of(alloc: Global, pins: NetPins, wire: NetWire) -> Result<Net, AllocError>
     requires { Fits pins wire }
     ensures { IfOk result (IsMade pins wire) }
 {
     let form = form(alloc, &wire)?;
-    let NetPins {
-        name,
-        input,
-        given,
-        driver: _,
-        sinks,
-        arcs,
-    } = pins;
     let NetWire { couplings, tree: _ } = wire;
-    prove!(!name.bytes().is_empty());
-    if sinks.len() > u32::MAX as usize {
-        return Err(AllocError);
-    }
-    let sinks = sink_pins(alloc, sinks.into_vec(), form.sinks.as_slice())?;
-    Ok(Net {
-        name,
-        input,
-        load: form.load,
-        given: GivenPair::new(alloc, given)?,
-        couplings,
-        sinks,
-        arcs,
-    })
+    formed_net(alloc, pins, couplings, &form)
 }
 
 /// Nets by their pins with their wires, which are used up one by one.
