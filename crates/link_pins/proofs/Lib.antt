@@ -15,3 +15,5 @@ mod RowLaws
 mod StretchLaws
 mod NetLaws
 mod MadeLaws
+mod CountLaws
+mod SumLaws

@@ -1,16 +1,10 @@
 -- What tests answer.
 use Rattle.std.specs.Prelude.{◌≡◌, Option, Some, None, Result, Ok, Err}
 use Rattle.name_numbers.specs.Names.{Text}
-use Rattle.liberty_cells.specs.declared.library.Library.{Library}
 use Rattle.liberty_cells.specs.Pins.{PinParts}
-use Rattle.verilog_net.specs.declared.netlist.Netlist.{Netlist}
-use Rattle.sdc_read.specs.declared.constraints.Constraints.{Constraints}
-use Rattle.link_rules.specs.declared.circuit.Circuit.{Circuit}
 use Rattle.link_rules.specs.declared.fault.LinkFault.{LinkFault}
 use Rattle.link_rules.specs.declared.fault.LinkFault.TheVariants as faults
 use Rattle.link_rules.specs.declared.fault.LinkRefusal.TheVariants as refusals
-use Rattle.link_rules.specs.Circuit.{circuit_of}
-use Rattle.link_rules.specs.Refusals.{driver_fault}
 
 -- a fault of a test is the one that is found, or want of memory
 abbrev pub IsFound : Option LinkFault → LinkFault → Type 0
@@ -26,9 +20,3 @@ missing_pin instance pin (Some p) = None
 abbrev pub Tests : {A : Type 0} → Option LinkFault → Result A LinkFault → Type 0
 Tests found (Ok x) = found ≡ None
 Tests found (Err fault) = IsFound found fault
-
--- the nets by their pins, where no net has two drivers; else the fault of the first that has
-abbrev pub Connects : Library → Netlist → Constraints → Result Circuit LinkFault → Type 0
-Connects library netlist constraints (Ok c) =
-    (driver_fault library netlist ≡ None) × (c ≡ circuit_of library netlist constraints)
-Connects library netlist constraints (Err fault) = IsFound (driver_fault library netlist) fault

@@ -2,3 +2,4 @@ pub mod Answers
 pub mod Seen
 pub mod Rows
 pub mod Places
+pub mod Joined

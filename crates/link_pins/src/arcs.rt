@@ -29,7 +29,7 @@ pub struct Places {
 }
 
 /// The pairs of edges of an input and of an output that a timing group has arcs for.
-fn edge_pairs(kind: TimingKind, sense: Sense) -> &'static [(Edge, Edge)]
+pub fn edge_pairs(kind: TimingKind, sense: Sense) -> &'static [(Edge, Edge)]
     ensures { result.now ≡ edge_pairs kind sense }
 {
     match (kind, sense) {
@@ -51,7 +51,7 @@ fn edge_pairs(kind: TimingKind, sense: Sense) -> &'static [(Edge, Edge)]
 }
 
 /// The delay table and the slew table of an output's edge.
-fn tables_at(timing: &Timing, edge: Edge) -> Option<(u32, u32)>
+pub fn tables_at(timing: &Timing, edge: Edge) -> Option<(u32, u32)>
     ensures { result ≡ tables_at timing.now edge }
 {
     let (delay, slew) = match edge {

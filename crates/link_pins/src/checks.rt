@@ -19,7 +19,7 @@ use std::alloc::{AllocError, Global};
 use xt_model::{CheckPoint, Name, NetId};
 
 /// Whether a timing group is a check, and then whether it is one of hold.
-fn side_of(kind: TimingKind) -> Option<bool>
+pub fn side_of(kind: TimingKind) -> Option<bool>
     ensures { result ≡ side_of kind }
 {
     match kind {

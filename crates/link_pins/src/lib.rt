@@ -5,10 +5,11 @@
 mod arcs;
 mod bits;
 mod checks;
-mod circuit;
+mod counts;
 mod drivers;
 mod given;
 mod instances;
+mod joined;
 mod limits;
 mod names;
 mod nets;
@@ -17,6 +18,7 @@ mod ports;
 mod sinks;
 mod timings;
 
-pub use circuit::connect;
+pub use counts::Counts;
 pub use instances::check_instances;
+pub use joined::{Joined, join};
 pub use limits::check_counts;

@@ -1,6 +1,6 @@
 //! Nets from what was gathered for them.
 
-ghost use Rattle.std.specs.Prelude.{◌≡◌, ◌<◌, ◌++◌, length, map, Some, IfOk, OnOk};
+ghost use Rattle.std.specs.Prelude.{◌≡◌, ◌<◌, ◌++◌, [], length, map, Some, IfOk, OnOk};
 ghost use Rattle.std.specs.List.{slice_get};
 ghost use Rattle.liberty_cells.specs.declared.library.Library.{Library};
 ghost use Rattle.link_rules.specs.Bits.{Bit, bits as bits_of};
@@ -9,7 +9,8 @@ ghost use Rattle.link_rules.specs.Circuit.{net_pins as pins_by, numbered, sinks_
 ghost use Rattle.link_rules.specs.Given.{given_of, is_input_port};
 ghost use Rattle.link_rules.specs.Pins.{pins as pins_of};
 ghost use Rattle.link_rules.specs.Sound.{IsSoundNetlist};
-ghost use Rattle.link_pins.specs.Rows.{AreDrivers, AreSinks, HaveArcs};
+ghost use Rattle.link_pins.specs.Joined.{without_arcs};
+ghost use Rattle.link_pins.specs.Rows.{AreDrivers, AreSinks};
 ghost use Rattle.link_pins.specs.Seen.{bit_at, AreBits};
 
 use crate::bits::BitAt;
@@ -18,7 +19,6 @@ use crate::drivers::Driver;
 use crate::given::given;
 use crate::names::net_name;
 use crate::sinks::NetSinks;
-use crate::timings::NetArcs;
 use link_index::{CellIndex, NetIndex};
 use link_rules::NetPins;
 use sdc_read::Constraints;
@@ -27,12 +27,11 @@ use std::mem;
 use verilog_net::PortRole;
 use xt_model::{CheckPoint, Name, Row};
 
-/// What was gathered for each net: its driver, its sinks, and the arcs into it.
+/// What was gathered for each net: its driver and its sinks.
 #[derive(Drop)]
 pub struct Gathered {
     pub drivers: Vec<Driver>,
     pub sinks: Vec<NetSinks>,
-    pub arcs: Vec<NetArcs>,
 }
 
 /// Adds the check points of the port of a net, where it is an output port, the last of so many sinks. More than fit 32
@@ -96,36 +95,35 @@ pub fn add_all_ports<'a>(
     Ok(())
 }
 
-/// A net by its pins.
+/// A net by its pins, without arcs.
 fn net_pins(
+    alloc: Global,
     name: Name,
     constraints: &Constraints,
     bit: BitAt,
     driver: Driver,
     sinks: NetSinks,
-    arcs: NetArcs,
 ) -> NetPins
     ensures name { result.name ≡ name }
     ensures input { result.input ≡ is_input_port bit.role }
     ensures given { (b : Bit) → bit ≡ bit_at b → result.given ≡ given_of constraints.now b }
     ensures driver { result.driver ≡ driver.end }
     ensures sinks { result.sinks ≡ sinks.sinks.items }
-    ensures arcs { result.arcs ≡ arcs.arcs.items }
+    ensures arcs { result.arcs ≡ [] }
 {
     let Driver { end, twice: _ } = driver;
     let NetSinks { sinks } = sinks;
-    let NetArcs { arcs } = arcs;
     NetPins {
         name,
         input: bit.role == PortRole::Input,
         given: given(constraints, bit),
         driver: end,
         sinks: Row::from_vec(sinks),
-        arcs: Row::from_vec(arcs),
+        arcs: Row::from_vec(Vec::new(alloc)),
     }
 }
 
-/// All nets by their pins.
+/// All nets by their pins, without arcs.
 pub fn all_nets<'a>(
     alloc: Global,
     cells: &CellIndex<'a>,
@@ -137,14 +135,12 @@ pub fn all_nets<'a>(
     requires bits { AreBits nets.now.nets bits.now }
     requires drivers { AreDrivers nets.now.nets (pins_of cells.now nets.now) gathered.drivers.items }
     requires sinks { AreSinks cells.now nets.now constraints.now gathered.sinks.items }
-    requires arcs { HaveArcs cells.now nets.now (pins_of cells.now nets.now) gathered.arcs.items }
     ensures { IfOk result
-        (λ v. v.items ≡ map (pins_by cells.now nets.now constraints.now) (numbered nets.now)) }
+        (λ v. v.items ≡ map (λ n. without_arcs (pins_by cells.now nets.now constraints.now n)) (numbered nets.now)) }
 {
     let Gathered {
         mut drivers,
         mut sinks,
-        mut arcs,
     } = gathered;
     let mut made = Vec::new(alloc);
     for net in 0..nets.count() {
@@ -161,13 +157,7 @@ pub fn all_nets<'a>(
                 sinks: Vec::new(alloc),
             },
         );
-        let into = mem::replace(
-            &mut arcs[at],
-            NetArcs {
-                arcs: Vec::new(alloc),
-            },
-        );
-        made.push(net_pins(name, constraints, bits[at], driver, row, into))?;
+        made.push(net_pins(alloc, name, constraints, bits[at], driver, row))?;
     }
     Ok(made)
 }

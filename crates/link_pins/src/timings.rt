@@ -30,7 +30,7 @@ pub struct Timings {
 }
 
 /// The place behind the pins from this one on that are of the same instance.
-fn same_instance(pins: &[PinOn], from: usize) -> usize
+pub fn same_instance(pins: &[PinOn], from: usize) -> usize
     requires { from < length pins.now }
     ensures { IsStretch pins.now from result }
 {
@@ -45,7 +45,7 @@ fn same_instance(pins: &[PinOn], from: usize) -> usize
 }
 
 /// The most pins that a cell has.
-fn most_pins<'a>(cells: &CellIndex<'a>) -> usize
+pub fn most_pins<'a>(cells: &CellIndex<'a>) -> usize
     ensures { All (λ c. length c.pins ≤ result) cells.now.cells }
 {
     let mut most = 0;

@@ -2,14 +2,12 @@ use Rattle.std.proofs.Common.{◌≡◌, ◌<◌, length, Some, refl, ap, ◌∙
 use Rattle.std.specs.List.{slice_get}
 use Rattle.std.proofs.lemmas.Option.{slice_get_read}
 use Rattle.link_rules.specs.Bits.{bits}
-use Rattle.link_rules.specs.Circuit.{net_pins}
 use Rattle.link_rules.specs.Given.{is_input_port}
 use Rattle.link_pins.specs.declared.bits.BitAt.{BitAt}
 use Rattle.link_pins.specs.declared.drivers.Driver.{Driver}
 use Rattle.link_pins.specs.declared.sinks.NetSinks.{NetSinks}
-use Rattle.link_pins.specs.declared.timings.NetArcs.{NetArcs}
 use Rattle.link_pins.proofs.BitLaws.{bit_read}
-use Rattle.link_pins.proofs.MadeLaws.{HasDriver, HasSinks, HasArcs, left_more, made_so, made_more, made_all}
+use Rattle.link_pins.proofs.MadeLaws.{bare_pins, HasDriver, HasSinks, left_more, made_so, made_more, made_all}
 use Rattle.link_pins.proofs.PinLaws.{element_at, some_at}
 use Rattle.link_pins.proofs.nets.all_nets.Goals as goal
 
@@ -18,7 +16,6 @@ loop-net-init c = record {
   made = c.new-made.ensures.items;
   drivers = record { all = c.requires.drivers.count; each = λ i d le at b bit. (c.requires.drivers.each i b d bit at).first };
   sinks = record { all = c.requires.sinks.count; each = λ i row le at b bit. c.requires.sinks.each i b row bit at };
-  arcs = record { all = c.requires.arcs.count; each = λ i row le at. c.requires.arcs.each i row at };
 }
 
 pub loop-net-preserved : goal.loop-net-preserved
@@ -30,28 +27,24 @@ loop-net-preserved c =
     let b = element_at (bits c.args.nets.now.nets) net lt in
     let d = c.index_mut.result.now in
     let row = c.index_mut-in-loop-net.result.now in
-    let into = c.index_mut-in-loop-net-2.result.now in
     let driver_there : slice_get c.loop-net.drivers.items net ≡ Some d =
     slice_get_read c.loop-net.drivers.items _ net d refl (omega (arith, lt, i.drivers.all)) c.index_mut.ensures.value in
     let row_there : slice_get c.loop-net.sinks.items net ≡ Some row =
     slice_get_read c.loop-net.sinks.items _ net row refl (omega (arith, lt, i.sinks.all)) c.index_mut-in-loop-net.ensures.value in
-    let into_there : slice_get c.loop-net.arcs.items net ≡ Some into =
-    slice_get_read c.loop-net.arcs.items _ net into refl (omega (arith, lt, i.arcs.all)) c.index_mut-in-loop-net-2.ensures.value in
     let bit = bit_read (bits c.args.nets.now.nets) c.args.bits.now net b.0 _ c.requires.bits b.1 in
     let said = c.net_pins.ensures in
-    let is : c.net_pins.result ≡ net_pins c.args.cells.now c.args.nets.now c.args.constraints.now (net, b.0) =
+    let is : c.net_pins.result ≡ bare_pins c.args.cells.now c.args.nets.now c.args.constraints.now (net, b.0) =
     made_so c.args.cells.now c.args.nets.now c.args.constraints.now net b.0 c.net_pins.result
     (said.name ∙ some_at _ _ b.0 b.1 c.in_ok-name.ensures)
     (said.input ∙ ap (λ (x : BitAt). is_input_port x.role) bit)
     (said.given b.0 bit)
     (said.driver ∙ (ap (λ (x : Driver). x.end) c.replace-driver.ensures.value ∙ i.drivers.each net d (omega arith) driver_there b.0 b.1))
     (said.sinks ∙ (ap (λ (x : NetSinks). x.sinks.items) c.replace-row.ensures.value ∙ i.sinks.each net row (omega arith) row_there b.0 b.1))
-    (said.arcs ∙ (ap (λ (x : NetArcs). x.arcs.items) c.replace-into.ensures.value ∙ i.arcs.each net into (omega arith) into_there)) in
+    said.arcs in
     record {
       made = made_more c.args.cells.now c.args.nets.now c.args.constraints.now net b.0 c.net_pins.result c.loop-net.made.items c.push.new.self.items b.1 is c.in_ok-push.ensures.items i.made;
       drivers = left_more Driver (HasDriver c.args.cells.now c.args.nets.now c.args.constraints.now) count net c.loop-net.drivers.items c.replace-driver.new.dest i.drivers;
       sinks = left_more NetSinks (HasSinks c.args.cells.now c.args.nets.now c.args.constraints.now) count net c.loop-net.sinks.items c.replace-row.new.dest i.sinks;
-      arcs = left_more NetArcs (HasArcs c.args.cells.now c.args.nets.now c.args.constraints.now) count net c.loop-net.arcs.items c.replace-into.new.dest i.arcs;
     }
 
 pub returns : goal.returns

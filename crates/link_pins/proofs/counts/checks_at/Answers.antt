@@ -1,0 +1,20 @@
+use Rattle.std.proofs.Common.{◌≡◌, ◌∙◌, length, sym, ap}
+use Rattle.std.specs.Prelude.{None, option_map}
+use Rattle.std.proofs.lemmas.Option.{same_Some}
+use Rattle.liberty_cells.specs.Pins.{PinParts}
+use Rattle.link_rules.specs.Arcs.{sink_at}
+use Rattle.link_pins.specs.Places.{place_of}
+use Rattle.link_pins.proofs.CheckLaws.{no_sink}
+use Rattle.link_pins.proofs.PinLaws.{parts_of}
+use Rattle.link_pins.proofs.counts.checks_at.Goals as goal
+
+pub returns-in-None : goal.returns-in-None
+returns-in-None c = λ netlist d at are.
+    let p = parts_of c.args.cells.now netlist c.args.pin d at in
+    let same = same_Some c.of-part.result.now d.pin (sym c.of-part.ensures ∙ p.pin) in
+    let name = c.bytes.ensures.value ∙ (c.name.ensures ∙ ap (λ (x : PinParts). x.name) same) in
+    let none : sink_at c.args.cells.now netlist c.args.pin.instance c.bytes.result.now ≡ None =
+    sym (are.each c.bytes.result.now) ∙ (sym c.find.ensures ∙ ap (option_map place_of) c.in-None.is) in
+    let own : sink_at c.args.cells.now netlist d.instance d.pin.name ≡ None =
+    ap (λ n. sink_at c.args.cells.now netlist n d.pin.name) p.number ∙ (ap (sink_at c.args.cells.now netlist c.args.pin.instance) (sym name) ∙ none) in
+    ap length (sym (no_sink c.args.cells.now netlist d own))

@@ -1,0 +1,61 @@
+use Rattle.std.proofs.Common.{◌≡◌, ℕ, ◌<◌, ◌≤◌, ◌∙◌, List, length, take, get_or, Some, sym, ap, subst, arith}
+use Rattle.std.specs.Prelude.{is_some}
+use Rattle.std.specs.List.{All, slice_get}
+use Rattle.std.proofs.lemmas.Option.{slice_get-get_or}
+use Rattle.liberty_cells.specs.declared.cell.Cell.{Cell}
+use Rattle.link_rules.specs.Pins.{Connected, pins}
+use Rattle.link_pins.specs.Joined.{AreCounted}
+use Rattle.link_pins.specs.Seen.{connected_at}
+use Rattle.link_pins.proofs.DriverLaws.{paired_at}
+use Rattle.link_pins.proofs.OrderLaws.{next_boundary}
+use Rattle.link_pins.proofs.PinLaws.{nothing, element_at, parts_of, taken}
+use Rattle.link_pins.proofs.PlaceLaws.{pin_inside}
+use Rattle.link_pins.proofs.StretchLaws.{entered_for}
+use Rattle.link_pins.proofs.counts.counts_of.Goals as goal
+
+pub enter-requires-clause-there : goal.enter-requires-clause-there
+enter-requires-clause-there c = λ k d lt.
+    let p = get_or c.args.pins.now k d in
+    let y = paired_at (connected_at c.args.cells.now c.args.nets.now) c.args.pins.now (pins c.args.cells.now c.args.nets.now) k p c.requires.pins (slice_get-get_or c.args.pins.now k d lt) in
+    ap is_some (parts_of c.args.cells.now c.args.nets.now p y.0 y.2).pin
+
+pub add-requires-clause-there : goal.add-requires-clause-there
+add-requires-clause-there c =
+    let p = get_or c.args.pins.now c.loop-k.k nothing in
+    let within : c.loop-k.k < length c.args.pins.now = omega (arith, c.loop-k-test.true, c.same_instance-to.ensures.most) in
+    let y = paired_at (connected_at c.args.cells.now c.args.nets.now) c.args.pins.now (pins c.args.cells.now c.args.nets.now) c.loop-k.k p c.requires.pins
+    (slice_get-get_or c.args.pins.now c.loop-k.k nothing within) in
+    ap is_some (parts_of c.args.cells.now c.args.nets.now p y.0 y.2).pin
+
+pub loop-k-preserved : goal.loop-k-preserved
+loop-k-preserved c =
+    let p = get_or c.args.pins.now c.loop-k.k nothing in
+    let cs = pins c.args.cells.now c.args.nets.now in
+    let within : c.loop-k.k < length c.args.pins.now = omega (arith, c.loop-k-test.true, c.same_instance-to.ensures.most) in
+    let at : slice_get c.args.pins.now c.loop-k.k ≡ Some p = slice_get-get_or c.args.pins.now c.loop-k.k nothing within in
+    let y = paired_at (connected_at c.args.cells.now c.args.nets.now) c.args.pins.now cs c.loop-k.k p c.requires.pins at in
+    let entered = entered_for c.args.cells.now c.args.nets.now c.args.pins.now c.requires.pins c.requires.placed c.args.sinks.now c.requires.places c.instances.from c.same_instance-to.result
+    c.same_instance-to.ensures c.instances.invariant.boundary c.enter.new.self.at.items c.enter.ensures.entries c.loop-k.k p c.loop-k.auto.k c.loop-k-test.true at in
+    subst (λ (l : List Connected). AreCounted c.args.cells.now c.args.nets.now l c.add.new.self) (sym (taken c.loop-k.k cs y.0 y.1))
+    (c.in_ok-add.ensures c.args.nets.now (take c.loop-k.k cs) y.0 y.2 entered c.loop-k.invariant)
+
+pub clear-requires-clause-room : goal.clear-requires-clause-room
+clear-requires-clause-room c = λ k d lt.
+    let p = get_or c.args.pins.now k d in
+    let y = paired_at (connected_at c.args.cells.now c.args.nets.now) c.args.pins.now (pins c.args.cells.now c.args.nets.now) k p c.requires.pins (slice_get-get_or c.args.pins.now k d lt) in
+    let there = ap is_some (parts_of c.args.cells.now c.args.nets.now p y.0 y.2).pin in
+    omega (arith, pin_inside c.args.cells.now c.instances.places.at.items p there c.instances.invariant.room, c.enter.ensures.count)
+
+pub instances-preserved : goal.instances-preserved
+instances-preserved c =
+    let first = element_at c.args.pins.now c.instances.from c.instances-test.true in
+    let ends : c.loop-k.k ≡ c.same_instance-to.result =
+    omega (arith, c.loop-k-test.false, c.loop-k.auto.k-end (omega (arith, c.same_instance-to.ensures.some))) in
+    record {
+      within = c.same_instance-to.ensures.most;
+      boundary =
+          next_boundary c.args.cells.now c.args.nets.now c.args.pins.now c.requires.pins c.instances.from c.same_instance-to.result first.0 first.1 c.same_instance-to.ensures c.instances.invariant.boundary;
+      room = subst (λ (n : ℕ). All (λ (x : Cell). length x.pins ≤ n) c.args.cells.now.cells) (sym (c.clear.ensures.count ∙ c.enter.ensures.count)) c.instances.invariant.room;
+      clear = c.clear.ensures.clear;
+      counted = subst (λ (n : ℕ). AreCounted c.args.cells.now c.args.nets.now (take n (pins c.args.cells.now c.args.nets.now)) c.loop-k.counts) ends c.loop-k.invariant;
+    }
