@@ -238,6 +238,21 @@ const MANY_ARCS: Pieces = &[
     ),
 ];
 
+/// A cell whose output has 20,000 arcs, in ten thousand bytes.
+const VERY_MANY_ARCS: Pieces = &[
+    (UNITS, 1),
+    (
+        " cell (MANY) { pin (A) { direction : input; } pin (Y) { direction : output; timing () { related_pin : \"A",
+        1,
+    ),
+    (" A", 4_999),
+    (
+        "\"; cell_rise (scalar) { values (\"1\"); } rise_transition (scalar) { values (\"1\"); } \
+         cell_fall (scalar) { values (\"1\"); } fall_transition (scalar) { values (\"1\"); } } } } }",
+        1,
+    ),
+];
+
 /// A cell whose output has 11,585 arcs, and one whose output has one.
 const MANY_READS: Pieces = &[
     (UNITS, 1),
@@ -280,7 +295,7 @@ const TABLES_WITHIN: Pieces = &[
 ];
 
 /// Libraries, netlists and parasitics, and what is said.
-const COUNTS: [(Pieces, Pieces, Pieces, &str); 8] = [
+const COUNTS: [(Pieces, Pieces, Pieces, &str); 11] = [
     // 1,024 instances of 4,096 arcs, of which one drives itself; and one arc more.
     (
         MANY_ARCS,
@@ -322,6 +337,39 @@ const COUNTS: [(Pieces, Pieces, Pieces, &str); 8] = [
         ],
         &[],
         "5 limit: checks 1048577\n",
+    ),
+    // 2,500 instances of 20,000 arcs, of which none is made.
+    (
+        VERY_MANY_ARCS,
+        &[
+            ("module m (a); input a; MANY", 1),
+            (" u#(.A(a), .Y(n#)),", 2_499),
+            (" v(.A(a), .Y(n)); endmodule", 1),
+        ],
+        &[],
+        "5 limit: arcs 50000000\n",
+    ),
+    // A wire before arcs.
+    (
+        VERY_MANY_ARCS,
+        &[
+            ("module m (a); input a; MANY", 1),
+            (" u#(.A(a), .Y(n#)),", 2_499),
+            (" v(.A(a), .Y(n)); endmodule", 1),
+        ],
+        &[("*D_NET n 0 *RES 1 n n 1 *END", 1)],
+        "4 link: K5 n\n",
+    ),
+    // 5,000 instances of 1,024 checks.
+    (
+        MANY_ARCS,
+        &[
+            ("module m (a); input a; FLOPS", 1),
+            (" u#(.A(a), .D(a)),", 4_999),
+            (" v(.A(a), .D(a)); endmodule", 1),
+        ],
+        &[],
+        "5 limit: checks 5120000\n",
     ),
     // Tables of the library, before a loop of arcs.
     (

@@ -1,57 +1,40 @@
 -- What is gathered, stage by stage.
-use Rattle.std.specs.Prelude.{◌≡◌, refl, ℕ, suc, ◌<◌, ◌^◌, List, [], ◌∷◌, length, Some, None, Ok, Err}
-use Rattle.std.specs.List.{All, AllByRecursion, enumerate_from, slice_get}
+use Rattle.std.specs.Prelude.{◌≡◌, refl, ℕ, suc, ◌<◌, ◌≤◌, ◌^◌, List, [], ◌∷◌, length, map, Option, Some, None, Err}
+use Rattle.std.specs.List.{All, AllByRecursion, enumerate_from, slice_get, sum_by}
 use Rattle.std.proofs.Common.{arith, sym, ap, ◌∙◌, subst}
-use Rattle.std.proofs.lemmas.List.Elements.{All-from_recursion}
-use Rattle.liberty_cells.specs.declared.library.Library.{Library}
+use Rattle.std.proofs.lemmas.List.Elements.{recursion_from_All, All-from_recursion}
+use Rattle.xt_model.specs.declared.net.Net.{Net}
+use Rattle.xt_model.specs.declared.fault.LimitKind.TheVariants as limits
+use Rattle.xt_model.specs.Limits.{most_tables, most_checks, most_couplings, most_coefficients, most_arcs}
+use Rattle.xt_model.specs.Parts.{Parts}
+use Rattle.xt_model.specs.Sound.{coefficients_of}
 use Rattle.verilog_net.specs.declared.netlist.Netlist.{Netlist}
 use Rattle.spef_read.specs.declared.parasitics.Parasitics.{Parasitics}
-use Rattle.sdc_read.specs.declared.constraints.Constraints.{Constraints}
 use Rattle.link_rules.specs.declared.circuit.NetPins.{NetPins}
 use Rattle.link_rules.specs.declared.circuit.Circuit.{Circuit}
 use Rattle.link_rules.specs.declared.fault.LinkFault.{LinkFault}
 use Rattle.link_rules.specs.Bare.{Inputs, bare_parts}
 use Rattle.link_rules.specs.Bare as bare
-use Rattle.link_rules.specs.Circuit.{circuit_of}
-use Rattle.link_rules.specs.Limits.{count_fault, size_fault}
-use Rattle.link_rules.specs.Link.{Links, AreWiresTaken}
+use Rattle.link_rules.specs.Limits.{or_fault, passed, count_fault, size_fault}
+use Rattle.link_rules.specs.Link.{Links, ArePinsTaken, AreWiresTaken}
 use Rattle.link_rules.specs.Refusals.{instance_fault, driver_fault, IsTaken}
 use Rattle.link_rules.specs.Sound.{IsSoundLibrary, IsSoundNetlist, AreSoundConstraints}
-use Rattle.link_pins.specs.Answers.{IsFound, Connects}
+use Rattle.link_pins.specs.declared.counts.Counts.{Counts}
+use Rattle.link_pins.specs.declared.joined.Joined.{Joined}
+use Rattle.link_pins.specs.Answers.{IsFound}
+use Rattle.link_pins.specs.Joined.{without_arcs, IsJoined, AreCounts}
 use Rattle.link_wires.specs.declared.wire.NetWire.{NetWire}
-use Rattle.link_wires.specs.Wires.{HasSinkQuantities, IsWireOf, AreWires}
+use Rattle.link_wires.specs.Wires.{HasSinkQuantities, IsWireOf, AreWires, IsFirstFault}
 use Rattle.design_link.specs.declared.gathering.Gathered.{Gathered}
 use Rattle.design_link.specs.Gathered.{IsGathered}
-use Rattle.design_link.specs.Sizes.{plain_parts}
-use Rattle.design_link.proofs.Lists.{length-numbered}
-use Rattle.design_link.proofs.LinkLaws.{sizes_refused, counts_kept, nets_count, sinks_are_quantities}
+use Rattle.design_link.specs.Sizes.{plain_nets, plain_parts, couplings_sum, arcs_sum, sizes_fault, reads_fault}
+use Rattle.design_link.proofs.BareLaws.{bare_number, numbered_bare, wires_same, first_same, coefficients_same}
+use Rattle.design_link.proofs.CoupleLaws.{both_kept, kept}
+use Rattle.design_link.proofs.Lists.{length-mapped, length-numbered}
+use Rattle.design_link.proofs.LinkLaws.{wires_refused, sizes_refused, counts_kept, nets_count, sinks_are_quantities}
+use Rattle.design_link.proofs.ReadLaws.{couplings_same, arcs_same}
 use Rattle.design_link.proofs.SizeLaws.{sizes_are}
-
--- the nets by their pins, from the indexes that were made
-pub circuit_is : (library cells : Library) (netlist index : Netlist) (constraints : Constraints) (c : Circuit) → cells ≡ library → index ≡ netlist
-    → c ≡ circuit_of cells index constraints → c ≡ circuit_of library netlist constraints
-circuit_is library cells netlist index constraints c a b e =
-    e ∙ (ap (λ l. circuit_of l index constraints) a ∙ ap (λ n. circuit_of library n constraints) b)
-
-pub few_nets : (library : Library) (netlist : Netlist) (constraints : Constraints) (c : Circuit) (slice : List NetPins) → slice ≡ c.nets
-    → c ≡ circuit_of library netlist constraints → count_fault netlist ≡ None → IsSoundLibrary library → IsSoundNetlist netlist → AreSoundConstraints constraints
-    → length slice < 2 ^ 32
-few_nets library netlist constraints c slice a e counts lib net set =
-    let few = (counts_kept netlist counts).nets in
-    let size = nets_count library netlist constraints lib net set in
-    let same : length slice ≡ length (circuit_of library netlist constraints).nets = ap length (a ∙ ap (λ (d : Circuit). d.nets) e) in
-    omega (arith, few, size, same)
-
-pub sink_quantities : (library : Library) (netlist : Netlist) (constraints : Constraints) (c : Circuit) (slice : List NetPins) → slice ≡ c.nets
-    → c ≡ circuit_of library netlist constraints → IsSoundLibrary library → IsSoundNetlist netlist → AreSoundConstraints constraints
-    → All HasSinkQuantities slice
-sink_quantities library netlist constraints c slice a e lib net set =
-    subst (All HasSinkQuantities) (sym (a ∙ ap (λ (d : Circuit). d.nets) e)) (sinks_are_quantities library netlist constraints lib net set)
-
-pub wires_count : (netlist : Netlist) (parasitics : Parasitics) (c : Circuit) (slice : List NetPins) (ws seen : List NetWire) → slice ≡ c.nets
-    → AreWires netlist parasitics (enumerate_from 0 slice) ws → seen ≡ ws → length seen ≡ length c.nets
-wires_count netlist parasitics c slice ws seen a are same =
-    ap length same ∙ (are.count ∙ (length-numbered 0 slice ∙ ap length a))
+use Rattle.design_link.proofs.StageLaws.{found_first, found_behind, reads_last, sizes_same}
 
 module _ (netlist : Netlist) (parasitics : Parasitics) where
   taken_by : (ns : List bare.Numbered) (ws : List NetWire) → length ws ≡ length ns
@@ -61,40 +44,118 @@ module _ (netlist : Netlist) (parasitics : Parasitics) where
   taken_by (n ∷ ns) [] a all = absurd (omega (arith, a))
   taken_by (n ∷ ns) (w ∷ ws) a all = ((all 0 n w refl refl).taken, taken_by ns ws (omega (arith, a)) (λ i. all (suc i)))
 
-module _ (x : Inputs) (cells : Library) (index : Netlist) (c : Circuit) (slice : List NetPins) (ws seen : List NetWire) (is_cells : cells ≡ x.library) (is_index : index ≡ x.netlist)
-    (counts : count_fault x.netlist ≡ None) (instances : instance_fault cells x.netlist ≡ None) (connects : Connects cells index x.constraints (Ok c))
-    (is_slice : slice ≡ c.nets) (are : AreWires index x.parasitics (enumerate_from 0 slice) ws) (is_seen : seen ≡ ws) where
-  whole : c ≡ bare.circuit x
-  whole = circuit_is x.library cells x.netlist index x.constraints c is_cells is_index connects.1
+-- nothing is refused up to the pins of nets
+pub pins_taken : (x : Inputs) → count_fault x.netlist ≡ None → instance_fault x.library x.netlist ≡ None → driver_fault x.library x.netlist ≡ None → ArePinsTaken x
+pins_taken x counts instances drivers = record { counts = counts; instances = instances; drivers = drivers }
 
-  wires_are : AreWires x.netlist x.parasitics (bare.numbered x) ws
-  wires_are =
-      let slice_is : slice ≡ (bare.circuit x).nets = is_slice ∙ ap (λ (d : Circuit). d.nets) whole in
-      subst (λ ns. AreWires x.netlist x.parasitics (enumerate_from 0 ns) ws) slice_is
-      (subst (λ n. AreWires n x.parasitics (enumerate_from 0 slice) ws) is_index are)
+bare_quantities : (ps : List NetPins) → AllByRecursion HasSinkQuantities ps → AllByRecursion HasSinkQuantities (map without_arcs ps)
+bare_quantities [] all = tt
+bare_quantities (p ∷ ps) all = (all.0, bare_quantities ps all.1)
 
-  pub taken : AreWiresTaken x
-  taken = record {
-    pins = record {
-      counts = counts;
-      instances = subst (λ l. instance_fault l x.netlist ≡ None) is_cells instances;
-      drivers = subst (λ l. driver_fault l x.netlist ≡ None) is_cells (subst (λ n. driver_fault cells n ≡ None) is_index connects.0);
-    };
-    wires = All-from_recursion (IsTaken x.netlist x.parasitics) (bare.numbered x) (taken_by x.netlist x.parasitics (bare.numbered x) ws wires_are.count wires_are.each);
-  }
+module _ (x : Inputs) (j : Joined) (slice : List NetPins) (is_slice : slice ≡ j.nets.items) (joined : IsJoined x.library x.netlist x.constraints j) where
+  slice_is : slice ≡ map without_arcs (bare.circuit x).nets
+  slice_is = is_slice ∙ joined.nets
 
-  sizes_same : size_fault (plain_parts x.library c seen) ≡ size_fault (bare_parts x)
-  sizes_same =
-      ap (λ v. size_fault (plain_parts x.library c v)) is_seen
-      ∙ (ap (λ d. size_fault (plain_parts x.library d ws)) whole ∙ sizes_are x ws wires_are)
+  slice_count : length slice ≡ length (bare.circuit x).nets
+  slice_count = ap length slice_is ∙ length-mapped without_arcs (bare.circuit x).nets
 
-  pub refused : (fault : LinkFault) → IsFound (size_fault (plain_parts x.library c seen)) fault → Links x (Err fault)
-  refused fault h = sizes_refused x taken fault (subst (λ o. IsFound o fault) sizes_same h)
+  pub few_nets : count_fault x.netlist ≡ None → IsSoundLibrary x.library → IsSoundNetlist x.netlist → AreSoundConstraints x.constraints → length slice < 2 ^ 32
+  few_nets counts lib net set =
+      let few = (counts_kept x.netlist counts).nets in
+      let size = nets_count x.library x.netlist x.constraints lib net set in
+      omega (arith, few, size, slice_count)
 
-  pub gathered : size_fault (plain_parts x.library c seen) ≡ None → (g : Gathered) → g.circuit ≡ c → g.wires.items ≡ ws → IsGathered x g
-  gathered none g a b = record {
-    taken = taken;
-    sizes = sym sizes_same ∙ none;
-    circuit = a ∙ whole;
-    wires = subst (AreWires x.netlist x.parasitics (bare.numbered x)) (sym b) wires_are;
-  }
+  pub sink_quantities : IsSoundLibrary x.library → IsSoundNetlist x.netlist → AreSoundConstraints x.constraints → All HasSinkQuantities slice
+  sink_quantities lib net set =
+      subst (All HasSinkQuantities) (sym slice_is)
+      (All-from_recursion HasSinkQuantities (map without_arcs (bare.circuit x).nets)
+      (bare_quantities (bare.circuit x).nets (recursion_from_All HasSinkQuantities (bare.circuit x).nets (sinks_are_quantities x.library x.netlist x.constraints lib net set))))
+
+  numbers : enumerate_from 0 slice ≡ map bare_number (bare.numbered x)
+  numbers = ap (enumerate_from 0) slice_is ∙ numbered_bare 0 (bare.circuit x).nets
+
+  module _ (pins : ArePinsTaken x) where
+    -- the fault of a wire
+    pub wires_stop : (fault : LinkFault) → IsFirstFault x.netlist x.parasitics (enumerate_from 0 slice) fault → Links x (Err fault)
+    wires_stop fault h =
+        wires_refused x pins fault (first_same x.netlist x.parasitics fault (bare.numbered x) (subst (λ ns. IsFirstFault x.netlist x.parasitics ns fault) numbers h))
+
+    module _ (ws seen : List NetWire) (wired : AreWires x.netlist x.parasitics (enumerate_from 0 slice) ws) (is_seen : seen ≡ ws) where
+      pub wires_count : length seen ≡ length slice
+      wires_count = ap length is_seen ∙ (wired.count ∙ length-numbered 0 slice)
+
+      are : AreWires x.netlist x.parasitics (bare.numbered x) ws
+      are =
+          wires_same x.netlist x.parasitics (bare.numbered x) ws (subst (λ ns. AreWires x.netlist x.parasitics ns ws) numbers wired)
+
+      taken : AreWiresTaken x
+      taken = record {
+        pins = pins;
+        wires = All-from_recursion (IsTaken x.netlist x.parasitics) (bare.numbered x) (taken_by x.netlist x.parasitics (bare.numbered x) ws are.count are.each);
+      }
+
+      count : length ws ≡ length (bare.circuit x).nets
+      count = are.count ∙ length-numbered 0 (bare.circuit x).nets
+
+      abbrev parts : Parts
+      parts = plain_parts x.library (bare.circuit x) ws
+
+      module _ (n : Counts) (counted : AreCounts (bare.circuit x) n) where
+        -- the limits that are tested before arcs and check points are made
+        abbrev pub early : Option LinkFault
+        early = sizes_fault (couplings_sum seen) (sum_by coefficients_of (plain_nets slice seen)) n.arcs (length x.library.tables) n.checks
+
+        whole : size_fault (bare_parts x) ≡ or_fault early (reads_fault parts)
+        whole =
+            let couplings : couplings_sum seen ≡ sum_by (λ (m : Net). length m.couplings) (plain_nets (bare.circuit x).nets ws) = ap couplings_sum is_seen ∙ couplings_same (bare.circuit x).nets ws count in
+            let coefficients : sum_by coefficients_of (plain_nets slice seen) ≡ sum_by coefficients_of (plain_nets (bare.circuit x).nets ws) =
+            ap (λ ps. sum_by coefficients_of (plain_nets ps seen)) slice_is
+            ∙ (ap (λ vs. sum_by coefficients_of (plain_nets (map without_arcs (bare.circuit x).nets) vs)) is_seen ∙ coefficients_same (bare.circuit x).nets ws) in
+            let arcs : n.arcs ≡ sum_by (λ (m : Net). length m.arcs) (plain_nets (bare.circuit x).nets ws) = counted.arcs ∙ arcs_same (bare.circuit x).nets ws count in
+            let same : early ≡ sizes_fault (sum_by (λ (m : Net). length m.couplings) parts.nets) (sum_by coefficients_of parts.nets) (sum_by (λ (m : Net). length m.arcs) parts.nets)
+            (length parts.tables) (length parts.checks) =
+            sizes_same (couplings_sum seen) (sum_by coefficients_of (plain_nets slice seen)) n.arcs (length x.library.tables) n.checks
+            (sum_by (λ (m : Net). length m.couplings) parts.nets) (sum_by coefficients_of parts.nets) (sum_by (λ (m : Net). length m.arcs) parts.nets) (length parts.checks)
+            couplings coefficients arcs counted.checks in
+            sym (sizes_are x ws are) ∙ (reads_last parts ∙ ap (λ o. or_fault o (reads_fault parts)) (sym same))
+
+        pub sizes_stop : (fault : LinkFault) → IsFound early fault → Links x (Err fault)
+        sizes_stop fault h = sizes_refused x taken fault (subst (λ o. IsFound o fault) (sym whole) (found_first early (reads_fault parts) fault h))
+
+        module _ (none : early ≡ None) where
+          pub few_arcs : arcs_sum (bare.circuit x).nets ≤ most_arcs
+          few_arcs =
+              let checks : Option LinkFault = passed limits.Checks None n.checks most_checks in
+              let tables : Option LinkFault = passed limits.Tables None (length x.library.tables) most_tables in
+              let arcs : Option LinkFault = passed limits.Arcs None n.arcs most_arcs in
+              let coefficients : Option LinkFault = passed limits.Coefficients None (sum_by coefficients_of (plain_nets slice seen)) most_coefficients in
+              let one = both_kept (passed limits.Couplings None (couplings_sum seen) most_couplings) (or_fault coefficients (or_fault arcs (or_fault tables checks))) none in
+              let two = both_kept coefficients (or_fault arcs (or_fault tables checks)) one.1 in
+              let three = both_kept arcs (or_fault tables checks) two.1 in
+              omega (arith, kept limits.Arcs None n.arcs most_arcs three.0, counted.arcs)
+
+          module _ (c : Circuit) (circuit : c ≡ bare.circuit x) (nets : List NetPins) (is_nets : nets ≡ c.nets) where
+            nets_are : nets ≡ (bare.circuit x).nets
+            nets_are = is_nets ∙ ap (λ (d : Circuit). d.nets) circuit
+
+            pub circuit_few : arcs_sum nets ≤ most_arcs
+            circuit_few = subst (λ ps. arcs_sum ps ≤ most_arcs) (sym nets_are) few_arcs
+
+            module _ (late : List NetWire) (is_late : late ≡ ws) where
+              pub circuit_count : length late ≡ length nets
+              circuit_count = ap length is_late ∙ (count ∙ sym (ap length nets_are))
+
+              read_of : parts.nets ≡ plain_nets nets late
+              read_of = ap (λ ps. plain_nets ps ws) (sym nets_are) ∙ ap (plain_nets nets) (sym is_late)
+
+              pub reads_stop : (fault : LinkFault) → ((d : Parts) → d.nets ≡ plain_nets nets late → IsFound (reads_fault d) fault) → Links x (Err fault)
+              reads_stop fault h =
+                  sizes_refused x taken fault (subst (λ o. IsFound o fault) (sym whole) (found_behind early (reads_fault parts) fault none (h parts read_of)))
+
+              pub gathered : ((d : Parts) → d.nets ≡ plain_nets nets late → reads_fault d ≡ None) → (g : Gathered) → g.circuit ≡ c → g.wires.items ≡ ws → IsGathered x g
+              gathered reads g a b = record {
+                taken = taken;
+                sizes = whole ∙ (ap (λ o. or_fault o (reads_fault parts)) none ∙ reads parts read_of);
+                circuit = a ∙ circuit;
+                wires = subst (AreWires x.netlist x.parasitics (bare.numbered x)) (sym b) are;
+              }

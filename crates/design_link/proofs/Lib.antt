@@ -8,6 +8,7 @@ mod SoundDesigns
 mod MadeLaws
 mod LinkLaws
 mod SizeLaws
+mod BareLaws
 mod GatherLaws
 mod CoefficientLaws
 mod ReadLaws

@@ -6,10 +6,10 @@ ghost use Rattle.link_rules.specs.Link.{Links};
 ghost use Rattle.link_rules.specs.Sound.{IsSoundLibrary, IsSoundNetlist, AreSoundParasitics, AreSoundConstraints};
 ghost use Rattle.design_link.specs.Gathered.{IsGathered};
 
-use crate::sizes::check_sizes;
+use crate::sizes::{check_reads, check_sizes};
 use liberty_cells::Library;
 use link_index::{CellIndex, NetIndex};
-use link_pins::{check_counts, check_instances, connect};
+use link_pins::{check_counts, check_instances, join};
 use link_rules::{Circuit, LinkFault};
 use link_wires::{NetWire, wires};
 use sdc_read::Constraints;
@@ -25,7 +25,7 @@ pub struct Gathered {
 }
 
 /// The pins and the wires that four values come to, or the first fault up to the sizes of the design, where the counts
-/// of the netlist are kept.
+/// of the netlist are kept. No arc and no check point of an instance is made before there are known to be few enough.
 fn gather_by<'a>(
     alloc: Global,
     cells: &CellIndex<'a>,
@@ -52,10 +52,13 @@ fn gather_by<'a>(
     }) (Err f)) }
 {
     check_instances(alloc, cells, index.netlist())?;
-    let circuit = connect(alloc, cells, index, constraints)?;
-    let nets = circuit.nets.as_slice();
-    let wires = wires(alloc, index, nets, parasitics)?;
-    check_sizes(cells.library(), &circuit, &wires)?;
+    let joined = join(alloc, cells, index, constraints)?;
+    let nets = joined.nets();
+    let wires = wires(alloc, &*index, nets, &*parasitics)?;
+    let counts = joined.count(alloc, cells, index)?;
+    check_sizes(cells.library(), nets, &wires, counts)?;
+    let circuit = joined.finish(alloc, cells, index)?;
+    check_reads(circuit.nets.as_slice(), &wires)?;
     Ok(Gathered { circuit, wires })
 }
 

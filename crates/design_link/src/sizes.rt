@@ -6,11 +6,12 @@ ghost use Rattle.xt_model.specs.Limits.{most_couplings, most_arcs};
 ghost use Rattle.xt_model.specs.Parts.{Parts};
 ghost use Rattle.xt_model.specs.Sound.{coefficients_of, couplings_at, reads_by, reads_of};
 ghost use Rattle.link_pins.specs.Answers.{Tests};
-ghost use Rattle.link_rules.specs.Limits.{passed, size_fault};
-ghost use Rattle.design_link.specs.Sizes.{plain_nets, plain_parts, couplings_in, couplings_sum, arcs_sum};
+ghost use Rattle.link_rules.specs.Limits.{passed};
+ghost use Rattle.design_link.specs.Sizes.{plain_nets, couplings_in, couplings_sum, arcs_sum, sizes_fault, reads_fault};
 
 use liberty_cells::Library;
-use link_rules::{Circuit, LinkFault, NetPins};
+use link_pins::Counts;
+use link_rules::{LinkFault, NetPins};
 use link_wires::NetWire;
 use xt_model::limits::{
     MOST_ARCS, MOST_CHECKS, MOST_COEFFICIENTS, MOST_COUPLINGS, MOST_READS, MOST_TABLES,
@@ -38,17 +39,6 @@ fn couplings_in_all(wires: &[NetWire]) -> u128
     let mut total: u128 = 0;
     for wire in wires {
         total += wire.couplings.len() as u128;
-    }
-    total
-}
-
-/// How many arcs nets have in all.
-fn arcs_in_all(nets: &[NetPins]) -> u128
-    ensures { result ≡ arcs_sum nets.now }
-{
-    let mut total: u128 = 0;
-    for pins in nets {
-        total += pins.arcs.len() as u128;
     }
     total
 }
@@ -105,12 +95,18 @@ fn reads_in_all(nets: &[NetPins], wires: &[NetWire]) -> u128
     total
 }
 
-/// Tests the sizes of a design in the order of their limits.
-pub fn check_sizes(library: &Library, circuit: &Circuit, wires: &[NetWire]) -> Result<(), LinkFault>
-    requires { length wires.now ≡ length circuit.now.nets }
-    ensures { Tests (size_fault (plain_parts library.now circuit.now wires.now)) result }
+/// Tests the sizes of a design up to its check points in the order of their limits, by the numbers of its arcs and of
+/// its check points.
+pub fn check_sizes(
+    library: &Library,
+    nets: &[NetPins],
+    wires: &[NetWire],
+    counts: Counts,
+) -> Result<(), LinkFault>
+    requires { length wires.now ≡ length nets.now }
+    ensures { Tests (sizes_fault (couplings_sum wires.now) (sum_by coefficients_of (plain_nets nets.now wires.now))
+        counts.arcs (length library.now.tables) counts.checks) result }
 {
-    let nets = circuit.nets.as_slice();
     within(
         LimitKind::Couplings,
         couplings_in_all(wires),
@@ -118,8 +114,16 @@ pub fn check_sizes(library: &Library, circuit: &Circuit, wires: &[NetWire]) -> R
     )?;
     let coefficients = coefficients_in_all(nets, wires);
     within(LimitKind::Coefficients, coefficients, MOST_COEFFICIENTS)?;
-    within(LimitKind::Arcs, arcs_in_all(nets), MOST_ARCS)?;
+    within(LimitKind::Arcs, counts.arcs, MOST_ARCS)?;
     within(LimitKind::Tables, library.tables.len() as u128, MOST_TABLES)?;
-    within(LimitKind::Checks, circuit.checks.len() as u128, MOST_CHECKS)?;
+    within(LimitKind::Checks, counts.checks, MOST_CHECKS)
+}
+
+/// Tests how many nets and couplings one evaluation of every net looks at.
+pub fn check_reads(nets: &[NetPins], wires: &[NetWire]) -> Result<(), LinkFault>
+    requires count { length wires.now ≡ length nets.now }
+    requires few { arcs_sum nets.now ≤ most_arcs }
+    ensures { (d : Parts) → d.nets ≡ plain_nets nets.now wires.now → Tests (reads_fault d) result }
+{
     within(LimitKind::Reads, reads_in_all(nets, wires), MOST_READS)
 }
