@@ -9,7 +9,6 @@ use Rattle.linked_text.specs.Gives.{Fails}
 use Rattle.linked_text.specs.declared.head.NetHead.{NetHead}
 use Rattle.linked_text.specs.declared.head.Sums.{Sums}
 use Rattle.linked_text.specs.Meaning.{Read, with_front, many_at, head_at, heads_at, sums_with, net_at, nets_at, nets_behind}
-use Rattle.xt_model.specs.Results.{◌>>=◌}
 use Rattle.xt_model.specs.Options as options
 
 regroup : {A : Type 0} (front more : List A) (read : Read (List A)) → with_front front (with_front more read) ≡ with_front (front ++ more) read

@@ -9,7 +9,7 @@ ghost use Rattle.linked_text.specs.Meaning.{coupled_net, couplings_at, net_at, n
 use crate::fault::{Fault, Stop};
 use crate::head::NetHead;
 use crate::net_lines::{ArcReader, CouplingReader, GivenReader, SinkReader};
-use crate::read_line::{read_line, read_lines};
+use crate::read_line::{read_line, read_many};
 use std::alloc::Global;
 use std::collections::VecDeque;
 use xt_model::limits::MOST_CAP;
@@ -63,7 +63,7 @@ fn couplings<'a>(
     ensures { Gives (λ x. (x.0.items, x.1.now)) result (couplings_at nets own head.now bytes.entry.now) }
 {
     let reader = CouplingReader { nets, own };
-    let (couplings, rest) = read_lines(alloc, &reader, head.couplings, bytes)?;
+    let (couplings, rest) = read_many(alloc, &reader, head.couplings, bytes)?;
     let value = greatest_load(head, couplings.as_slice());
     if value <= MOST_CAP as u128 {
         return Ok((couplings, rest));
@@ -93,9 +93,9 @@ fn net<'a>(
     let sink_reader = SinkReader {
         couplings: head.couplings,
     };
-    let (pins, rest) = read_lines(alloc, &sink_reader, head.sinks, rest)?;
+    let (pins, rest) = read_many(alloc, &sink_reader, head.sinks, rest)?;
     let arc_reader = ArcReader { sinks, tables };
-    let (arcs, rest) = read_lines(alloc, &arc_reader, head.arcs, rest)?;
+    let (arcs, rest) = read_many(alloc, &arc_reader, head.arcs, rest)?;
     let net = Net {
         name: head.name,
         input: head.input,

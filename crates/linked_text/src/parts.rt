@@ -12,8 +12,8 @@ use crate::fault::Stop;
 use crate::head::Counts;
 use crate::head_lines::{CountsReader, LastReader, MillerReader, PeriodReader, VersionReader};
 use crate::heads::{heads, keeps, sink_counts};
-use crate::read_line::{read_line, read_lines};
-use crate::tables::tables;
+use crate::read_line::{read_line, read_many};
+use crate::tables::TableReader;
 use sound_parts::reads_in_all;
 use std::alloc::Global;
 use std::mem::drop;
@@ -60,7 +60,7 @@ pub fn parts(alloc: Global, bytes: Vec<u8>) -> Result<(DesignParts, Vec<u8>), St
     let (counts, rest) = counts(alloc, rest)?;
     let (period, rest) = read_line(alloc, &PeriodReader, rest)?;
     let (miller, rest) = miller(alloc, version, rest)?;
-    let (tables, rest) = tables(alloc, counts.tables, rest)?;
+    let (tables, rest) = read_many(alloc, &TableReader, counts.tables, rest)?;
     let (heads, rest) = heads(alloc, counts.nets, rest)?;
     let sinks = sink_counts(alloc, heads.as_slice())?;
     let bodies = Vec::from_slice(alloc, rest)?;
@@ -71,7 +71,7 @@ pub fn parts(alloc: Global, bytes: Vec<u8>) -> Result<(DesignParts, Vec<u8>), St
         sinks: sinks.as_slice(),
         tables: counts.tables,
     };
-    let (checks, rest) = read_lines(alloc, &reader, counts.checks, rest.as_slice())?;
+    let (checks, rest) = read_many(alloc, &reader, counts.checks, rest.as_slice())?;
     let last = Vec::from_slice(alloc, rest)?;
     let parts = DesignParts {
         period,

@@ -8,7 +8,7 @@ ghost use Rattle.linked_text.specs.declared.fault.Stop.TheVariants.{At};
 ghost use Rattle.linked_text.specs.EachLine.{numbered};
 ghost use Rattle.linked_text.specs.Fields.{Finds, each, fields_of};
 ghost use Rattle.linked_text.specs.Gives.{Gives, LineGives};
-ghost use Rattle.linked_text.specs.Meaning.{line_at, many_at, newlines};
+ghost use Rattle.linked_text.specs.Meaning.{Read, line_at, many_at, newlines};
 
 use crate::fault::{Fault, LineStop, NUMBERS, Stop};
 use crate::line::{Fields, cut};
@@ -93,25 +93,50 @@ pub fn read_line<'a, R: LineReader>(
     }
 }
 
+/// Reads a value at the front of bytes.
+pub trait FrontReader {
+    type Value: Drop;
+
+    ghost at: { Self → List ℕ → Read Self.Value };
+
+    /// The value, and the bytes behind it.
+    fn read_front<'a>(
+        &self,
+        alloc: Global,
+        bytes: &'a [u8],
+    ) -> Result<(Self::Value, &'a [u8]), Stop>
+        ensures { Gives (λ x. (x.0, x.1.now)) result (at self.now bytes.entry.now) };
+}
+
+impl<R: LineReader> FrontReader for R {
+    type Value = R::Value;
+
+    ghost at = { λ r. line_at (R.of r) };
+
+    fn read_front<'a>(&self, alloc: Global, bytes: &'a [u8]) -> Result<(R::Value, &'a [u8]), Stop> {
+        read_line(alloc, self, bytes)
+    }
+}
+
 /// Room is made for at most so many values before the first of them is read: a count may be any number, and no more
 /// memory is to be taken than lines that are there ask for.
 const MOST_ROOM: usize = 64;
 
-/// The values of `count` lines.
-pub fn read_lines<'a, R: LineReader>(
+/// `count` values, one after another.
+pub fn read_many<'a, R: FrontReader>(
     alloc: Global,
     reader: &R,
     count: u32,
     bytes: &'a [u8],
 ) -> Result<(Vec<R::Value>, &'a [u8]), Stop>
-    ensures { Gives (λ x. (x.0.items, x.1.now)) result (many_at (line_at (R.of reader.now)) count bytes.now) }
+    ensures { Gives (λ x. (x.0.items, x.1.now)) result (many_at (R.at reader.now) count bytes.now) }
 {
     let mut values = Vec::with_capacity(alloc, MOST_ROOM.min(count as usize))?;
     let mut rest = bytes;
     let mut left = count;
     while left > 0 {
         left -= 1;
-        let (value, after) = read_line(alloc, reader, rest)?;
+        let (value, after) = reader.read_front(alloc, rest)?;
         values.push(value)?;
         rest = after;
     }

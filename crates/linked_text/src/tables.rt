@@ -2,10 +2,10 @@
 
 ghost use Rattle.std.specs.Prelude.{◌≡◌};
 ghost use Rattle.linked_text.specs.Gives.{Gives};
-ghost use Rattle.linked_text.specs.Meaning.{many_at, rows_at, table_at};
+ghost use Rattle.linked_text.specs.Meaning.{rows_at, table_at};
 
 use crate::fault::Stop;
-use crate::read_line::read_line;
+use crate::read_line::{FrontReader, read_line};
 use crate::table_lines::{LoadsReader, RowReader, SizesReader, SlewsReader};
 use std::alloc::Global;
 use xt_model::{Row, Table};
@@ -26,35 +26,25 @@ fn rows(alloc: Global, count: u32, columns: u32, bytes: &[u8]) -> Result<(Vec<i6
     Ok((values, rest))
 }
 
-/// The table at the front of `bytes`.
-#[tactic(auto, unfolding(crate::specs::Meaning::table_at))]
-fn table(alloc: Global, bytes: &[u8]) -> Result<(Table, &[u8]), Stop>
-    ensures { Gives (λ x. (x.0, x.1.now)) result (table_at bytes.now) }
-{
-    let ((row_count, column_count), rest) = read_line(alloc, &SizesReader, bytes)?;
-    let slews_reader = SlewsReader { rows: row_count };
-    let (slews, rest) = read_line(alloc, &slews_reader, rest)?;
-    let loads_reader = LoadsReader {
-        columns: column_count,
-    };
-    let (loads, rest) = read_line(alloc, &loads_reader, rest)?;
-    let (values, rest) = rows(alloc, row_count, column_count, rest)?;
-    let table = Table::new(slews, loads, Row::from_vec(values));
-    Ok((table, rest))
-}
+/// Reads a table.
+pub struct TableReader;
 
-/// `count` tables.
-pub fn tables(alloc: Global, count: u32, bytes: &[u8]) -> Result<(Vec<Table>, &[u8]), Stop>
-    ensures { Gives (λ x. (x.0.items, x.1.now)) result (many_at table_at count bytes.now) }
-{
-    let mut values = Vec::new(alloc);
-    let mut rest = bytes;
-    let mut left = count;
-    while left > 0 {
-        left -= 1;
-        let (value, after) = table(alloc, rest)?;
-        values.push(value)?;
-        rest = after;
+impl FrontReader for TableReader {
+    type Value = Table;
+
+    ghost at = { λ _. table_at };
+
+    #[tactic(auto, unfolding(crate::specs::Meaning::table_at))]
+    fn read_front<'a>(&self, alloc: Global, bytes: &'a [u8]) -> Result<(Table, &'a [u8]), Stop> {
+        let ((row_count, column_count), rest) = read_line(alloc, &SizesReader, bytes)?;
+        let slews_reader = SlewsReader { rows: row_count };
+        let (slews, rest) = read_line(alloc, &slews_reader, rest)?;
+        let loads_reader = LoadsReader {
+            columns: column_count,
+        };
+        let (loads, rest) = read_line(alloc, &loads_reader, rest)?;
+        let (values, rest) = rows(alloc, row_count, column_count, rest)?;
+        let table = Table::new(slews, loads, Row::from_vec(values));
+        Ok((table, rest))
     }
-    Ok((values, rest))
 }

@@ -1,5 +1,5 @@
 use Rattle.linked_text.proofs.TableLaws.{made_table}
-use Rattle.linked_text.proofs.tables.table.Goals as goal
+use Rattle.linked_text.proofs.tables.TableReaderFrontReader.read_front.Goals as goal
 
 pub new-table-requires : goal.new-table-requires
 new-table-requires c =
