@@ -1,1 +1,2 @@
 mod NamesLaws
+mod FirstLaws

@@ -1,10 +1,10 @@
-use crate::pin::Pin;
-use xt_model::{Name, Row};
+use crate::cell_pins::CellPins;
+use xt_model::Name;
 
 /// A cell: its pins in the order of the text, and whether it has a latch.
 #[derive(Drop)]
 pub struct Cell {
     pub name: Name,
-    pub pins: Row<Pin>,
+    pub pins: CellPins,
     pub latch: bool,
 }

@@ -2,6 +2,7 @@
 #![tactic(auto)]
 
 mod cell;
+mod cell_pins;
 mod cells;
 mod kinds;
 mod library;
@@ -14,6 +15,7 @@ mod timings;
 mod values;
 
 pub use cell::Cell;
+pub use cell_pins::CellPins;
 pub use library::Library;
 pub use pin::{Pin, Role};
 pub use reading::read_library;

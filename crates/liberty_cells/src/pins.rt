@@ -6,7 +6,9 @@ ghost use Rattle.text_forms.specs.Stops.{Gives};
 ghost use Rattle.liberty_tables.specs.Units.{AreScales};
 ghost use Rattle.liberty_cells.specs.Pins.{pin_named, add_pins};
 ghost use Rattle.liberty_cells.specs.Cells.{pins_of};
+ghost use Rattle.liberty_cells.specs.Firsts.{AreFirsts};
 
+use crate::cell_pins::CellPins;
 use crate::names::names_of_group;
 use crate::pin::{Pin, Role};
 use crate::timing::Timing;
@@ -38,7 +40,8 @@ fn add_named(
     Ok(())
 }
 
-/// A pin group: its names come first, then its capacitance, then its timing groups; each name is a pin.
+/// A pin group: its names come first, then its capacitance, then its timing groups; each name is a pin. Of each pin the
+/// place of the first of its group is kept.
 #[tactic(auto, unfolding(crate::specs::Pins::add_pins))]
 fn add_pins(
     alloc: Global,
@@ -48,10 +51,13 @@ fn add_pins(
     group: &Group,
     tables: &mut Vec<Table>,
     pins: &mut Vec<Pin>,
+    firsts: &mut Vec<usize>,
 ) -> Result<(), TextFault>
-    requires { AreScales scales }
-    ensures { Gives (λ u. (tables.new.items, pins.new.items)) result
+    requires scales { AreScales scales }
+    requires firsts { AreFirsts pins.old.items firsts.old.items }
+    ensures exact { Gives (λ u. (tables.new.items, pins.new.items)) result
         (add_pins bytes.now scales templates.now (tree_of group.now) (tables.old.items, pins.old.items)) }
+    ensures firsts { OnOk result (AreFirsts pins.new.items firsts.new.items) }
 {
     let names = names_of_group(alloc, bytes, group.line(), group.args())?;
     let cap = cap_of(
@@ -63,7 +69,9 @@ fn add_pins(
     let role = role_of(alloc, bytes, attribute(bytes, b"direction", group))?;
     let timings = timings_of(alloc, bytes, scales, templates, role, group, tables)?;
     let timings = Rc::new(alloc, timings)?;
+    let first = pins.len();
     add_named(pins, names, role, cap, &timings)?;
+    firsts.resize(pins.len(), first)?;
     Ok(())
 }
 
@@ -76,16 +84,26 @@ pub fn pins_of(
     templates: &NameTable<Template>,
     group: &Group,
     tables: &mut Vec<Table>,
-) -> Result<Row<Pin>, TextFault>
+) -> Result<CellPins, TextFault>
     requires { AreScales scales }
     ensures { Gives (λ pins. (tables.new.items, pins)) result
         (pins_of bytes.now scales templates.now (tree_of group.now) tables.old.items) }
 {
     let mut pins = Vec::new(alloc);
+    let mut firsts = Vec::new(alloc);
     let mut rest = group.inner();
     'pins: while let Some((inner, more)) = first_named(bytes, b"pin", rest) {
-        add_pins(alloc, bytes, scales, templates, inner, tables, &mut pins)?;
+        add_pins(
+            alloc,
+            bytes,
+            scales,
+            templates,
+            inner,
+            tables,
+            &mut pins,
+            &mut firsts,
+        )?;
         rest = more;
     }
-    Ok(Row::from_vec(pins))
+    Ok(CellPins::new(pins, firsts))
 }

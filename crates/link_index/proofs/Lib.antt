@@ -5,3 +5,4 @@ mod SplitLaws
 mod NameLaws
 mod SpelledLaws
 mod IndexLaws
+mod OddLaws

@@ -1,6 +1,7 @@
 //! Cells that are not taken.
 
-ghost use Rattle.std.specs.Prelude.{◌≡◌};
+ghost use Rattle.std.specs.Prelude.{◌≡◌, ◌+◌, ◌<◌, false, length, take};
+ghost use Rattle.std.specs.List.{list_any};
 ghost use Rattle.link_rules.specs.Pins.{pin_named};
 ghost use Rattle.link_rules.specs.Refusals.{is_no_input, is_read, is_odd_timing, is_odd_pin, is_odd_cell};
 ghost use Rattle.link_index.specs.Cells.{HavePlaces};
@@ -74,7 +75,22 @@ fn is_odd_pin<'a>(cell: &'a Cell, places: &Named<'a, usize>, pin: &'a Pin) -> bo
     false
 }
 
-/// Whether a cell is not taken.
+/// Whether one of the pins up to a place is not taken, where all before it are. Of pins that differ in their names
+/// alone the first is tested for all.
+fn is_odd_at<'a>(cell: &'a Cell, places: &Named<'a, usize>, place: usize) -> bool
+    requires places { HavePlaces cell.now.pins places.now }
+    requires place { place < length cell.now.pins }
+    ensures { list_any (is_odd_pin cell.entry.now) (take place cell.entry.now.pins) ≡ false
+        → result ≡ list_any (is_odd_pin cell.entry.now) (take (place + 1) cell.entry.now.pins) }
+{
+    if cell.pins.first(place) != place {
+        return false;
+    }
+    is_odd_pin(cell, places, &cell.pins.as_slice()[place])
+}
+
+/// Whether a cell is not taken. Takes time in proportion to its pins and the related pins of its timing groups, each
+/// group of the text once.
 #[tactic(auto, unfolding(link_rules::specs::Refusals::is_odd_cell))]
 pub fn is_odd_cell<'a>(cell: &'a Cell, places: &Named<'a, usize>) -> bool
     requires { HavePlaces cell.now.pins places.now }
@@ -83,12 +99,10 @@ pub fn is_odd_cell<'a>(cell: &'a Cell, places: &Named<'a, usize>) -> bool
     if cell.latch {
         return true;
     }
-    let mut rest = cell.pins.as_slice();
-    'pins: while let [pin, more @ ..] = rest {
-        if is_odd_pin(cell, places, pin) {
+    for place in 0..cell.pins.len() {
+        if is_odd_at(cell, places, place) {
             return true;
         }
-        rest = more;
     }
     false
 }
