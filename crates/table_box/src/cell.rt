@@ -123,6 +123,7 @@ pub(crate) struct Cell<'a> {
 
 impl<'a> Cell<'a> {
     /// The cell of a slew and a load, where 64 bits have room for its sums.
+    #[inline(always)]
     pub fn of(table: &'a Table, slew: &'a Place, load: &'a Place) -> Option<Cell<'a>>
         requires table { IsTable table.now }
         requires slew { IsSpan (length table.now.slews) (span_in slew.now) }
@@ -163,6 +164,7 @@ impl<'a> Cell<'a> {
     }
 
     /// The value at a slew and a load in the cell: the floor of the exact bilinear fraction.
+    #[inline(always)]
     pub fn value(&self, slew: &Place, load: &Place) -> i64
         requires small { IsSmallCell self.now }
         requires slew { AreAlike (span_in self.now.slew.now) (span_in slew.now) }
@@ -264,7 +266,8 @@ impl<'a> Cell<'a> {
             let greatest = last.value(&slews.end, &loads.end);
             return (least, greatest);
         }
-        self.swept_range(last, slews, loads)
+        let (first, last) = (*self, *last);
+        first.swept_range(&last, slews, loads)
     }
 }
 
