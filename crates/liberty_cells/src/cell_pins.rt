@@ -1,9 +1,9 @@
 use crate::pin::Pin;
 use std::marker::Model;
 
-/// The pins of a cell in the order of the text; contracts see the list of them. The pins of one group of the text differ
-/// in their names alone, and of each the place of the first of them is kept: what they have in common need be looked at
-/// only there.
+/// The pins of a cell in the order of the text; contracts see the list of them. The pins of one group of the text
+/// differ in their names alone, and of each the place of the first of them is kept: what they have in common need be
+/// looked at only there.
 #[derive(Drop)]
 pub struct CellPins {
     pins: Vec<Pin>,

@@ -35,8 +35,8 @@ impl<'a> CellIndex<'a> {
     ghost use Rattle.link_rules.specs.Refusals.{is_odd_cell};
     ghost use Rattle.link_index.specs.Cells.{at_place, cell_place, pin_place};
 
-    /// The index of a library. Takes time in proportion to its pins and the related pins of its timing groups, where the
-    /// pins of one group of the text share these, and memory in proportion to its pins.
+    /// The index of a library. Takes time in proportion to its pins and the related pins of its timing groups, where
+    /// the pins of one group of the text share these, and memory in proportion to its pins.
     pub fn new(alloc: Global, library: &'a Library) -> Result<CellIndex<'a>, AllocError>
         ensures { IfOk result (λ i. i ≡ library.entry.now) }
     {
