@@ -30,8 +30,8 @@ use Rattle.net_eval.specs.Pins.{IsInputPin, IsPin, IsPinEdge, edge_of_pin, wire_
 use Rattle.net_eval.specs.declared.pin.Pin.{Pin}
 use Rattle.net_eval.specs.declared.pin.PinEdge.{PinEdge}
 use Rattle.net_eval.specs.Scenes.{Scene, operator_in, pair_in, scene_of, IsReady}
-use Rattle.net_eval.specs.Tables.{AreNumbered, AreTablesOf}
-use Rattle.net_eval.specs.declared.tables.ArcTables.{ArcTables}
+use Rattle.net_eval.specs.Tables.{AreTables, AreTablesOf}
+use Rattle.net_eval.specs.declared.tables.EdgeTables.{EdgeTables}
 
 arcs_is : (s : Scene) (n : ℕ) (net : Net) (e : Edge) (arcs : List TimingArc) → 0 < length arcs
     → arcs_quad s.design s.answers s.windows n net e arcs ≡ fold (with_arc_at s e (load_in s n e net)) bottom arcs
@@ -142,21 +142,19 @@ joined_is : (s : Scene) (e : Edge) (load : Range) (q : Quad) (a : TimingArc) (in
     → wire ≡ wire_range s.design.miller s.answers a.from.0 a.input a.sink (slice_get s.design.nets a.from.0) → joined s.design e load q a input wire ≡ with_arc_at s e load q a
 joined_is s e load q a input wire is_input is_wire = rw (is_input, is_wire) refl
 
--- the join over one arc more, whose tables are at this range of loads
-pub arc_turn : (s : Scene) (e : Edge) (load at_tables : Range) (xs : List TimingArc) (i : ℕ) (a : TimingArc) (q r : Quad) (p : PinEdge) → i < length xs → at_tables ≡ load
-    → IsPinEdge s (get_or xs i a).from.0 (get_or xs i a).sink (get_or xs i a).input p → r ≡ joined s.design e at_tables q (get_or xs i a) p.window (wire_to p)
+-- the join over one arc more
+pub arc_turn : (s : Scene) (e : Edge) (load : Range) (xs : List TimingArc) (i : ℕ) (a : TimingArc) (q r : Quad) (p : PinEdge) → i < length xs
+    → IsPinEdge s (get_or xs i a).from.0 (get_or xs i a).sink (get_or xs i a).input p → r ≡ joined s.design e load q (get_or xs i a) p.window (wire_to p)
     → q ≡ fold (with_arc_at s e load) bottom (take i xs) → r ≡ fold (with_arc_at s e load) bottom (take (i + 1) xs)
-arc_turn s e load at_tables xs i a q r p i_in same pin joins before =
+arc_turn s e load xs i a q r p i_in pin joins before =
     let arc = get_or xs i a in
     let step = joined_is s e load q arc p.window (wire_to p) pin.window pin.wire in
     let more = fold_more (with_arc_at s e load) bottom xs i a i_in in
-    joins ∙ (ap (λ l. joined s.design e l q arc p.window (wire_to p)) same ∙ (step ∙ (ap (λ p. with_arc_at s e load p arc) before ∙ sym more)))
+    joins ∙ (step ∙ (ap (λ p. with_arc_at s e load p arc) before ∙ sym more))
 
--- the tables that an arc names, by its numbers
-pub named_tables : (d : Parts) (a : TimingArc) (rise fall : Range) (t : ArcTables) → AreTablesOf d a rise fall t → AreNumbered d a.delay a.slew t.rise × AreNumbered d a.delay a.slew t.fall
-named_tables d a rise fall t h =
-    let delay = h.delay in let slew = h.slew in
-    (rw (delay, slew) at h.tables.rise, rw (delay, slew) at h.tables.fall)
+-- tables of an edge are those of an arc with their numbers
+pub tables_named : (d : Parts) (a : TimingArc) (r : Range) (t : EdgeTables) → AreTables d r t → t.delay ≡ a.delay → t.slew ≡ a.slew → AreTablesOf d a r t
+tables_named d a r t h delay slew = record { tables = h; named = rw (delay, slew) at h.numbered }
 
 -- a pair of what the operator makes of both edges
 pub pair_is : (s : Scene) (n : ℕ) (p : Pair) → p.rise ≡ operator_in s n Rise → p.fall ≡ operator_in s n Fall → p ≡ pair_in s n

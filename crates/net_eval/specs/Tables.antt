@@ -1,11 +1,11 @@
--- Tables of arcs, at the loads of the net that they drive.
+-- Tables of arcs, at the load of the net that they drive.
 use Rattle.std.specs.Prelude.{◌≡◌, ℕ, Some}
 use Rattle.std.specs.List.{slice_get}
 use Rattle.xt_model.specs.declared.net.TimingArc.{TimingArc}
 use Rattle.xt_model.specs.Parts.{Parts}
 use Rattle.xt_meaning.specs.Operator.{Range}
 use Rattle.table_box.specs.TablePairs.{TablesAtLoads}
-use Rattle.net_eval.specs.declared.tables.ArcTables.{ArcTables}
+use Rattle.net_eval.specs.declared.tables.EdgeTables.{EdgeTables}
 
 -- the loads of two tables
 abbrev pub loads_at : TablesAtLoads → Range
@@ -16,15 +16,12 @@ pub record AreNumbered (d : Parts) (i j : ℕ) (p : TablesAtLoads) : Type 0 wher
   pub delay : slice_get d.tables i ≡ Some p.first
   pub slew : slice_get d.tables j ≡ Some p.second
 
--- the tables of their numbers, at these loads of each edge
-pub record AreTables (d : Parts) (r f : Range) (t : ArcTables) : Type 0 where
-  pub rise : AreNumbered d t.delay t.slew t.rise
-  pub fall : AreNumbered d t.delay t.slew t.fall
-  pub rise_load : loads_at t.rise ≡ r
-  pub fall_load : loads_at t.fall ≡ f
+-- the tables of their numbers, at loads of this range
+pub record AreTables (d : Parts) (r : Range) (t : EdgeTables) : Type 0 where
+  pub numbered : AreNumbered d t.delay t.slew t.pair
+  pub load : loads_at t.pair ≡ r
 
 -- those that an arc names
-pub record AreTablesOf (d : Parts) (a : TimingArc) (r f : Range) (t : ArcTables) : Type 0 where
-  pub tables : AreTables d r f t
-  pub delay : t.delay ≡ a.delay
-  pub slew : t.slew ≡ a.slew
+pub record AreTablesOf (d : Parts) (a : TimingArc) (r : Range) (t : EdgeTables) : Type 0 where
+  pub tables : AreTables d r t
+  pub named : AreNumbered d a.delay a.slew t.pair

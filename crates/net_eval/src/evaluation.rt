@@ -1,8 +1,8 @@
 //! An evaluation of a net: what the windows of all nets make of that net's windows (after Zhou 2003).
 
-use crate::arc::with_arc;
+use crate::arc::{place_to, with_arc};
 use crate::pin::Pin;
-use crate::tables::ArcTables;
+use crate::tables::EdgeTables;
 use miller_bits::{Overlaps, Victim, load_ranges};
 use std::marker::Model;
 use xt_model::{Bounds, Design, Edge, Net, NetId, Pair, Quad};
@@ -63,7 +63,8 @@ impl<'a, V: Bounds> Evaluation<'a, V> {
             Edge::Fall,
         );
         let (rise_load, fall_load) = load_ranges(&own_rise, &own_fall);
-        let first = self.net.arcs.as_slice()[0];
+        let arcs = self.net.arcs.as_slice();
+        let first = arcs[0];
         let mut pin = Pin::of(
             self.design,
             self.overlaps,
@@ -71,15 +72,33 @@ impl<'a, V: Bounds> Evaluation<'a, V> {
             first.from,
             first.sink,
         );
-        let mut tables = ArcTables::of_arc(&first, self.design, rise_load, fall_load);
+        let to_rise = place_to(arcs, Edge::Rise);
+        let to_fall = place_to(arcs, Edge::Fall);
+        let mut rise_tables = EdgeTables::of_arc(&arcs[to_rise], self.design, rise_load);
+        let mut fall_tables = EdgeTables::of_arc(&arcs[to_fall], self.design, fall_load);
         let mut rise = Quad::bottom();
         let mut fall = Quad::bottom();
         for arc in self.net.arcs.as_slice() {
             pin.move_to(arc, self.design, self.overlaps, self.view);
-            tables.turn_to(arc, self.design, rise_load, fall_load);
             let input = pin.at(arc.input);
-            rise = with_arc(self.design, arc, Edge::Rise, &input, &tables.rise, rise);
-            fall = with_arc(self.design, arc, Edge::Fall, &input, &tables.fall, fall);
+            rise = with_arc(
+                self.design,
+                arc,
+                Edge::Rise,
+                &input,
+                rise_load,
+                &mut rise_tables,
+                rise,
+            );
+            fall = with_arc(
+                self.design,
+                arc,
+                Edge::Fall,
+                &input,
+                fall_load,
+                &mut fall_tables,
+                fall,
+            );
         }
         Pair { rise, fall }
     }

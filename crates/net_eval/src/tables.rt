@@ -8,39 +8,33 @@ ghost use Rattle.net_eval.specs.Tables.{AreTables, AreTablesOf};
 use table_box::TablePair;
 use xt_model::{Design, TimingArc};
 
-/// The numbers of a delay and a slew table, and both tables at the loads of a net at each of its edges.
+/// The numbers of a delay and a slew table, and both tables at the load of a net at one of its edges.
 #[derive(Drop)]
-pub(crate) struct ArcTables<'a> {
+pub(crate) struct EdgeTables<'a> {
     delay: u32,
     slew: u32,
-    pub rise: TablePair<'a>,
-    pub fall: TablePair<'a>,
+    pub pair: TablePair<'a>,
 }
 
-impl<'a> ArcTables<'a> {
-    /// The tables of an arc to a net whose load has these ranges.
+impl<'a> EdgeTables<'a> {
+    /// The tables of an arc, at this range of loads.
     #[inline(always)]
-    pub fn of_arc(
-        arc: &TimingArc,
-        design: &'a Design,
-        rise_load: (i64, i64),
-        fall_load: (i64, i64),
-    ) -> ArcTables<'a>
+    pub fn of_arc(arc: &TimingArc, design: &'a Design, load: (i64, i64)) -> EdgeTables<'a>
         requires sound { IsSoundArc design.now arc.now }
-        requires rise_load { rise_load.0 ≤ℤ rise_load.1 }
-        requires fall_load { fall_load.0 ≤ℤ fall_load.1 }
-        ensures { let rise : Range = record { least = rise_load.0; most = rise_load.1 } in
-            let fall : Range = record { least = fall_load.0; most = fall_load.1 } in
-            AreTablesOf design.now arc.now rise fall result }
+        requires load { load.0 ≤ℤ load.1 }
+        ensures { let behind : Range = record { least = load.0; most = load.1 } in
+            AreTablesOf design.now arc.now behind result }
     {
         let tables = design.tables();
-        let delays = &tables[arc.delay as usize];
-        let slews = &tables[arc.slew as usize];
-        ArcTables {
+        EdgeTables {
             delay: arc.delay,
             slew: arc.slew,
-            rise: TablePair::new(delays, slews, rise_load.0, rise_load.1),
-            fall: TablePair::new(delays, slews, fall_load.0, fall_load.1),
+            pair: TablePair::new(
+                &tables[arc.delay as usize],
+                &tables[arc.slew as usize],
+                load.0,
+                load.1,
+            ),
         }
     }
 
@@ -51,29 +45,20 @@ impl<'a> ArcTables<'a> {
         self.delay == arc.delay && self.slew == arc.slew
     }
 
-    /// Makes them the tables of another arc to the same net. Where several arcs in a row name the same ones, the loads
-    /// are looked up once.
+    /// Makes them the tables of another arc to the same edge. Where several arcs to it, one after the other, name the
+    /// same ones, the load is looked up once.
     #[inline(always)]
-    pub fn turn_to(
-        &mut self,
-        arc: &TimingArc,
-        design: &'a Design,
-        rise_load: (i64, i64),
-        fall_load: (i64, i64),
-    )
-        requires tables { let rise : Range = record { least = rise_load.0; most = rise_load.1 } in
-            let fall : Range = record { least = fall_load.0; most = fall_load.1 } in
-            AreTables design.now rise fall self.old }
+    pub fn turn_to(&mut self, arc: &TimingArc, design: &'a Design, load: (i64, i64))
+        requires tables { let behind : Range = record { least = load.0; most = load.1 } in
+            AreTables design.now behind self.old }
         requires sound { IsSoundArc design.now arc.now }
-        requires rise_load { rise_load.0 ≤ℤ rise_load.1 }
-        requires fall_load { fall_load.0 ≤ℤ fall_load.1 }
-        ensures { let rise : Range = record { least = rise_load.0; most = rise_load.1 } in
-            let fall : Range = record { least = fall_load.0; most = fall_load.1 } in
-            AreTablesOf design.now arc.now rise fall self.new }
+        requires load { load.0 ≤ℤ load.1 }
+        ensures { let behind : Range = record { least = load.0; most = load.1 } in
+            AreTablesOf design.now arc.now behind self.new }
     {
         if self.are_named_by(arc) {
             return;
         }
-        *self = ArcTables::of_arc(arc, design, rise_load, fall_load);
+        *self = EdgeTables::of_arc(arc, design, load);
     }
 }

@@ -8,7 +8,7 @@ use Rattle.miller_bits.proofs.Sums.{found}
 use Rattle.net_eval.specs.Arcs.{load_in}
 use Rattle.net_eval.specs.Scenes.{scene_of}
 use Rattle.net_eval.proofs.Contributions.{join_is, loads_of_victim}
-use Rattle.net_eval.proofs.Nets.{source_is, source_in_range, own_words, edge_at, ready_at, input_fits, arc_turn, named_tables, operator_is, pair_is}
+use Rattle.net_eval.proofs.Nets.{source_is, source_in_range, own_words, edge_at, ready_at, input_fits, arc_turn, operator_is, pair_is}
 use Rattle.net_eval.proofs.evaluation.Evaluation.pair.Goals as goal
 
 pub returns-then-len-eq0-clause-value : goal.returns-then-len-eq0-clause-value
@@ -42,43 +42,42 @@ with_arc-rise-requires-clause-fits g c =
     input_fits _ s _ c.at-input.result (ready_at _ s _ _ c.loop-arc.arc-index _ c.self.invariant.arcs c.as_slice-arc-items.ensures c.loop-arc-test.true)
     (edge_at s _ _ _ _ c.move_to.ensures c.at-input.ensures)
 
-pub with_arc-rise-requires-clause-tables : goal.with_arc-rise-requires-clause-tables
-with_arc-rise-requires-clause-tables g c = (named_tables _ _ _ _ _ c.turn_to.ensures).0
-
 pub with_arc-fall-requires-clause-fits : goal.with_arc-fall-requires-clause-fits
 with_arc-fall-requires-clause-fits g c =
     let e = c.self.inside in let s = scene_of e.overlaps e.design.now (g.V.Bounds.bound_of e.view.now) in
     input_fits _ s _ c.at-input.result (ready_at _ s _ _ c.loop-arc.arc-index _ c.self.invariant.arcs c.as_slice-arc-items.ensures c.loop-arc-test.true)
     (edge_at s _ _ _ _ c.move_to.ensures c.at-input.ensures)
 
-pub with_arc-fall-requires-clause-tables : goal.with_arc-fall-requires-clause-tables
-with_arc-fall-requires-clause-tables g c = (named_tables _ _ _ _ _ c.turn_to.ensures).1
-
-pub of_arc-tables-requires-clause-rise_load : goal.of_arc-tables-requires-clause-rise_load
-of_arc-tables-requires-clause-rise_load g c =
+pub of_arc-rise_tables-requires-clause-load : goal.of_arc-rise_tables-requires-clause-load
+of_arc-rise_tables-requires-clause-load g c =
     let e = c.self.inside in let f = g.V.Bounds.bound_of e.view.now in
     let v : c.new-own_rise.result ≡ victim_of e.overlaps e.design.now f e.number.0 Rise e.net.now = found _ _ e.net.now c.self.invariant.there c.new-own_rise.ensures in
     loads_of_victim e.design.now e.number.0 e.net.now e.overlaps f Rise _ _ _ c.self.invariant.miller c.self.invariant.sound v c.load_ranges.ensures.a_least c.load_ranges.ensures.a_greatest
 
-pub of_arc-tables-requires-clause-fall_load : goal.of_arc-tables-requires-clause-fall_load
-of_arc-tables-requires-clause-fall_load g c =
+pub of_arc-rise_tables-requires-clause-sound : goal.of_arc-rise_tables-requires-clause-sound
+of_arc-rise_tables-requires-clause-sound g c =
+    let e = c.self.inside in let s = scene_of e.overlaps e.design.now (g.V.Bounds.bound_of e.view.now) in
+    (ready_at _ s _ _ c.place_to-to_rise.result _ c.self.invariant.arcs c.as_slice-arcs.ensures c.place_to-to_rise.ensures).sound
+
+pub with_arc-rise-requires-clause-load : goal.with_arc-rise-requires-clause-load
+with_arc-rise-requires-clause-load g c =
+    let e = c.self.inside in let f = g.V.Bounds.bound_of e.view.now in
+    let v : c.new-own_rise.result ≡ victim_of e.overlaps e.design.now f e.number.0 Rise e.net.now = found _ _ e.net.now c.self.invariant.there c.new-own_rise.ensures in
+    loads_of_victim e.design.now e.number.0 e.net.now e.overlaps f Rise _ _ _ c.self.invariant.miller c.self.invariant.sound v c.load_ranges.ensures.a_least c.load_ranges.ensures.a_greatest
+
+pub of_arc-fall_tables-requires-clause-load : goal.of_arc-fall_tables-requires-clause-load
+of_arc-fall_tables-requires-clause-load g c =
     let e = c.self.inside in let f = g.V.Bounds.bound_of e.view.now in
     let v : c.new-own_fall.result ≡ victim_of e.overlaps e.design.now f e.number.0 Fall e.net.now = found _ _ e.net.now c.self.invariant.there c.new-own_fall.ensures in
     loads_of_victim e.design.now e.number.0 e.net.now e.overlaps f Fall _ _ _ c.self.invariant.miller c.self.invariant.sound v c.load_ranges.ensures.b_least c.load_ranges.ensures.b_greatest
 
-pub turn_to-requires-clause-sound : goal.turn_to-requires-clause-sound
-turn_to-requires-clause-sound g c =
+pub of_arc-fall_tables-requires-clause-sound : goal.of_arc-fall_tables-requires-clause-sound
+of_arc-fall_tables-requires-clause-sound g c =
     let e = c.self.inside in let s = scene_of e.overlaps e.design.now (g.V.Bounds.bound_of e.view.now) in
-    (ready_at _ s _ _ c.loop-arc.arc-index _ c.self.invariant.arcs c.as_slice-arc-items.ensures c.loop-arc-test.true).sound
+    (ready_at _ s _ _ c.place_to-to_fall.result _ c.self.invariant.arcs c.as_slice-arcs.ensures c.place_to-to_fall.ensures).sound
 
-pub turn_to-requires-clause-rise_load : goal.turn_to-requires-clause-rise_load
-turn_to-requires-clause-rise_load g c =
-    let e = c.self.inside in let f = g.V.Bounds.bound_of e.view.now in
-    let v : c.new-own_rise.result ≡ victim_of e.overlaps e.design.now f e.number.0 Rise e.net.now = found _ _ e.net.now c.self.invariant.there c.new-own_rise.ensures in
-    loads_of_victim e.design.now e.number.0 e.net.now e.overlaps f Rise _ _ _ c.self.invariant.miller c.self.invariant.sound v c.load_ranges.ensures.a_least c.load_ranges.ensures.a_greatest
-
-pub turn_to-requires-clause-fall_load : goal.turn_to-requires-clause-fall_load
-turn_to-requires-clause-fall_load g c =
+pub with_arc-fall-requires-clause-load : goal.with_arc-fall-requires-clause-load
+with_arc-fall-requires-clause-load g c =
     let e = c.self.inside in let f = g.V.Bounds.bound_of e.view.now in
     let v : c.new-own_fall.result ≡ victim_of e.overlaps e.design.now f e.number.0 Fall e.net.now = found _ _ e.net.now c.self.invariant.there c.new-own_fall.ensures in
     loads_of_victim e.design.now e.number.0 e.net.now e.overlaps f Fall _ _ _ c.self.invariant.miller c.self.invariant.sound v c.load_ranges.ensures.b_least c.load_ranges.ensures.b_greatest
@@ -88,9 +87,10 @@ loop-arc-preserved g c =
     let e = c.self.inside in let s = scene_of e.overlaps e.design.now (g.V.Bounds.bound_of e.view.now) in
     record {
       pin = c.move_to.ensures.pin;
-      tables = c.turn_to.ensures.tables;
-      rise = arc_turn s Rise _ _ _ c.loop-arc.arc-index _ c.loop-arc.rise _ c.at-input.result c.loop-arc-test.true c.turn_to.ensures.tables.rise_load (edge_at s _ _ _ _ c.move_to.ensures c.at-input.ensures) c.with_arc-rise.ensures.value c.loop-arc.invariant.rise;
-      fall = arc_turn s Fall _ _ _ c.loop-arc.arc-index _ c.loop-arc.fall _ c.at-input.result c.loop-arc-test.true c.turn_to.ensures.tables.fall_load (edge_at s _ _ _ _ c.move_to.ensures c.at-input.ensures) c.with_arc-fall.ensures.value c.loop-arc.invariant.fall;
+      rise_tables = c.with_arc-rise.ensures.tables;
+      fall_tables = c.with_arc-fall.ensures.tables;
+      rise = arc_turn s Rise _ _ c.loop-arc.arc-index _ c.loop-arc.rise _ c.at-input.result c.loop-arc-test.true (edge_at s _ _ _ _ c.move_to.ensures c.at-input.ensures) c.with_arc-rise.ensures.value c.loop-arc.invariant.rise;
+      fall = arc_turn s Fall _ _ c.loop-arc.arc-index _ c.loop-arc.fall _ c.at-input.result c.loop-arc-test.true (edge_at s _ _ _ _ c.move_to.ensures c.at-input.ensures) c.with_arc-fall.ensures.value c.loop-arc.invariant.fall;
       rise_range = c.with_arc-rise.ensures.range;
       fall_range = c.with_arc-fall.ensures.range;
     }
