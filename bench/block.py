@@ -280,14 +280,14 @@ def main():
     parser.add_argument("--layers", type=int, default=12)
     parser.add_argument("--style", default="mapped",
                         choices=["mapped", "plain", "angle", "triplet", "once", "lumped", "mixed"])
-    asked = parser.parse_args()
-    rng = random.Random(asked.seed)
-    block = Block(rng, asked.cells, asked.layers)
-    texts = {"lib": [library()], "v": block.verilog(), "spef": Extractor(rng, block, asked.style).text(),
+    args = parser.parse_args()
+    rng = random.Random(args.seed)
+    block = Block(rng, args.cells, args.layers)
+    texts = {"lib": [library()], "v": block.verilog(), "spef": Extractor(rng, block, args.style).text(),
              "sdc": [constraints(block)]}
-    asked.folder.mkdir(parents=True, exist_ok=True)
+    args.folder.mkdir(parents=True, exist_ok=True)
     for kind, text in texts.items():
-        with open(asked.folder / f"block.{kind}", "w", encoding="ascii", newline="\n") as file:
+        with open(args.folder / f"block.{kind}", "w", encoding="ascii", newline="\n") as file:
             file.writelines(text)
 
 

@@ -640,9 +640,9 @@ def run_program(program, words):
     return done.returncode, done.stdout, done.stderr
 
 
-def as_bytes(told):
+def as_bytes(wanted):
     """An answer of the judge as the program would give it."""
-    status, out, err = told
+    status, out, err = wanted
     return status, os.fsencode(out), os.fsencode(err)
 
 
@@ -706,13 +706,13 @@ def main(words):
     folder = tempfile.mkdtemp(prefix="xtalk-compare-")
     counts, statuses, kept = Counter(), Counter(), []
 
-    def hold(what, words, told, file=None):
+    def hold(what, words, wanted, file=None):
         got = run_program(program, words)
-        statuses[told[0]] += 1
-        if got != as_bytes(told):
+        statuses[wanted[0]] += 1
+        if got != as_bytes(wanted):
             kept.append(file or what)
             print(f"DIFFERENT: {what}: {file or words}")
-            sides = ("judge", as_bytes(told)), ("program", got)
+            sides = ("judge", as_bytes(wanted)), ("program", got)
             outs = [out.split(b"\n") for _, (_, out, _) in sides]
             same = next((k for k, (a, b) in enumerate(zip(*outs)) if a != b), min(map(len, outs)))
             for (who, (status, _, err)), lines in zip(sides, outs):

@@ -36,15 +36,15 @@ def joined_part(nodes, root, resistors):
     return part
 
 
-def ways(node, goal, resistors, seen, taken):
+def ways(node, goal, resistors, seen, chosen):
     """Every way from node to goal that repeats no node, as a set of the places of its resistors."""
     if node == goal:
-        yield frozenset(taken)
+        yield frozenset(chosen)
         return
     for place, (a, b, _) in enumerate(resistors):
         for here, there in ((a, b), (b, a)):
             if here == node and there not in seen:
-                yield from ways(there, goal, resistors, seen | {there}, taken + [place])
+                yield from ways(there, goal, resistors, seen | {there}, chosen + [place])
 
 
 def answer(case):

@@ -129,8 +129,8 @@ class Place:
 
     def call(self, *words, **more):
         run = self.begin(*words, **more)
-        said, told = run.communicate(timeout=120)
-        return run.returncode, said, told
+        shown, log = run.communicate(timeout=120)
+        return run.returncode, shown, log
 
     def done(self):
         """How often the program was built so far, and the crates that were proved, one after the other."""
@@ -138,18 +138,18 @@ class Place:
 
     def work_of(self, call):
         """How often the program was built for a call that goes well, and how many crates were proved for it."""
-        (builds, proved), (status, said, told) = self.done(), call()
-        assert status == 7, (status, said, told)
+        (builds, proved), (status, shown, log) = self.done(), call()
+        assert status == 7, (status, shown, log)
         after = self.done()
         return after[0] - builds, len(after[1]) - len(proved)
 
 
 def first_use(at):
-    status, said, told = at.call("a", "b c")
-    assert status == 7 and said == f"{at.kit}|a|b c|", (status, said, told)
+    status, shown, log = at.call("a", "b c")
+    assert status == 7 and shown == f"{at.kit}|a|b c|", (status, shown, log)
     count = len(set(at.done()[1]))
     assert at.done() == (1, list(dict.fromkeys(at.done()[1])))
-    assert told.startswith(f"xtalk: proving {count} crates, ") and f"xtalk: {count} of {count} after" in told, told
+    assert log.startswith(f"xtalk: proving {count} crates, ") and f"xtalk: {count} of {count} after" in log, log
     assert at.work_of(lambda: at.call("a")) == (0, 0)
     assert at.call("a")[2] == ""
     assert sorted(path.name for path in (at.top / "crates/xtalk_cli/out").glob("launcher*")) in (
@@ -211,7 +211,7 @@ def two_at_once(at):
         runs = [at.begin("a", STAND_IN_SECONDS="1", PATH=search) for _ in range(3)]
         ends = [run.communicate(timeout=120) for run in runs]
         assert [run.returncode for run in runs] == [7, 7, 7], ends
-        made, waited = at.done()[0] - builds, sum("waits for it" in told for _, told in ends)
+        made, waited = at.done()[0] - builds, sum("waits for it" in log for _, log in ends)
         assert (made, waited) == ((1, 2) if shutil.which("flock", path=search) else (3, 0)), (made, ends)
         assert at.done()[1] == proved + ["xt_model"]
         assert at.work_of(lambda: at.call("a")) == (0, 0)
@@ -225,8 +225,8 @@ def stopped(at):
         run = at.begin("a", STAND_IN_SECONDS="0.4")
         time.sleep(3)
         os.killpg(run.pid, number) if number == signal.SIGINT else run.send_signal(number)
-        told = run.communicate(timeout=20)[1]
-        assert run.returncode == 130 and told.endswith("xtalk: stopped; the next run goes on from here\n"), (word, told)
+        log = run.communicate(timeout=20)[1]
+        assert run.returncode == 130 and log.endswith("xtalk: stopped; the next run goes on from here\n"), (word, log)
         time.sleep(0.5)
         left = subprocess.run(["ps", "-s", str(run.pid), "-o", "stat=,args="], capture_output=True, text=True).stdout
         assert all(line.startswith("Z") for line in left.splitlines()), left
@@ -242,10 +242,10 @@ def failing(at):
         path = next((at.top / "crates" / crate / "src").iterdir())
         before = path.read_text()
         path.write_text(before + "// NO PROOF OF THIS\n")
-        status, said, told = at.call("a")
-        assert status == 125 and said == "" and "\nerror: a goal is open\nonly=0\n" in told, (status, said, told)
-        assert told.endswith(f"\nxtalk: crate {crate} could not be proved; the last lines stand above\n"), told
-        assert len(told.splitlines()) < 70, told
+        status, shown, log = at.call("a")
+        assert status == 125 and shown == "" and "\nerror: a goal is open\nonly=0\n" in log, (status, shown, log)
+        assert log.endswith(f"\nxtalk: crate {crate} could not be proved; the last lines stand above\n"), log
+        assert len(log.splitlines()) < 70, log
         path.write_text(before)
         assert at.work_of(lambda: at.call("a")) == (1, 0)
 
@@ -255,8 +255,8 @@ def toolchains(at):
     (at.top / "crates/xtalk_cli/out/xtalk_cli").unlink()
     assert at.call("a", STAND_IN_BROKEN="1") == (
         125, "", "xtalk: the rt on the path is not that of the Rattle toolchain\n")
-    status, _, told = at.call("a", STAND_IN_VERSION="old logic 0123456789abcdef")
-    assert status == 125 and "another one: old logic 0123456789abcdef\n" in told, told
+    status, _, log = at.call("a", STAND_IN_VERSION="old logic 0123456789abcdef")
+    assert status == 125 and "another one: old logic 0123456789abcdef\n" in log, log
     os.rename(path, path + ".away")
     if not shutil.which("rt", path="/usr/bin:/bin"):
         assert at.call("a", PATH="/usr/bin:/bin") == (
@@ -281,15 +281,15 @@ def terminal(at):
     process, end = pty.fork()
     if process == 0:
         os.execve(at.top / "xtalk", ["xtalk", "a"], at.environment(STAND_IN_SECONDS="2"))
-    told = b""
+    log = b""
     while True:
         try:
-            told += os.read(end, 4096)
+            log += os.read(end, 4096)
         except OSError:
             break
-    assert os.waitstatus_to_exitcode(os.waitpid(process, 0)[1]) == 7, told
-    assert b"\r\x1b[Kxtalk: 0 of " in told and b" xt_model 0m01s" in told and b"\nxtalk: 1 of" not in told, told
-    assert b"xtalk: 42 of" not in told, told
+    assert os.waitstatus_to_exitcode(os.waitpid(process, 0)[1]) == 7, log
+    assert b"\r\x1b[Kxtalk: 0 of " in log and b" xt_model 0m01s" in log and b"\nxtalk: 1 of" not in log, log
+    assert b"xtalk: 42 of" not in log, log
 
 
 def old_find(at):

@@ -361,7 +361,7 @@ def text_of(design, checks):
     return "\n".join([*lines[:-2], *map(" ".join, fields), *lines[-2:]])
 
 
-def taken(name, read):
+def value_of(name, read):
     """The value that a file means; its refusal is one of the whole run."""
     data = Path(name).read_bytes()
     keep("file", len(data) if len(data) <= MOST_BYTES else MOST_BYTES + 1, MOST_BYTES, name.encode())
@@ -382,10 +382,10 @@ def read_spef(data):
 
 def linked(files, miller=None):
     """The linked text of four files."""
-    library = taken(files[0], lambda data: liberty.Meaning(liberty.Grammar(data).library()))
-    module = taken(files[1], sdc.module_of)
-    parasitics = taken(files[2], read_spef)
-    constraints = taken(files[3], lambda data: sdc.Constraints(data, module, library.time_scale, library.cap_scale))
+    library = value_of(files[0], lambda data: liberty.Meaning(liberty.Grammar(data).library()))
+    module = value_of(files[1], sdc.module_of)
+    parasitics = value_of(files[2], read_spef)
+    constraints = value_of(files[3], lambda data: sdc.Constraints(data, module, library.time_scale, library.cap_scale))
     design, checks = Linker(library, module, parasitics, constraints).design()
     return text_of(design if miller is None else design._replace(miller=miller), checks)
 

@@ -512,8 +512,8 @@ def draw_sdc(rng):
         text = rng.choice(sdc.SEEDS).decode()
     if rng.random() < .4:
         text = mutated(rng, text, SDC_TOKEN, SDC_POOL)
-    told = sdc.listing(text.encode("latin-1"), MODULES[which], *scales)
-    return text, f"{which}.v {scales[0]} {scales[1]}", told
+    answers = sdc.listing(text.encode("latin-1"), MODULES[which], *scales)
+    return text, f"{which}.v {scales[0]} {scales[1]}", answers
 
 
 # ---- Comparing ---------------------------------------------------------------------------
@@ -548,7 +548,7 @@ def meaning(answer):
 
 def draw(kind, seed, count, folder):
     """Writes texts of a format, and what the plain reader says of each."""
-    rng, listed, told = random.Random(seed), [], []
+    rng, listed, answers = random.Random(seed), [], []
     folder.mkdir(parents=True, exist_ok=True)
     for number, text in enumerate(NETLISTS if kind == "sdc" else []):
         (folder / f"{number}.v").write_text(text)
@@ -556,10 +556,10 @@ def draw(kind, seed, count, folder):
         text, how, lines = DRAWS[kind](rng)
         (folder / f"{number}.{kind}").write_bytes(text.encode("latin-1"))
         listed.append(f"{number}.{kind} {how}".strip() + "\n")
-        told.append("".join(f"{line}\n" for line in lines))
+        answers.append("".join(f"{line}\n" for line in lines))
     (folder / "list").write_text("".join(listed))
-    (folder / "answers").write_bytes("".join(answer + END for answer in told).encode("latin-1"))
-    kinds = Counter(answer[:2] if re.fullmatch(r"[LVSC]\d \d+\n", answer) else "read" for answer in told)
+    (folder / "answers").write_bytes("".join(answer + END for answer in answers).encode("latin-1"))
+    kinds = Counter(answer[:2] if re.fullmatch(r"[LVSC]\d \d+\n", answer) else "read" for answer in answers)
     print(" ".join(f"{name} {many}" for name, many in sorted(kinds.items())))
 
 

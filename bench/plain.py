@@ -529,8 +529,8 @@ def checks_lines(design, low, high):
     """The lines on checks, on the worst setup check and on the worst hold check."""
     checks = list(slacks(design, low, high))
     for point, e, *both in checks:
-        told = ["idle"] if both == [None, None] else map(thousandths, both)
-        yield line("check", point.name, EDGES[e], kind_of(point), *told)
+        numbers = ["idle"] if both == [None, None] else map(thousandths, both)
+        yield line("check", point.name, EDGES[e], kind_of(point), *numbers)
     for hold in (False, True):
         yield from path_lines(design, high, checks, hold)
 
@@ -574,9 +574,9 @@ def judge(data, miller=None):
 
 def answer(file, data, verdict, kind="all"):
     """Status, standard output and standard error that a file with this verdict asks for."""
-    told = refusals.answer(file, data)
-    if told:
-        return told[0], "", told[1]
+    refusal = refusals.answer(file, data)
+    if refusal:
+        return refusal[0], "", refusal[1]
     if verdict.design is None:
         raise AssertionError(f"{file}: read line by line and taken, as a whole refused")
     if verdict.passed:
@@ -589,7 +589,7 @@ OPTIONS = {"solve": ("--workers", "--kind", "--miller"), "replay": ("--order", "
 def job(words):
     """The file, the kind of report and the Miller numbers, if any, that a command line asks
     for, or None. `replay` asks for the whole report, in an order that does not matter."""
-    files, said, rest = [], {}, list(words[1:])
+    files, given, rest = [], {}, list(words[1:])
     while rest:
         word = rest.pop(0)
         name, equals, value = word.partition("=")
@@ -597,19 +597,19 @@ def job(words):
             files.append(word)
             continue
         value = value if equals else rest.pop(0) if rest else ""
-        if name in said or not plain_word(value):
+        if name in given or not plain_word(value):
             return None
-        said[name] = value
-    workers, kind = said.get("--workers", "1"), said.get("--kind", "all")
+        given[name] = value
+    workers, kind = given.get("--workers", "1"), given.get("--kind", "all")
     if words[:1] not in (["solve"], ["replay"]) or len(files) != 1 or not plain_word(files[0]):
         return None
-    if words[0] == "replay" and not ("--workers" in said and is_number(said.get("--order", "")) and int(said["--order"]) < 2**64):
+    if words[0] == "replay" and not ("--workers" in given and is_number(given.get("--order", "")) and int(given["--order"]) < 2**64):
         return None
     if not is_number(workers) or not 1 <= int(workers) <= 64 or kind not in ("all", "checks"):
         return None
-    if "--miller" not in said:
+    if "--miller" not in given:
         return files[0], kind, None
-    pieces = said["--miller"].split(",")
+    pieces = given["--miller"].split(",")
     if len(pieces) != 3 or not all(map(is_number, pieces)):
         return None
     miller = tuple(map(int, pieces))
@@ -625,10 +625,10 @@ def plain_word(word):
 
 def outcome(words):
     """Status, standard output and standard error of the program on its command line."""
-    asked = job(words)
-    if asked is None:
+    wanted = job(words)
+    if wanted is None:
         return 2, "", "xtalk: bad command line\n"
-    name, kind, miller = asked
+    name, kind, miller = wanted
     try:
         with open(name, "rb") as file:
             data = file.read(MOST_BYTES + 1)

@@ -305,11 +305,11 @@ def answer(files):
         return status, "", line + "\n"
 
 
-def report(told):
-    """Status, standard output and standard error that `report` asks for, where `link` asks for what is told."""
-    if told[0] != 0:
-        return told
-    data = told[1].encode("latin-1")
+def report(answered):
+    """Status, standard output and standard error that `report` asks for, where `link` asks for this."""
+    if answered[0] != 0:
+        return answered
+    data = answered[1].encode("latin-1")
     return plain.answer("", data, plain.judge(data))
 
 
@@ -338,9 +338,9 @@ def compare(program, count, seed):
     return differ
 
 
-def kind_of(told):
+def kind_of(answered):
     """The kind of an answer: its status and its code."""
-    return f"{told[0]} {told[2].split()[1]}" if told[2] else "0"
+    return f"{answered[0]} {answered[2].split()[1]}" if answered[2] else "0"
 
 
 def main(words):

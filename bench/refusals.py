@@ -214,8 +214,8 @@ def answer(file, data):
 def main(files):
     for file in files:
         with open(file, "rb") as held:
-            told = answer(file, held.read())
-        print(f"{file}: accepted\n" if told is None else told[1], end="")
+            refusal = answer(file, held.read())
+        print(f"{file}: accepted\n" if refusal is None else refusal[1], end="")
     return 0
 
 

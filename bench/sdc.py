@@ -283,7 +283,7 @@ class Constraints:
             raise Refusal("C6", self.line)
 
     def set_units(self, command):
-        taken = {}
+        scales = {}
         for option, units in UNITS.items():
             if option in command.options:
                 text = command.options[option].text
@@ -291,8 +291,8 @@ class Constraints:
                 shift = power_of_ten(size) if size else 0
                 if power is None or shift is None:
                     raise Refusal("C3", self.line)
-                taken[option] = power + shift
-        self.scales.update(taken)
+                scales[option] = power + shift
+        self.scales.update(scales)
 
     def create_clock(self, command):
         period, fall = self.number(command.options[b"-period"], b"-time"), None

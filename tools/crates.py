@@ -18,13 +18,13 @@ SWEEPS = 24
 
 def read(path):
     """What each crate is said to stand on, by its name: crates of the file, and those of the kit."""
-    said = {}
+    listed = {}
     for line in path.read_text(encoding="utf-8").splitlines():
         name, colon, libraries = line.partition("#")[0].partition(":")
         if colon:
-            said[name.split()[0]] = libraries.split()
-    own = {name: [below for below in libraries if below in said] for name, libraries in said.items()}
-    kit = {name: [below for below in libraries if below not in said] for name, libraries in said.items()}
+            listed[name.split()[0]] = libraries.split()
+    own = {name: [below for below in libraries if below in listed] for name, libraries in listed.items()}
+    kit = {name: [below for below in libraries if below not in listed] for name, libraries in listed.items()}
     return own, kit
 
 

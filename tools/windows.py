@@ -74,7 +74,7 @@ def span(quad):
     return quad[0] - half, quad[1] + half
 
 
-def told(lane, quads):
+def caption(lane, quads):
     """A lane's windows in words, which a browser shows over its band."""
     words = " ".join(lane)
     for name, quad in zip(("least", "greatest"), quads):
@@ -124,7 +124,7 @@ def picture(windows, links, period, names):
             out.append(f'<line x1="{left}" y1="{y}" x2="{left + WIDTH}" y2="{y}" stroke="#dddddd"/>')
             out.append(f'<text x="{left + 6}" y="{y - 3:.1f}" fill="{GREY}" font-size="9">quiet</text>')
             continue
-        out.append(f"<g><title>{escape(told(lane, windows[lane]))}</title>")
+        out.append(f"<g><title>{escape(caption(lane, windows[lane]))}</title>")
         start, end = (y + HEIGHT / 2, y - HEIGHT / 2) if lane[1] == "rise" else (y - HEIGHT / 2, y + HEIGHT / 2)
         for quad, colour in zip(reversed(windows[lane]), (GREATEST, LEAST)):
             if is_live(quad):

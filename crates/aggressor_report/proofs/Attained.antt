@@ -52,7 +52,7 @@ contributed_bound false d W n net e a = refl
 pub record IsAttained (late : Bool) (d : Parts) (W : Assignment) (n : ℕ) (net : Net) (e : Edge) (arcs : List TimingArc) (bound : ℤ) : Type 0 where
   pub number : ℕ
   pub arc : TimingArc
-  pub taken : slice_get arcs number ≡ Some arc
+  pub arc_at : slice_get arcs number ≡ Some arc
   pub drives : IsTrue (contributes W e arc)
   pub bound_is : bound_of late (contribution d (overlap_answers d.period W) W n net e arc) ≡ bound
 
@@ -74,9 +74,9 @@ module _ (late : Bool) (d : Parts) (W : Assignment) (n : ℕ) (net : Net) (e : E
   attained (a ∷ more) q = elim (attained more (with_arc d (overlap_answers d.period W) W n net e q a)) [
     | inl p ↦ elim (joined_bound q a (contributes W e a) refl) [
       | inl r ↦ inl (p ∙ r)
-      | inr r ↦ inr (record { number = 0; arc = a; taken = refl; drives = r.0; bound_is = sym r.1 ∙ sym p })
+      | inr r ↦ inr (record { number = 0; arc = a; arc_at = refl; drives = r.0; bound_is = sym r.1 ∙ sym p })
     ]
-    | inr h ↦ inr (record { number = suc h.number; arc = h.arc; taken = h.taken; drives = h.drives; bound_is = h.bound_is })
+    | inr h ↦ inr (record { number = suc h.number; arc = h.arc; arc_at = h.arc_at; drives = h.drives; bound_is = h.bound_is })
   ]
 
   not_bottom : IsConstraint (W n e) → bound_of late (W n e) ≡ bound_of late bottom → ⊥
@@ -104,6 +104,6 @@ given_at late d W n e net there some closed room =
       arc = h.arc;
       number = h.number;
       there = there;
-      taken = h.taken;
+      arc_at = h.arc_at;
       gives = record { drives = h.drives; sum = sym (contributed_bound late d W n net e h.arc) ∙ h.bound_is };
     }

@@ -79,8 +79,8 @@ module _ (late : Bool) (d : Parts) (W : Assignment) (from : ℕ) (input : Edge) 
   pub step_from : IsSound d → from < length d.nets
   step_from sound =
       let net_sound = sound_at d s.net.0 h.net sound h.there in
-      let at : IsSoundArc d (get_or h.net.arcs s.arc h.arc) = net_sound.arcs s.arc h.arc (slice_get_within h.net.arcs s.arc h.arc h.taken) in
-      let arc_sound : IsSoundArc d h.arc = subst (IsSoundArc d) (get_or_from_slice_get h.net.arcs s.arc h.arc h.arc h.taken) at in
+      let at : IsSoundArc d (get_or h.net.arcs s.arc h.arc) = net_sound.arcs s.arc h.arc (slice_get_within h.net.arcs s.arc h.arc h.arc_at) in
+      let arc_sound : IsSoundArc d h.arc = subst (IsSoundArc d) (get_or_from_slice_get h.net.arcs s.arc h.arc h.arc h.arc_at) at in
       let P : ℕ → Type 0 = λ k. k < length d.nets in
       subst P h.comes_from (sink_net d h.arc.from.0 h.arc.sink arc_sound.sink)
 
@@ -95,7 +95,7 @@ module _ (late : Bool) (d : Parts) (W : Assignment) (from : ℕ) (input : Edge) 
   pub step_falls : (n l m : ℕ) → s.net.0 ≡ n → IsLevel d.nets n l → IsLevel d.nets from m → m < l
   step_falls n l m is high low =
       let P : ℕ → Type 0 = λ k. IsLevel d.nets k l in
-      level_falls d.nets s.net.0 from l m h.net h.arc s.arc (subst P (sym is) high) low h.there h.taken h.comes_from
+      level_falls d.nets s.net.0 from l m h.net h.arc s.arc (subst P (sym is) high) low h.there h.arc_at h.comes_from
 
 -- ---- the search for the step
 -- the number of an arc fits 32 bits
@@ -113,17 +113,17 @@ module _ (late : Bool) (d : Parts) (W : Assignment) (n : ℕ) (e : Edge) (number
 
   pub none_more : NoneBefore number → ((net : Net) (b : TimingArc) → slice_get d.nets n ≡ Some net → slice_get arcs number ≡ Some b → Gives late d W n e net b → ⊥)
       → NoneBefore (number + 1)
-  none_more before here = λ net i b there less taken gives.
-      below_more (λ k. slice_get arcs k ≡ Some b → ⊥) number (λ k low at. before net k b there low at gives) (λ at. here net b there at gives) i less taken
+  none_more before here = λ net i b there less arc_at gives.
+      below_more (λ k. slice_get arcs k ≡ Some b → ⊥) number (λ k low at. before net k b there low at gives) (λ at. here net b there at gives) i less arc_at
 
   -- some arc does
   pub none_given : (net : Net) → slice_get d.nets n ≡ Some net → arcs ≡ net.arcs → length arcs ≤ number → IsGiven late d W n e → NoneBefore number → ⊥
   none_given net there same past given before =
       let own : given.net ≡ net = same_Some given.net net (sym given.there ∙ there) in
       let P : Net → Type 0 = λ m. slice_get m.arcs given.number ≡ Some given.arc in
-      let taken : slice_get arcs given.number ≡ Some given.arc = ap (λ xs. slice_get xs given.number) same ∙ subst P own given.taken in
-      let low : given.number < length arcs = slice_get_within arcs given.number given.arc taken in
-      before given.net given.number given.arc given.there (omega (arith, low, past)) taken given.gives
+      let arc_at : slice_get arcs given.number ≡ Some given.arc = ap (λ xs. slice_get xs given.number) same ∙ subst P own given.arc_at in
+      let low : given.number < length arcs = slice_get_within arcs given.number given.arc arc_at in
+      before given.net given.number given.arc given.there (omega (arith, low, past)) arc_at given.gives
 
   module _ (net : Net) (x : TimingArc) (loads : Range) (bound : ℤ) (there : slice_get d.nets n ≡ Some net) (same : arcs ≡ net.arcs) (within : number < length arcs)
       (loads_are : IfSome (slice_get d.nets n) (λ m. loads ≡ loads_in d W n e m)) (bound_is : bound ≡ bound_of late (W n e)) where
@@ -141,9 +141,9 @@ module _ (late : Bool) (d : Parts) (W : Assignment) (n : ℕ) (e : Edge) (number
     -- an arc for which nothing was found does not
     pub missed_here : None ≡ passage_to late d W loads e bound (get_or arcs number x)
         → (m : Net) (b : TimingArc) → slice_get d.nets n ≡ Some m → slice_get arcs number ≡ Some b → Gives late d W n e m b → ⊥
-    missed_here is m b at taken gives =
+    missed_here is m b at arc_at gives =
         let own : m ≡ net = same_Some m net (sym at ∙ there) in
-        let this : b ≡ get_or arcs number x = same_Some b (get_or arcs number x) (sym taken ∙ slice_get-get_or arcs number x within) in
+        let this : b ≡ get_or arcs number x = same_Some b (get_or arcs number x) (sym arc_at ∙ slice_get-get_or arcs number x within) in
         let P : Net → Type 0 = λ k. Gives late d W n e k b in
         let Q : TimingArc → Type 0 = λ a. Gives late d W n e net a in
         passage_missed late d W n e net (get_or arcs number x) (by_definition None is) (subst Q this (subst P own gives))
@@ -159,11 +159,11 @@ step_found late d W id e number arcs net x loads bound p w y there same within l
       net = net;
       arc = get_or arcs number x;
       there = there;
-      taken = arc_there late d W id.0 e number arcs net x loads bound there same within loads_are bound_is;
+      arc_at = arc_there late d W id.0 e number arcs net x loads bound there same within loads_are bound_is;
       comes_from = refl;
       comes_at = refl;
       gives = f.0;
-      first = λ i b less taken gives. before net i b there less (ap (λ xs. slice_get xs i) same ∙ taken) gives;
+      first = λ i b less arc_at gives. before net i b there less (ap (λ xs. slice_get xs i) same ∙ arc_at) gives;
       wire = wire_is ∙ f.1;
       delay = delay_is ∙ f.2;
     }

@@ -79,8 +79,8 @@ is_source nets n l net h there in_nets low = no_arcs nets h.0 net net.arcs (get_
 
 -- levels fall along a step back
 pub level_falls : (nets : List Net) (n from l m : ℕ) (net : Net) (a : TimingArc) (i : ℕ) → IsLevel nets n l → IsLevel nets from m → slice_get nets n ≡ Some net → slice_get net.arcs i ≡ Some a → a.from.0 ≡ from → m < l
-level_falls nets n from l m net a i h k there taken is_from =
-    let has : Contains net.arcs a = (i, slice_get_within net.arcs i a taken, get_or_from_slice_get net.arcs i a a taken) in
+level_falls nets n from l m net a i h k there arc_at is_from =
+    let has : Contains net.arcs a = (i, slice_get_within net.arcs i a arc_at, get_or_from_slice_get net.arcs i a a arc_at) in
     let below = input_below h.0 net.arcs a has in
     let is = h.1.each n net there in
     let at = level_at h.0 n l h.2 in

@@ -43,7 +43,7 @@ pub record IsGiven (late : Bool) (d : Parts) (W : Assignment) (n : ℕ) (e : Edg
   pub arc : TimingArc
   pub number : ℕ
   pub there : slice_get d.nets n ≡ Some net
-  pub taken : slice_get net.arcs number ≡ Some arc
+  pub arc_at : slice_get net.arcs number ≡ Some arc
   pub gives : Gives late d W n e net arc
 
 -- a step from an edge of a net: it takes the first arc in the list of its own net that gives its edge's bound, and that
@@ -52,7 +52,7 @@ pub record IsStep (late : Bool) (d : Parts) (W : Assignment) (from : ℕ) (input
   pub net : Net
   pub arc : TimingArc
   pub there : slice_get d.nets s.net.0 ≡ Some net
-  pub taken : slice_get net.arcs s.arc ≡ Some arc
+  pub arc_at : slice_get net.arcs s.arc ≡ Some arc
   pub comes_from : arc.from.0 ≡ from
   pub comes_at : arc.input ≡ input
   pub gives : Gives late d W s.net.0 s.edge net arc

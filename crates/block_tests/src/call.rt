@@ -55,7 +55,7 @@ fn files_of(alloc: Global, texts: &[(&str, &[u8])]) -> Result<Vec<(String, Vec<u
 }
 
 /// What a call with these words says: its status, then its line on the error stream, then its output.
-pub fn told<R: Threads + Sync>(
+pub fn outcome<R: Threads + Sync>(
     rt: &R,
     alloc: Global,
     words: &str,
@@ -99,7 +99,7 @@ pub fn opened<R: Threads + Sync>(
     Ok(names)
 }
 
-/// Compares what a call says; `place` tells it apart.
-pub fn compare(rt: &impl Abort, said: &str, want: &str, place: &str) {
-    assert!(rt; said == want, "{said} at {place}");
+/// Compares the outcome of a call with the one that is wanted; `place` tells it apart.
+pub fn compare(rt: &impl Abort, seen: &str, want: &str, place: &str) {
+    assert!(rt; seen == want, "{seen} at {place}");
 }

@@ -1,7 +1,7 @@
 //! The block's files cut at their lines, and with a line that is another.
 
 use crate::block::{LIB, NETLIST, REPORT, SDC, SPEF};
-use crate::call::{calm, compare, told};
+use crate::call::{calm, compare, outcome};
 use std::alloc::{AllocError, Global};
 use std::process::Abort;
 use std::test::Fail;
@@ -38,7 +38,7 @@ fn text_at<'a>(which: Which, at: Which, other: &'a str) -> &'a [u8] {
 }
 
 /// What the report says of the block with another text in one place.
-fn told_with<R: Threads + Sync>(
+fn outcome_with<R: Threads + Sync>(
     rt: &R,
     alloc: Global,
     at: Which,
@@ -50,18 +50,18 @@ fn told_with<R: Threads + Sync>(
         ("r.spef", text_at(Which::Spef, at, other)),
         ("r.sdc", text_at(Which::Sdc, at, other)),
     ];
-    told(rt, alloc, WORDS, texts.as_slice(), calm(alloc))
+    outcome(rt, alloc, WORDS, texts.as_slice(), calm(alloc))
 }
 
 /// The first lines of a text, so many.
 fn front(alloc: Global, text: &str, lines: u32) -> Result<String, AllocError> {
     let mut out = String::new(alloc);
-    let mut taken: u32 = 0;
+    let mut count: u32 = 0;
     for line in text.lines() {
-        if taken < lines {
+        if count < lines {
             out.push_str(line)?;
             out.push_str("\n")?;
-            taken = taken.saturating_add(1);
+            count = count.saturating_add(1);
         }
     }
     Ok(out)
@@ -80,7 +80,7 @@ fn replaced(alloc: Global, text: &str, number: u32, line: &str) -> Result<String
 }
 
 /// Of a file cut after so many lines, from the first number to the last, what is refused at the line behind the cut, or
-/// what else is said.
+/// how the outcome begins.
 const CUTS: [(Which, u32, u32, &str); 10] = [
     (Which::Lib, 0, 30, "L2"),
     (Which::Netlist, 0, 9, "V2"),
@@ -94,7 +94,7 @@ const CUTS: [(Which, u32, u32, &str); 10] = [
     (Which::Sdc, 3, 8, "0 xtalk 1"),
 ];
 
-/// Compares what is said of a file that is cut after so many lines.
+/// Compares the outcome of a file that is cut after so many lines.
 fn compare_cut<R: Threads + Sync + Abort>(
     rt: &R,
     alloc: Global,
@@ -104,21 +104,21 @@ fn compare_cut<R: Threads + Sync + Abort>(
 ) -> Result<(), Fail> {
     let (name, text) = file(which);
     let cut = front(alloc, text, lines)?;
-    let said = told_with(rt, alloc, which, cut.as_str())?;
-    let said = said.as_str();
+    let seen = outcome_with(rt, alloc, which, cut.as_str())?;
+    let seen = seen.as_str();
     let line = lines.saturating_add(1);
     let refused = format!(in alloc; "3 {name}:{line}: {want}\n")?;
     let is_wanted = if want.len() == 2 {
-        said == refused.as_str()
+        seen == refused.as_str()
     } else {
-        said.starts_with(want)
+        seen.starts_with(want)
     };
-    assert!(rt; is_wanted, "{said} after {lines} lines of {name}");
+    assert!(rt; is_wanted, "{seen} after {lines} lines of {name}");
     Ok(())
 }
 
 #[test]
-fn a_file_that_is_cut_is_told(rt: HostRuntime) -> Result<(), Fail> {
+fn files_cut_behind_each_line(rt: HostRuntime) -> Result<(), Fail> {
     for (which, first, last, want) in &CUTS {
         for lines in *first..*last + 1 {
             compare_cut(&rt, rt.alloc(), *which, lines, want)?;
@@ -127,7 +127,7 @@ fn a_file_that_is_cut_is_told(rt: HostRuntime) -> Result<(), Fail> {
     Ok(())
 }
 
-/// Lines of the block's parasitics by their numbers, what stands in their place, and what is said then.
+/// Lines of the block's parasitics by their numbers, what stands in their place, and the outcome.
 const LINES: [(u32, &str, &str); 12] = [
     (40, "1 *2:1 -0.002", "3 r.spef:40: S3\n"),
     (38, "*D_NET *1 0.003", "3 r.spef:38: S6\n"),
@@ -140,29 +140,29 @@ const LINES: [(u32, &str, &str); 12] = [
     (
         36,
         "2 *1:1 *6:D 50\n3 *1:8 *1:9 50\n4 *1:9 *1:8 50",
-        REPORT_TOLD,
+        WHOLE_REPORT,
     ),
-    (16, "*0001 n1", REPORT_TOLD),
-    (32, "1 n1:1 2e-3", REPORT_TOLD),
-    (38, "*D_NET bus[0] 9", REPORT_TOLD),
+    (16, "*0001 n1", WHOLE_REPORT),
+    (32, "1 n1:1 2e-3", WHOLE_REPORT),
+    (38, "*D_NET bus[0] 9", WHOLE_REPORT),
 ];
 
 /// Stands for the whole report.
-const REPORT_TOLD: &str = "the report";
+const WHOLE_REPORT: &str = "the report";
 
 #[test]
-fn a_line_that_is_another_is_told(rt: HostRuntime) -> Result<(), Fail> {
+fn other_lines_have_their_outcomes(rt: HostRuntime) -> Result<(), Fail> {
     let alloc = rt.alloc();
     let report = format!(in alloc; "0 {REPORT}")?;
     for (number, line, want) in &LINES {
         let text = replaced(alloc, SPEF, *number, line)?;
-        let said = told_with(&rt, alloc, Which::Spef, text.as_str())?;
-        let want = if *want == REPORT_TOLD {
+        let seen = outcome_with(&rt, alloc, Which::Spef, text.as_str())?;
+        let want = if *want == WHOLE_REPORT {
             report.as_str()
         } else {
             *want
         };
-        compare(&rt, said.as_str(), want, line);
+        compare(&rt, seen.as_str(), want, line);
     }
     Ok(())
 }

@@ -1,7 +1,7 @@
 //! Small designs, and the linked text of each, worked out by hand.
 
 use crate::call::compare;
-use crate::small::{linked_text, told_of};
+use crate::small::{linked_text, outcome_of};
 use std::test::Fail;
 
 /// A netlist behind `module m`, parasitics behind their units, constraints; and of the linked text the counts of nets
@@ -491,9 +491,9 @@ const DESIGNS: [(&str, &str, &str, &str, &str, &str); 25] = [
 fn a_small_design_is_linked(rt: HostRuntime) -> Result<(), Fail> {
     let alloc = rt.alloc();
     for (netlist, spef, sdc, counts, period, lines) in &DESIGNS {
-        let said = told_of(&rt, alloc, "link", netlist, spef, sdc)?;
+        let seen = outcome_of(&rt, alloc, "link", netlist, spef, sdc)?;
         let want = linked_text(alloc, counts, period, lines)?;
-        compare(&rt, said.as_str(), want.as_str(), netlist);
+        compare(&rt, seen.as_str(), want.as_str(), netlist);
     }
     Ok(())
 }

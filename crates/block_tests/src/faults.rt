@@ -2,7 +2,7 @@
 //! an output that fails.
 
 use crate::block::{LIB, NETLIST, REPORT, SDC, SPEF};
-use crate::call::{Outside, calm, compare, opened, told};
+use crate::call::{Outside, calm, compare, opened, outcome};
 use std::alloc::Global;
 use std::process::Abort;
 use std::test::Fail;
@@ -11,7 +11,7 @@ use std::thread::Threads;
 const WORDS: &str = "report r.lib r.v r.spef r.sdc";
 
 /// What a call with these words on the block says where this goes wrong.
-fn told_of_block<R: Threads + Sync>(
+fn outcome_of_block<R: Threads + Sync>(
     rt: &R,
     alloc: Global,
     words: &str,
@@ -23,7 +23,7 @@ fn told_of_block<R: Threads + Sync>(
         ("r.spef", SPEF.as_bytes()),
         ("r.sdc", SDC.as_bytes()),
     ];
-    told(rt, alloc, words, texts.as_slice(), outside)
+    outcome(rt, alloc, words, texts.as_slice(), outside)
 }
 
 /// The files that a call with these words on the block opens.
@@ -66,16 +66,16 @@ const OTHER_FILES: [(&str, &str); 23] = [
 ];
 
 #[test]
-fn the_first_file_that_cannot_be_taken_is_told(rt: HostRuntime) -> Result<(), Fail> {
+fn the_first_file_that_fails_counts(rt: HostRuntime) -> Result<(), Fail> {
     let alloc = rt.alloc();
     for (words, want) in &OTHER_FILES {
-        let said = told_of_block(&rt, alloc, words, calm(alloc))?;
-        compare(&rt, said.as_str(), want, words);
+        let seen = outcome_of_block(&rt, alloc, words, calm(alloc))?;
+        compare(&rt, seen.as_str(), want, words);
     }
     Ok(())
 }
 
-/// An empty file in each place, and what is said of it.
+/// An empty file in each place, and the outcome.
 const EMPTY_FILES: [(&str, &str); 4] = [
     ("report x r.v r.spef r.sdc", "3 x:1: L2\n"),
     ("report r.lib x r.spef r.sdc", "3 x:1: V2\n"),
@@ -89,7 +89,7 @@ const LONG_FILES: [(&str, &str); 2] = [
     ("report r.lib r.v r.spef x", "5 limit: file x 268435457\n"),
 ];
 
-/// Compares what is said where the file `x` holds these bytes.
+/// Compares the outcome where the file `x` holds these bytes.
 fn compare_with<R: Threads + Sync + Abort>(
     rt: &R,
     alloc: Global,
@@ -104,14 +104,14 @@ fn compare_with<R: Threads + Sync + Abort>(
             ("r.sdc", SDC.as_bytes()),
             ("x", bytes),
         ];
-        let said = told(rt, alloc, words, texts.as_slice(), calm(alloc))?;
-        compare(rt, said.as_str(), want, words);
+        let seen = outcome(rt, alloc, words, texts.as_slice(), calm(alloc))?;
+        compare(rt, seen.as_str(), want, words);
     }
     Ok(())
 }
 
 #[test]
-fn an_empty_file_and_one_that_is_too_long_are_told(rt: HostRuntime) -> Result<(), Fail> {
+fn empty_and_long_files_have_their_outcomes(rt: HostRuntime) -> Result<(), Fail> {
     let alloc = rt.alloc();
     compare_with(&rt, alloc, b"", EMPTY_FILES.as_slice())?;
     let zeros: Vec<u8> = vec![in alloc; 0; 268_435_457]?;
@@ -146,19 +146,19 @@ const READ: [&str; 12] = [
 
 // Each call on the files fails in turn; there are twelve.
 #[test]
-fn a_call_on_the_files_that_fails_is_told(rt: HostRuntime) -> Result<(), Fail> {
+fn a_failed_call_on_the_files_is_a_read_fault(rt: HostRuntime) -> Result<(), Fail> {
     let alloc = rt.alloc();
     let report = format!(in alloc; "0 {REPORT}")?;
     for call in 0..21 {
         let mut outside = calm(alloc);
         outside.files.push(call as u64)?;
-        let said = told_of_block(&rt, alloc, WORDS, outside)?;
+        let seen = outcome_of_block(&rt, alloc, WORDS, outside)?;
         match READ.get(call) {
             Some(file) => {
                 let want = format!(in alloc; "6 read fault: {file}\n")?;
-                compare(&rt, said.as_str(), want.as_str(), file);
+                compare(&rt, seen.as_str(), want.as_str(), file);
             }
-            None => compare(&rt, said.as_str(), report.as_str(), "no call"),
+            None => compare(&rt, seen.as_str(), report.as_str(), "no call"),
         }
     }
     Ok(())
@@ -166,24 +166,24 @@ fn a_call_on_the_files_that_fails_is_told(rt: HostRuntime) -> Result<(), Fail> {
 
 // A byte is taken at a time, and each call on the output fails in turn; then one that takes ten.
 #[test]
-fn a_call_on_the_output_that_fails_is_told(rt: HostRuntime) -> Result<(), Fail> {
+fn a_failed_call_on_the_output_is_a_write_fault(rt: HostRuntime) -> Result<(), Fail> {
     let alloc = rt.alloc();
     for call in 0..41 {
         let mut outside = calm(alloc);
         outside.out.push(call as u64)?;
         outside.most = 1;
-        let said = told_of_block(&rt, alloc, WORDS, outside)?;
+        let seen = outcome_of_block(&rt, alloc, WORDS, outside)?;
         let front = REPORT.get(..call).unwrap_or("?");
         let want = format!(in alloc; "7 write fault\n{front}")?;
-        compare(&rt, said.as_str(), want.as_str(), front);
+        compare(&rt, seen.as_str(), want.as_str(), front);
     }
     let mut outside = calm(alloc);
     outside.out.push(1)?;
     outside.most = 10;
-    let said = told_of_block(&rt, alloc, WORDS, outside)?;
+    let seen = outcome_of_block(&rt, alloc, WORDS, outside)?;
     compare(
         &rt,
-        said.as_str(),
+        seen.as_str(),
         "7 write fault\nxtalk 1\nne",
         "ten bytes",
     );
@@ -197,8 +197,8 @@ fn a_line_that_cannot_be_written_changes_no_status(rt: HostRuntime) -> Result<()
     for (words, want) in [("report a b c", "2 "), ("report r.v r.v r.v r.v", "3 ")] {
         let mut outside = calm(alloc);
         outside.err.push(0)?;
-        let said = told_of_block(&rt, alloc, words, outside)?;
-        compare(&rt, said.as_str(), want, words);
+        let seen = outcome_of_block(&rt, alloc, words, outside)?;
+        compare(&rt, seen.as_str(), want, words);
     }
     Ok(())
 }

@@ -1,7 +1,7 @@
 //! Designs at limits and past them, and past one of them before another fault.
 
 use crate::call::compare;
-use crate::small::{told_of, told_of_texts};
+use crate::small::{outcome_of, outcome_of_texts};
 use itoa::Buffer;
 use std::alloc::{AllocError, Global};
 use std::test::Fail;
@@ -35,7 +35,7 @@ fn text_of(alloc: Global, pieces: &[(&str, u32)]) -> Result<String, AllocError> 
     Ok(out)
 }
 
-/// Netlists behind `module m` and parasitics behind their units, and what is said.
+/// Netlists behind `module m` and parasitics behind their units, and the outcome.
 const SIZES: [(Pieces, Pieces, &str); 18] = [
     // Nets, and then no such cell.
     (
@@ -203,8 +203,8 @@ fn a_design_past_a_limit_is_refused(rt: HostRuntime) -> Result<(), Fail> {
     for (netlist, spef, want) in &SIZES {
         let netlist = text_of(alloc, netlist)?;
         let spef = text_of(alloc, spef)?;
-        let said = told_of(&rt, alloc, "link", netlist.as_str(), spef.as_str(), "")?;
-        compare(&rt, said.as_str(), want, want);
+        let seen = outcome_of(&rt, alloc, "link", netlist.as_str(), spef.as_str(), "")?;
+        compare(&rt, seen.as_str(), want, want);
     }
     Ok(())
 }
@@ -294,7 +294,7 @@ const TABLES_WITHIN: Pieces = &[
     (" } } } }", 1),
 ];
 
-/// Libraries, netlists and parasitics, and what is said.
+/// Libraries, netlists and parasitics, and the outcome.
 const COUNTS: [(Pieces, Pieces, Pieces, &str); 11] = [
     // 1,024 instances of 4,096 arcs, of which one drives itself; and one arc more.
     (
@@ -426,7 +426,7 @@ fn a_library_that_makes_too_much_is_refused(rt: HostRuntime) -> Result<(), Fail>
         let spef = text_of(alloc, spef)?;
         let spef = spef.as_str();
         let spef = format!(in alloc; "*SPEF \"x\" *C_UNIT 1 FF *R_UNIT 1 OHM {spef}")?;
-        let said = told_of_texts(
+        let seen = outcome_of_texts(
             &rt,
             alloc,
             "link",
@@ -435,7 +435,7 @@ fn a_library_that_makes_too_much_is_refused(rt: HostRuntime) -> Result<(), Fail>
             spef.as_str(),
             "",
         )?;
-        compare(&rt, said.as_str(), want, want);
+        compare(&rt, seen.as_str(), want, want);
     }
     Ok(())
 }

@@ -1,10 +1,10 @@
 //! Small designs that are refused, of one fault and of two.
 
 use crate::call::compare;
-use crate::small::told_of;
+use crate::small::outcome_of;
 use std::test::Fail;
 
-/// A netlist behind `module m`, parasitics behind their units, constraints, and what is said.
+/// A netlist behind `module m`, parasitics behind their units, constraints, and the outcome.
 const REFUSED: [(&str, &str, &str, &str); 31] = [
     // No such cell.
     (
@@ -206,8 +206,8 @@ fn a_small_design_is_refused(rt: HostRuntime) -> Result<(), Fail> {
     let alloc = rt.alloc();
     for (netlist, spef, sdc, want) in &REFUSED {
         for command in ["link", "report"] {
-            let said = told_of(&rt, alloc, command, netlist, spef, sdc)?;
-            compare(&rt, said.as_str(), want, netlist);
+            let seen = outcome_of(&rt, alloc, command, netlist, spef, sdc)?;
+            compare(&rt, seen.as_str(), want, netlist);
         }
     }
     Ok(())

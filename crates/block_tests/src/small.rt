@@ -1,6 +1,6 @@
 //! Texts of small designs over one library.
 
-use crate::call::{calm, told};
+use crate::call::{calm, outcome};
 use std::alloc::{AllocError, Global};
 use std::test::Fail;
 use std::thread::Threads;
@@ -134,7 +134,7 @@ const TABLES: &str = "\
     row 9000\n";
 
 /// What a command says of these files.
-pub fn told_of_texts<R: Threads + Sync>(
+pub fn outcome_of_texts<R: Threads + Sync>(
     rt: &R,
     alloc: Global,
     command: &str,
@@ -150,11 +150,11 @@ pub fn told_of_texts<R: Threads + Sync>(
         ("x.sdc", sdc.as_bytes()),
     ];
     let words = format!(in alloc; "{command} x.lib x.v x.spef x.sdc")?;
-    told(rt, alloc, words.as_str(), texts.as_slice(), calm(alloc))
+    outcome(rt, alloc, words.as_str(), texts.as_slice(), calm(alloc))
 }
 
 /// What a command says of a netlist behind `module m`, parasitics behind their units, and constraints.
-pub fn told_of<R: Threads + Sync>(
+pub fn outcome_of<R: Threads + Sync>(
     rt: &R,
     alloc: Global,
     command: &str,
@@ -164,7 +164,7 @@ pub fn told_of<R: Threads + Sync>(
 ) -> Result<String, Fail> {
     let netlist = format!(in alloc; "module m {netlist} endmodule\n")?;
     let spef = format!(in alloc; "*SPEF \"x\" *C_UNIT 1 FF *R_UNIT 1 OHM {spef}\n")?;
-    told_of_texts(
+    outcome_of_texts(
         rt,
         alloc,
         command,

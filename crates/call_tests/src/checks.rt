@@ -281,7 +281,7 @@ const PAIR_REPORT: &[u8] = b"\
     end\n";
 
 #[test]
-fn tells_slacks_and_their_paths(rt: HostRuntime) -> Result<(), Fail> {
+fn reports_slacks_and_their_paths(rt: HostRuntime) -> Result<(), Fail> {
     let cases: [(&[&str], &[u8], &[u8]); 6] = [
         (&["solve", "one.xt"], PORTS, PORTS_REPORT),
         (&["solve", "one.xt", "--kind=checks"], GATES, GATES_REPORT),

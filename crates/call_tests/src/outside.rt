@@ -19,7 +19,7 @@ fn opens_the_file_once_and_reads_it_to_its_end(rt: HostRuntime) -> Result<(), Fa
     for name in recorded.opened.iter() {
         assert_eq!(rt; name.as_str(), "one.xt");
     }
-    assert_eq!(rt; recorded.asked.as_slice(), [65_536; 2].as_slice());
+    assert_eq!(rt; recorded.lengths.as_slice(), [65_536; 2].as_slice());
     Ok(())
 }
 

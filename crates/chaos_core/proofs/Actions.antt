@@ -39,8 +39,8 @@ use Rattle.chaos_core.proofs.Stages.{can_publish}
 use Rattle.chaos_core.proofs.Kept.{moved_kept}
 
 -- ---- what the operator makes of loaded words fits words
-between : (q top : Quad) → IsWithin bottom q → IsWithin q top → IsInRange top → IsInRange q
-between q top low high t = record {
+within_in_range : (q top : Quad) → IsWithin bottom q → IsWithin q top → IsInRange top → IsInRange q
+within_in_range q top low high t = record {
   tlo = record { low = (let a = high.tlo in let b = t.tlo.low in omega (arith, ints, a, b)); high = low.tlo };
   thi = record { low = low.thi; high = (let a = high.thi in let b = t.thi.high in omega (arith, ints, a, b)) };
   slo = record { low = (let a = high.slo in let b = t.slo.low in omega (arith, ints, a, b)); high = low.slo };
@@ -61,7 +61,7 @@ module _ (a : Setting) (seen reads numbers : List ℕ) (net : ℕ) (sees : IsSee
       } in
       let one = operator_mono_at R d W T net e (wired d sees.sound) (nets_read d net reads list) at in
       let two = (envelope_closed d w.top (wired d sees.sound) w.envelope.widest).each net e in
-      between (operator d W net e) (T net e) (bottom_within_operator d (overlap_answers d.period W) W net e sees.sound)
+      within_in_range (operator d W net e) (T net e) (bottom_within_operator d (overlap_answers d.period W) W net e sees.sound)
       (within_trans (operator d W net e) (operator d T net e) (T net e) one two) (windows_in_range d w.top w.envelope.windows net e)
 
   pub evaluated_range : IsPairInRange (evaluated a.design reads numbers net)

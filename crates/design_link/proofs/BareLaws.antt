@@ -14,7 +14,7 @@ use Rattle.link_rules.specs.declared.fault.LinkFault.{LinkFault}
 use Rattle.link_rules.specs.declared.fault.LinkFault.TheVariants as faults
 use Rattle.link_rules.specs.declared.fault.LinkRefusal.TheVariants as refusals
 use Rattle.link_rules.specs.Bare as bare
-use Rattle.link_rules.specs.Refusals.{IsTaken, IsWireFault, IsFirstWireFault, net_limit}
+use Rattle.link_rules.specs.Refusals.{IsAcceptedWire, IsWireFault, IsFirstWireFault, net_limit}
 use Rattle.link_rules.specs.Wires.{wire_of, nodes_of, tree_of}
 use Rattle.link_pins.specs.Joined.{without_arcs}
 use Rattle.link_wires.specs.declared.wire.NetWire.{NetWire}
@@ -45,13 +45,13 @@ each_mapped f P Q h [] all = tt
 each_mapped f P Q h (x ∷ xs) all = (h x all.0, each_mapped f P Q h xs all.1)
 
 module _ (netlist : Netlist) (parasitics : Parasitics) where
-  faultless_same : (n : bare.Numbered) → IsTaken netlist parasitics (bare_number n) → IsTaken netlist parasitics n
+  faultless_same : (n : bare.Numbered) → IsAcceptedWire netlist parasitics (bare_number n) → IsAcceptedWire netlist parasitics n
   unfolding wire_of nodes_of tree_of net_limit
   faultless_same n h = record { limit = h.limit; wire = h.wire }
 
   wire_same : (n : bare.Numbered) (w : NetWire) → IsWireOf netlist parasitics (bare_number n) w → IsWireOf netlist parasitics n w
   unfolding wire_of nodes_of tree_of
-  wire_same n w h = record { couplings = h.couplings; tree = h.tree; taken = faultless_same n h.taken }
+  wire_same n w h = record { couplings = h.couplings; tree = h.tree; accepted = faultless_same n h.accepted }
 
   pub wires_same : (ns : List bare.Numbered) (ws : List NetWire) → AreWires netlist parasitics (map bare_number ns) ws → AreWires netlist parasitics ns ws
   wires_same ns ws are = record {
@@ -77,10 +77,10 @@ module _ (netlist : Netlist) (parasitics : Parasitics) where
     place = h.place;
     at = some_mapped bare_number (λ n. IsWireFault netlist parasitics n fault) (λ n. IsWireFault netlist parasitics n fault) (fault_same fault) ns h.place h.at;
     before =
-        All-from_recursion (IsTaken netlist parasitics) (take h.place ns)
-        (each_mapped bare_number (IsTaken netlist parasitics) (IsTaken netlist parasitics) faultless_same (take h.place ns)
-        (recursion_from_All (IsTaken netlist parasitics) (map bare_number (take h.place ns))
-        (subst (All (IsTaken netlist parasitics)) (take-map bare_number h.place ns) h.before)));
+        All-from_recursion (IsAcceptedWire netlist parasitics) (take h.place ns)
+        (each_mapped bare_number (IsAcceptedWire netlist parasitics) (IsAcceptedWire netlist parasitics) faultless_same (take h.place ns)
+        (recursion_from_All (IsAcceptedWire netlist parasitics) (map bare_number (take h.place ns))
+        (subst (All (IsAcceptedWire netlist parasitics)) (take-map bare_number h.place ns) h.before)));
   }
 
   pub first_same : (fault : LinkFault) (ns : List bare.Numbered) → IsFirstFault netlist parasitics (map bare_number ns) fault → IsFirstFault netlist parasitics ns fault

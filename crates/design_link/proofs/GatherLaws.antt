@@ -16,8 +16,8 @@ use Rattle.link_rules.specs.declared.fault.LinkFault.{LinkFault}
 use Rattle.link_rules.specs.Bare.{Inputs, bare_parts}
 use Rattle.link_rules.specs.Bare as bare
 use Rattle.link_rules.specs.Limits.{or_fault, passed, count_fault, size_fault}
-use Rattle.link_rules.specs.Link.{Links, ArePinsTaken, AreWiresTaken}
-use Rattle.link_rules.specs.Refusals.{instance_fault, driver_fault, IsTaken}
+use Rattle.link_rules.specs.Link.{Links, HasAcceptedPins, HasAcceptedWires}
+use Rattle.link_rules.specs.Refusals.{instance_fault, driver_fault, IsAcceptedWire}
 use Rattle.link_rules.specs.Sound.{IsSoundLibrary, IsSoundNetlist, AreSoundConstraints}
 use Rattle.link_pins.specs.declared.counts.Counts.{Counts}
 use Rattle.link_pins.specs.declared.joined.Joined.{Joined}
@@ -37,16 +37,16 @@ use Rattle.design_link.proofs.SizeLaws.{sizes_are}
 use Rattle.design_link.proofs.StageLaws.{found_first, found_behind, reads_last, sizes_same}
 
 module _ (netlist : Netlist) (parasitics : Parasitics) where
-  taken_by : (ns : List bare.Numbered) (ws : List NetWire) → length ws ≡ length ns
+  accepted_by : (ns : List bare.Numbered) (ws : List NetWire) → length ws ≡ length ns
       → ((i : ℕ) (n : bare.Numbered) (w : NetWire) → slice_get ns i ≡ Some n → slice_get ws i ≡ Some w → IsWireOf netlist parasitics n w)
-      → AllByRecursion (IsTaken netlist parasitics) ns
-  taken_by [] ws a all = tt
-  taken_by (n ∷ ns) [] a all = absurd (omega (arith, a))
-  taken_by (n ∷ ns) (w ∷ ws) a all = ((all 0 n w refl refl).taken, taken_by ns ws (omega (arith, a)) (λ i. all (suc i)))
+      → AllByRecursion (IsAcceptedWire netlist parasitics) ns
+  accepted_by [] ws a all = tt
+  accepted_by (n ∷ ns) [] a all = absurd (omega (arith, a))
+  accepted_by (n ∷ ns) (w ∷ ws) a all = ((all 0 n w refl refl).accepted, accepted_by ns ws (omega (arith, a)) (λ i. all (suc i)))
 
 -- nothing is refused up to the pins of nets
-pub pins_taken : (x : Inputs) → count_fault x.netlist ≡ None → instance_fault x.library x.netlist ≡ None → driver_fault x.library x.netlist ≡ None → ArePinsTaken x
-pins_taken x counts instances drivers = record { counts = counts; instances = instances; drivers = drivers }
+pub pins_accepted : (x : Inputs) → count_fault x.netlist ≡ None → instance_fault x.library x.netlist ≡ None → driver_fault x.library x.netlist ≡ None → HasAcceptedPins x
+pins_accepted x counts instances drivers = record { counts = counts; instances = instances; drivers = drivers }
 
 bare_quantities : (ps : List NetPins) → AllByRecursion HasSinkQuantities ps → AllByRecursion HasSinkQuantities (map without_arcs ps)
 bare_quantities [] all = tt
@@ -74,7 +74,7 @@ module _ (x : Inputs) (j : Joined) (slice : List NetPins) (is_slice : slice ≡ 
   numbers : enumerate_from 0 slice ≡ map bare_number (bare.numbered x)
   numbers = ap (enumerate_from 0) slice_is ∙ numbered_bare 0 (bare.circuit x).nets
 
-  module _ (pins : ArePinsTaken x) where
+  module _ (pins : HasAcceptedPins x) where
     -- the fault of a wire
     pub wires_stop : (fault : LinkFault) → IsFirstFault x.netlist x.parasitics (enumerate_from 0 slice) fault → Links x (Err fault)
     wires_stop fault h =
@@ -88,10 +88,10 @@ module _ (x : Inputs) (j : Joined) (slice : List NetPins) (is_slice : slice ≡ 
       are =
           wires_same x.netlist x.parasitics (bare.numbered x) ws (subst (λ ns. AreWires x.netlist x.parasitics ns ws) numbers wired)
 
-      taken : AreWiresTaken x
-      taken = record {
+      accepted : HasAcceptedWires x
+      accepted = record {
         pins = pins;
-        wires = All-from_recursion (IsTaken x.netlist x.parasitics) (bare.numbered x) (taken_by x.netlist x.parasitics (bare.numbered x) ws are.count are.each);
+        wires = All-from_recursion (IsAcceptedWire x.netlist x.parasitics) (bare.numbered x) (accepted_by x.netlist x.parasitics (bare.numbered x) ws are.count are.each);
       }
 
       count : length ws ≡ length (bare.circuit x).nets
@@ -120,7 +120,7 @@ module _ (x : Inputs) (j : Joined) (slice : List NetPins) (is_slice : slice ≡ 
             sym (sizes_are x ws are) ∙ (reads_last parts ∙ ap (λ o. or_fault o (reads_fault parts)) (sym same))
 
         pub sizes_stop : (fault : LinkFault) → IsFound early fault → Links x (Err fault)
-        sizes_stop fault h = sizes_refused x taken fault (subst (λ o. IsFound o fault) (sym whole) (found_first early (reads_fault parts) fault h))
+        sizes_stop fault h = sizes_refused x accepted fault (subst (λ o. IsFound o fault) (sym whole) (found_first early (reads_fault parts) fault h))
 
         module _ (none : early ≡ None) where
           pub few_arcs : arcs_sum (bare.circuit x).nets ≤ most_arcs
@@ -150,11 +150,11 @@ module _ (x : Inputs) (j : Joined) (slice : List NetPins) (is_slice : slice ≡ 
 
               pub reads_stop : (fault : LinkFault) → ((d : Parts) → d.nets ≡ plain_nets nets late → IsFound (reads_fault d) fault) → Links x (Err fault)
               reads_stop fault h =
-                  sizes_refused x taken fault (subst (λ o. IsFound o fault) (sym whole) (found_behind early (reads_fault parts) fault none (h parts read_of)))
+                  sizes_refused x accepted fault (subst (λ o. IsFound o fault) (sym whole) (found_behind early (reads_fault parts) fault none (h parts read_of)))
 
               pub gathered : ((d : Parts) → d.nets ≡ plain_nets nets late → reads_fault d ≡ None) → (g : Gathered) → g.circuit ≡ c → g.wires.items ≡ ws → IsGathered x g
               gathered reads g a b = record {
-                taken = taken;
+                accepted = accepted;
                 sizes = whole ∙ (ap (λ o. or_fault o (reads_fault parts)) none ∙ reads parts read_of);
                 circuit = a ∙ circuit;
                 wires = subst (AreWires x.netlist x.parasitics (bare.numbered x)) (sym b) are;

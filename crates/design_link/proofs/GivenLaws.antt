@@ -23,10 +23,10 @@ record IsSpan (low high : ℤ) (s : ℤ × ℤ) : Type 0 where
   least : low ≤ℤ s.0
   most : s.1 ≤ℤ high
 
-abbrev Between : ℤ → ℤ → Option ℤ → Type 0
-Between low high o = IfSome o (λ x. (low ≤ℤ x) × (x ≤ℤ high))
+abbrev IsBetweenIfSome : ℤ → ℤ → Option ℤ → Type 0
+IsBetweenIfSome low high o = IfSome o (λ x. (low ≤ℤ x) × (x ≤ℤ high))
 
-span_is : (low high : ℤ) (a b : Option ℤ) → Between low high a → Between low high b → IfSome (span_of a b) (IsSpan low high)
+span_is : (low high : ℤ) (a b : Option ℤ) → IsBetweenIfSome low high a → IsBetweenIfSome low high b → IfSome (span_of a b) (IsSpan low high)
 span_is low high None None h k = tt
 span_is low high (Some a) None h k = record { order = omega (arith, ints); least = h.0; most = h.1 }
 span_is low high None (Some b) h k = record { order = omega (arith, ints); least = k.0; most = k.1 }

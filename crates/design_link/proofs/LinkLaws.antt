@@ -19,7 +19,7 @@ use Rattle.link_rules.specs.Bits.{Bit, bits}
 use Rattle.link_rules.specs.Circuit.{Numbered, numbered, load_in, pin_sink, port_sinks, sinks_of, net_pins, circuit_of}
 use Rattle.xt_model.specs.Limits.{most_nets, most_instances}
 use Rattle.link_rules.specs.Limits.{passed, count_fault, size_fault}
-use Rattle.link_rules.specs.Link.{Links, ArePinsTaken, AreWiresTaken}
+use Rattle.link_rules.specs.Link.{Links, HasAcceptedPins, HasAcceptedWires}
 use Rattle.link_rules.specs.Pins.{Connected, inputs_on}
 use Rattle.link_rules.specs.Refusals.{instance_fault, driver_fault}
 use Rattle.link_rules.specs.Sound.{IsQuantity, IsSoundLibrary, IsSoundNetlist, AreSoundConstraints}
@@ -49,12 +49,12 @@ module _ (x : Inputs) where
       drivers_refused (faults.Refused r) h = inr (inr (inl (record { counts = counts; instances = instances; here = h })))
       drivers_refused (faults.Limit what name value) h = inr (inr (inl (record { counts = counts; instances = instances; here = h })))
 
-  pub wires_refused : ArePinsTaken x → (fault : LinkFault) → IsFirstFault x.netlist x.parasitics (bare.numbered x) fault → Links x (Err fault)
+  pub wires_refused : HasAcceptedPins x → (fault : LinkFault) → IsFirstFault x.netlist x.parasitics (bare.numbered x) fault → Links x (Err fault)
   wires_refused pins faults.NoMemory h = tt
   wires_refused pins (faults.Refused r) h = inr (inr (inr (inl (record { pins = pins; here = h }))))
   wires_refused pins (faults.Limit what name value) h = inr (inr (inr (inl (record { pins = pins; here = h }))))
 
-  pub sizes_refused : AreWiresTaken x → (fault : LinkFault) → IsFound (size_fault (bare_parts x)) fault → Links x (Err fault)
+  pub sizes_refused : HasAcceptedWires x → (fault : LinkFault) → IsFound (size_fault (bare_parts x)) fault → Links x (Err fault)
   sizes_refused wires faults.NoMemory h = tt
   sizes_refused wires (faults.Refused r) h = inr (inr (inr (inr (inl (record { wires = wires; here = h })))))
   sizes_refused wires (faults.Limit what name value) h = inr (inr (inr (inr (inl (record { wires = wires; here = h })))))

@@ -34,10 +34,10 @@ use Rattle.design_link.specs.Nets.{FitAll, AreMade}
 use Rattle.design_link.proofs.Lists.{length-numbered, there, within, each_by}
 use Rattle.design_link.proofs.MadeLaws.{AreFormed, nets_formed, wires_fit}
 use Rattle.design_link.proofs.NameLaws.{IsKept, names_bare, names_filled, names_same, kept_names, kept_few}
-use Rattle.design_link.proofs.SoundDesigns.{AreSoundInputs, sizes_kept, design, design_sound, checks_sound, levelled, told, linked_is, points_are}
+use Rattle.design_link.proofs.SoundDesigns.{AreSoundInputs, sizes_kept, design, design_sound, checks_sound, levelled, first_loop, linked_is, points_are}
 use Rattle.design_link.proofs.SoundDesigns as designs
 
--- values of which wires and sizes are taken, with their wires
+-- values of which wires and sizes are accepted, with their wires
 module _ (x : Inputs) (g : Gathered) (is : IsGathered x g) where
   count : length g.wires.items ≡ length (bare.circuit x).nets
   count = is.wires.count ∙ length-numbered 0 (bare.circuit x).nets
@@ -75,7 +75,7 @@ module _ (x : Inputs) (g : Gathered) (is : IsGathered x g) where
     bare_named = names_bare x.library x.netlist x.parasitics x.constraints 0 0 (bits x.netlist.nets)
 
     whole_named : HaveNamesOf x.netlist whole
-    whole_named = names_filled (bare_nets x) forms (designs.fit x forms [] is.taken formed.are) ∙ bare_named
+    whole_named = names_filled (bare_nets x) forms (designs.fit x forms [] is.accepted formed.are) ∙ bare_named
 
     pub named : HaveNamesOf x.netlist nets
     named = ap (map (λ (n : Net). n.name)) nets_is ∙ whole_named
@@ -85,9 +85,9 @@ module _ (x : Inputs) (g : Gathered) (is : IsGathered x g) where
     whole_refused faults.NoMemory h = tt
     whole_refused (faults.Refused (refusals.K4 names)) h =
         inr (inr (inr (inr (inr (inl (record {
-          wires = is.taken;
+          wires = is.accepted;
           sizes = is.sizes;
-          here = (h.0, told x forms [] is.taken formed.are h.0 h.1, h.2 ∙ names_same x.netlist whole (bare_nets x) whole_named bare_named h.0);
+          here = (h.0, first_loop x forms [] is.accepted formed.are h.0 h.1, h.2 ∙ names_same x.netlist whole (bare_nets x) whole_named bare_named h.0);
         }))))))
     whole_refused (faults.Refused (refusals.K1 a b)) h = absurd h
     whole_refused (faults.Refused (refusals.K2 a b)) h = absurd h
@@ -102,7 +102,7 @@ module _ (x : Inputs) (g : Gathered) (is : IsGathered x g) where
     loop_refused f h = whole_refused f (subst (λ ns. IsLoopOf ns f) nets_is h)
 
     bare_levelled : AreLevelled nets → AreLevelled (bare_nets x)
-    bare_levelled h = levelled x forms [] is.taken formed.are (subst AreLevelled nets_is h)
+    bare_levelled h = levelled x forms [] is.accepted formed.are (subst AreLevelled nets_is h)
 
     -- the design by its parts
     design_is : (points : List CheckPoint) (period : Option ℤ) (ts : List Table) (cs : List CheckPoint) → period ≡ option_map (λ (k : Clock). k.period) x.constraints.clock
@@ -125,7 +125,7 @@ module _ (x : Inputs) (g : Gathered) (is : IsGathered x g) where
 
       pub linked : (r : Result Parts LinkFault) → Builds (classical_parts period ts nets cs) r → Links x r
       linked (Ok d) h = record {
-        wires = is.taken;
+        wires = is.accepted;
         sizes = is.sizes;
         levels = bare_levelled h.1;
         clock = clock_kept;
@@ -146,9 +146,9 @@ module _ (x : Inputs) (g : Gathered) (is : IsGathered x g) where
       pub unclocked_refused : AreLevelled nets → (f : LinkFault) → IsFound (unclocked cs) f → Links x (Err f)
       unclocked_refused levels faults.NoMemory h = tt
       unclocked_refused levels (faults.Refused r) h =
-          inr (inr (inr (inr (inr (inr (record { wires = is.taken; sizes = is.sizes; levels = bare_levelled levels; here = no_clock clock ∙ (ap unclocked (sym is_checks) ∙ h) }))))))
+          inr (inr (inr (inr (inr (inr (record { wires = is.accepted; sizes = is.sizes; levels = bare_levelled levels; here = no_clock clock ∙ (ap unclocked (sym is_checks) ∙ h) }))))))
       unclocked_refused levels (faults.Limit what name value) h =
-          inr (inr (inr (inr (inr (inr (record { wires = is.taken; sizes = is.sizes; levels = bare_levelled levels; here = no_clock clock ∙ (ap unclocked (sym is_checks) ∙ h) }))))))
+          inr (inr (inr (inr (inr (inr (record { wires = is.accepted; sizes = is.sizes; levels = bare_levelled levels; here = no_clock clock ∙ (ap unclocked (sym is_checks) ∙ h) }))))))
 
       module _ (ts : List Table) (is_tables : ts ≡ x.library.tables) (points : List CheckPoint) (no_checks : points ≡ []) where
         pub unclocked_is : classical_parts None ts nets points ≡ design x forms []
@@ -158,7 +158,7 @@ module _ (x : Inputs) (g : Gathered) (is : IsGathered x g) where
         linked_unclocked d h none =
             let all : unclocked (bare.circuit x).checks ≡ None = ap unclocked (sym is_checks) ∙ none in
             record {
-              wires = is.taken;
+              wires = is.accepted;
               sizes = is.sizes;
               levels = bare_levelled h.1;
               clock = no_clock clock ∙ all;
@@ -201,7 +201,7 @@ module _ (x : Inputs) (g : Gathered) (is : IsGathered x g) where
 
       all_checks : AllByRecursion (IsSoundCheck (design x forms (bare.circuit x).checks)) (bare.circuit x).checks
       all_checks = subst (AllByRecursion (IsSoundCheck (design x forms (bare.circuit x).checks))) (sym (points_are x))
-          (checks_sound x forms (bare.circuit x).checks is.taken formed.are sound_inputs)
+          (checks_sound x forms (bare.circuit x).checks is.accepted formed.are sound_inputs)
 
       clock_there : (o : Option Clock) (c : Clock) → o ≡ Some c → IsSome (option_map (λ (k : Clock). k.period) o)
       clock_there o c e = subst (λ p. IsSome (option_map (λ (k : Clock). k.period) p)) (sym e) refl
@@ -209,11 +209,11 @@ module _ (x : Inputs) (g : Gathered) (is : IsGathered x g) where
       pub clocked_sound : (c : Clock) → x.constraints.clock ≡ Some c → (d : Parts) → d ≡ design x forms (bare.circuit x).checks → IsSound d
       clocked_sound c e d same =
           subst IsSound (sym same)
-          (design_sound x forms (bare.circuit x).checks is.taken formed.are sound_inputs is.sizes all_checks few_checks (λ some. clock_there x.constraints.clock c e))
+          (design_sound x forms (bare.circuit x).checks is.accepted formed.are sound_inputs is.sizes all_checks few_checks (λ some. clock_there x.constraints.clock c e))
 
       pub unclocked_sound : (d : Parts) → d ≡ design x forms [] → IsSound d
       unclocked_sound d same =
-          subst IsSound (sym same) (design_sound x forms [] is.taken formed.are sound_inputs is.sizes tt (omega arith) (λ some. absurd (omega (arith, some))))
+          subst IsSound (sym same) (design_sound x forms [] is.accepted formed.are sound_inputs is.sizes tt (omega arith) (λ some. absurd (omega (arith, some))))
 
 -- the period of a clock fits 64 bits
 pub period_kept : (constraints : Constraints) (c : Clock) → AreSoundConstraints constraints → constraints.clock ≡ Some c → Some (to_z w64 (of_z w64 c.period)) ≡ Some c.period

@@ -4,7 +4,7 @@ use Rattle.std.specs.List.{slice_get, Contains}
 use Rattle.std.proofs.Common.{sym, ap, ◌∙◌, subst}
 use Rattle.xt_model.specs.declared.net.Net.{Net}
 use Rattle.xt_model.specs.Levels.{level_from, AreLevels, AreLevelled, Reads}
-use Rattle.xt_model.specs.Loops.{IsInput, IsEndless, IsLeastEndless, IsFirstEndless, GoesTo, IsWalkBack, IsToldLoop}
+use Rattle.xt_model.specs.Loops.{IsInput, IsEndless, IsLeastEndless, IsFirstEndless, GoesTo, IsWalkBack, IsFirstLoop}
 use Rattle.elmore_tree.specs.declared.form.WireForm.{WireForm}
 use Rattle.link_rules.specs.Bare.{filled_nets}
 use Rattle.design_link.proofs.FillLaws.{Fit}
@@ -79,5 +79,5 @@ module _ (xs ys : List Net) (same : HaveSameArcs xs ys) where
     returns = goes_in _ _ h.returns;
   }
 
-  pub told_in : (loop : List ℕ) → IsToldLoop xs loop → IsToldLoop ys loop
-  told_in loop h = (h.0, h.1, walk_in h.0 h.1 h.2, h.3)
+  pub first_loop_in : (loop : List ℕ) → IsFirstLoop xs loop → IsFirstLoop ys loop
+  first_loop_in loop h = (h.0, h.1, walk_in h.0 h.1 h.2, h.3)

@@ -10,7 +10,7 @@ use Rattle.xt_model.specs.declared.net.Net.{Net}
 use Rattle.verilog_net.specs.declared.netlist.Netlist.{Netlist}
 use Rattle.spef_read.specs.declared.parasitics.Parasitics.{Parasitics}
 use Rattle.elmore_tree.specs.declared.form.WireForm.{WireForm}
-use Rattle.elmore_tree.specs.Forms.{IsFormOf, IsTakenTree}
+use Rattle.elmore_tree.specs.Forms.{IsFormOf, IsAcceptedTree}
 use Rattle.elmore_tree.specs.Sums.{SinkSums, IsSinkSums}
 use Rattle.elmore_tree.specs.Trees.{ground_sum}
 use Rattle.link_rules.specs.declared.circuit.Sink.{Sink}
@@ -89,7 +89,7 @@ module _ (netlist : Netlist) (parasitics : Parasitics) where
       let same : q ≡ p = cc in
       let h = all 0 (k, q) w refl y in
       record {
-        taken = subst IsTakenTree (sym h.tree) h.taken.wire;
+        accepted = subst IsAcceptedTree (sym h.tree) h.accepted.wire;
         sinks = ap (λ t. length t.sinks) h.tree ∙ (sinks_length netlist parasitics (k, q) ∙ ap (λ r. length r.sinks) same);
       }
   wires_fit (q ∷ ps) (v ∷ ws) k a all (suc i) p w x y = wires_fit ps ws (k + 1) (omega (arith, a)) (λ j. all (suc j)) i p w x y

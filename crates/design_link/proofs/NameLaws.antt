@@ -6,7 +6,7 @@ use Rattle.std.proofs.lemmas.Bool.{ltb-true, ltb-false}
 use Rattle.std.proofs.lemmas.List.Elements.{All-from_recursion}
 use Rattle.xt_model.specs.declared.net.Net.{Net}
 use Rattle.xt_model.specs.declared.net.NetId.{NetId}
-use Rattle.xt_model.specs.Loops.{IsWalkBack, IsToldLoop}
+use Rattle.xt_model.specs.Loops.{IsWalkBack, IsFirstLoop}
 use Rattle.xt_model.specs.Names.{IsName}
 use Rattle.verilog_net.specs.declared.netlist.Netlist.{Netlist}
 use Rattle.liberty_cells.specs.declared.library.Library.{Library}
@@ -72,21 +72,21 @@ module _ (nets : List Net) where
       (subst (λ k. k < length nets) (sym first) (each 0 (omega arith)), all_by ids walk 0 (λ i lt. each (suc i) (omega (arith, lt))) rest)
   all_by (n ∷ ids) (a ∷ walk) (suc back) each e = all_by (n ∷ ids) walk back (λ i lt. each (suc i) (omega (arith, lt))) e
 
-  loop_there : (ids : List NetId) → IsToldLoop nets (map (λ (n : NetId). n.0) ids) → All (λ (n : NetId). n.0 < length nets) ids
-  loop_there ids told =
+  loop_there : (ids : List NetId) → IsFirstLoop nets (map (λ (n : NetId). n.0) ids) → All (λ (n : NetId). n.0 < length nets) ids
+  loop_there ids first_loop =
       All-from_recursion (λ (n : NetId). n.0 < length nets) ids
-      (all_by ids told.0 told.1 (λ i lt. goer_there told.0 told.1 i told.2 lt) told.3)
+      (all_by ids first_loop.0 first_loop.1 (λ i lt. goer_there first_loop.0 first_loop.1 i first_loop.2 lt) first_loop.3)
 
 count_same : (netlist : Netlist) (ns : List Net) → HaveNamesOf netlist ns → length ns ≡ length (bits netlist.nets)
 count_same netlist ns e = sym (length-mapped (λ (n : Net). n.name) ns) ∙ (ap length e ∙ length-mapped (λ (b : Bit). b.name) (bits netlist.nets))
 
-pub all_there : (netlist : Netlist) (ns : List Net) (ids : List NetId) → HaveNamesOf netlist ns → IsToldLoop ns (map (λ (n : NetId). n.0) ids)
+pub all_there : (netlist : Netlist) (ns : List Net) (ids : List NetId) → HaveNamesOf netlist ns → IsFirstLoop ns (map (λ (n : NetId). n.0) ids)
     → All (λ (n : NetId). n.0 < length (bits netlist.nets)) ids
-all_there netlist ns ids e told = subst (λ k. All (λ (n : NetId). n.0 < k) ids) (count_same netlist ns e) (loop_there ns ids told)
+all_there netlist ns ids e first_loop = subst (λ k. All (λ (n : NetId). n.0 < k) ids) (count_same netlist ns e) (loop_there ns ids first_loop)
 
--- a loop that is told, as a slice
-pub told_by : (ns ms : List Net) (ids slice : List NetId) → ns ≡ ms → slice ≡ ids → IsToldLoop ns (map (λ (n : NetId). n.0) ids) → IsToldLoop ms (map (λ (n : NetId). n.0) slice)
-told_by ns ms ids slice a b told = subst (λ k. IsToldLoop k (map (λ (n : NetId). n.0) slice)) a (subst (λ k. IsToldLoop ns (map (λ (n : NetId). n.0) k)) (sym b) told)
+-- the first loop, as a slice
+pub first_loop_of_same : (ns ms : List Net) (ids slice : List NetId) → ns ≡ ms → slice ≡ ids → IsFirstLoop ns (map (λ (n : NetId). n.0) ids) → IsFirstLoop ms (map (λ (n : NetId). n.0) slice)
+first_loop_of_same ns ms ids slice a b first_loop = subst (λ k. IsFirstLoop k (map (λ (n : NetId). n.0) slice)) a (subst (λ k. IsFirstLoop ns (map (λ (n : NetId). n.0) k)) (sym b) first_loop)
 
 -- ---- the nets before and after their forms are filled in
 pub names_filled : (ms : List Net) (fs : List WireForm) → Fit ms fs → map (λ (n : Net). n.name) (filled_nets ms fs) ≡ map (λ (n : Net). n.name) ms

@@ -47,9 +47,9 @@ use Rattle.link_rules.specs.Ends.{sink_name}
 use Rattle.link_rules.specs.Arcs.{pin_arcs, arcs_of}
 use Rattle.link_rules.specs.Given.{quiet_pair, given_by, given_of}
 use Rattle.link_rules.specs.Limits.{or_fault, passed, count_fault, size_fault}
-use Rattle.link_rules.specs.Link.{AreForms, AreWiresTaken}
+use Rattle.link_rules.specs.Link.{AreForms, HasAcceptedWires}
 use Rattle.link_rules.specs.Pins.{Connected, end_of, inputs_on, outputs_on}
-use Rattle.link_rules.specs.Refusals.{drivers_fault, driver_fault, IsTaken}
+use Rattle.link_rules.specs.Refusals.{drivers_fault, driver_fault, IsAcceptedWire}
 use Rattle.link_rules.specs.Sound.{IsSoundLibrary, IsSoundNetlist, AreSoundParasitics, IsSoundClock, AreSoundConstraints}
 use Rattle.link_rules.specs.Wires.{couplings_of, tree_of}
 use Rattle.design_link.proofs.Lists.{each-append, each-weaker, each_at, there, within, numbered_at, length-numbered, mapped_at, length-mapped}
@@ -57,8 +57,8 @@ use Rattle.design_link.proofs.GivenLaws.{all_given}
 use Rattle.design_link.proofs.PinLaws.{joined_name, IsOn, IsSinkAt, IsArcOn, inputs_are, arcs_are, IsFlopOn, flops_are, IsPortSink, IsPortOn, ports_are}
 use Rattle.design_link.proofs.CoupleLaws.{caps_are, IsCoupling, couplings_by, sums_agree, counts_agree, both_kept, kept, load_kept}
 use Rattle.xt_model.specs.Levels.{AreLevelled}
-use Rattle.xt_model.specs.Loops.{IsToldLoop}
-use Rattle.design_link.proofs.LoopLaws.{HaveSameArcs, same_arcs, levelled_in, told_in}
+use Rattle.xt_model.specs.Loops.{IsFirstLoop}
+use Rattle.design_link.proofs.LoopLaws.{HaveSameArcs, same_arcs, levelled_in, first_loop_in}
 use Rattle.design_link.proofs.FillLaws.{AreSums, length-filled_sinks, sinks_sound, filled_at, length-filled_nets, Fit, fit_by, sum_filled, coefficients_kept, all_reads, couplings_kept}
 
 -- ---- one driver at most
@@ -159,7 +159,7 @@ module _ (netlist : Netlist) (parasitics : Parasitics) (n : bare.Numbered) where
   forms_sums form f h = let by = f.sums f.paths.0 f.paths.1 in sums_by f.paths.0 (bare.tree netlist parasitics n).sinks form.sinks by.sinks h
 
   -- the load of a net
-  load_most : IsTaken netlist parasitics n → ground_sum (bare.tree netlist parasitics n).ground + 2 * tap_sum (bare.tree netlist parasitics n).taps ≤ 2 ^ 46
+  load_most : IsAcceptedWire netlist parasitics n → ground_sum (bare.tree netlist parasitics n).ground + 2 * tap_sum (bare.tree netlist parasitics n).taps ≤ 2 ^ 46
   load_most t = load_kept netlist parasitics n t.limit
 
   module _ (sound : AreSoundParasitics parasitics) where
@@ -211,12 +211,12 @@ module _ (x : Inputs) (forms : List WireForm) (points : List CheckPoint) where
     bit_at : slice_get (bits x.netlist.nets) i ≡ Some bit
     form : WireForm
     formed : IsFormOf (bare.tree x.netlist x.parasitics (i, pins i bit)) form
-    taken : IsTaken x.netlist x.parasitics (i, pins i bit)
+    accepted : IsAcceptedWire x.netlist x.parasitics (i, pins i bit)
     form_at : slice_get forms i ≡ Some form
     driven : length (drivers_of x.library x.netlist (i, bit)) ≤ 1
     is : n ≡ record (bare_net x.netlist x.parasitics (i, pins i bit)) { sinks = filled_sinks (bare_net x.netlist x.parasitics (i, pins i bit)).sinks form.sinks }
 
-  module _ (wires : AreWiresTaken x) (formed : AreForms x.netlist x.parasitics (bare.numbered x) forms) where
+  module _ (wires : HasAcceptedWires x) (formed : AreForms x.netlist x.parasitics (bare.numbered x) forms) where
     -- a numbered net by its bit
     record IsNumberedBy (i : ℕ) (q : bare.Numbered) : Type 0 where
       bit : Bit
@@ -262,14 +262,14 @@ module _ (x : Inputs) (forms : List WireForm) (points : List CheckPoint) where
     net_by i n m q f qe fe same is =
         let h = numbered_by i q qe in
         let form = formed.each i q f qe fe in
-        let taken = each_at (IsTaken x.netlist x.parasitics) (bare.numbered x) i q (recursion_from_All (IsTaken x.netlist x.parasitics) (bare.numbered x) wires.wires) qe in
+        let accepted = each_at (IsAcceptedWire x.netlist x.parasitics) (bare.numbered x) i q (recursion_from_All (IsAcceptedWire x.netlist x.parasitics) (bare.numbered x) wires.wires) qe in
         let fill : Net → Net = λ k. record k { sinks = filled_sinks k.sinks f.sinks } in
         record {
           bit = h.bit;
           bit_at = h.bit_at;
           form = f;
           formed = subst (λ k. IsFormOf (bare.tree x.netlist x.parasitics k) f) h.is form;
-          taken = subst (IsTaken x.netlist x.parasitics) h.is taken;
+          accepted = subst (IsAcceptedWire x.netlist x.parasitics) h.is accepted;
           form_at = fe;
           driven = h.driven;
           is = is ∙ (ap fill (sym same) ∙ ap (λ k. fill (bare_net x.netlist x.parasitics k)) h.is);
@@ -384,14 +384,14 @@ module _ (x : Inputs) (forms : List WireForm) (points : List CheckPoint) where
       cap_is g t le = record { least = omega (arith, ints); most = omega (arith, ints, le) }
 
       bare_sound : (i : ℕ) (b : Bit) (f : WireForm) → slice_get (bits x.netlist.nets) i ≡ Some b → IsFormOf (bare.tree x.netlist x.parasitics (i, pins i b)) f
-          → IsTaken x.netlist x.parasitics (i, pins i b) → AllByRecursion IsSinkSums f.sinks → length (drivers_of x.library x.netlist (i, b)) ≤ 1
+          → IsAcceptedWire x.netlist x.parasitics (i, pins i b) → AllByRecursion IsSinkSums f.sinks → length (drivers_of x.library x.netlist (i, b)) ≤ 1
           → length (filled_sinks (bare_net x.netlist x.parasitics (i, pins i b)).sinks f.sinks) < 2 ^ 32
           → IsSoundNet design i (record (bare_net x.netlist x.parasitics (i, pins i b)) { sinks = filled_sinks (bare_net x.netlist x.parasitics (i, pins i b)).sinks f.sinks })
       unfolding bare_net net_pins given_of arcs_of
-      bare_sound i b f at formed' taken sums driven few =
+      bare_sound i b f at formed' accepted sums driven few =
           let n : bare.Numbered = (i, pins i b) in
           let given = all_given x.constraints b sound.constraints sound.ports in
-          let most = load_most x.netlist x.parasitics n taken in
+          let most = load_most x.netlist x.parasitics n accepted in
           record {
             name = bit_named i b at;
             load = cap_is (ground_sum (bare.tree x.netlist x.parasitics n).ground) (tap_sum (bare.tree x.netlist x.parasitics n).taps) most;
@@ -418,7 +418,7 @@ module _ (x : Inputs) (forms : List WireForm) (points : List CheckPoint) where
           let few = sound.few i h.bit h.bit_at in
           let sinks = ap (λ k. length k.sinks) h.is in
           subst (λ k. IsSoundNet design i k) (sym h.is)
-          (bare_sound i h.bit h.form h.bit_at h.formed h.taken
+          (bare_sound i h.bit h.form h.bit_at h.formed h.accepted
           (each_at (λ f. AllByRecursion IsSinkSums f.sinks) forms i h.form sound.sums h.form_at) h.driven (omega (arith, count, few, sinks)))
 
       nets_sound : (i : ℕ) → IfSome (slice_get nets i) (IsSoundNet design i)
@@ -516,8 +516,8 @@ module _ (x : Inputs) (forms : List WireForm) (points : List CheckPoint) where
     pub levelled : AreLevelled nets → AreLevelled (bare_nets x)
     levelled = levelled_in nets (bare_nets x) arcs_same (length-filled_nets (bare_nets x) forms forms_length)
 
-    pub told : (loop : List ℕ) → IsToldLoop nets loop → IsToldLoop (bare_nets x) loop
-    told = told_in nets (bare_nets x) arcs_same
+    pub first_loop : (loop : List ℕ) → IsFirstLoop nets loop → IsFirstLoop (bare_nets x) loop
+    first_loop = first_loop_in nets (bare_nets x) arcs_same
 
 -- the design with all check points is the one that is defined
 pub linked_is : (x : Inputs) (forms : List WireForm) → design x forms (bare.circuit x).checks ≡ parts_with x forms

@@ -2,13 +2,13 @@
 use Rattle.std.specs.Prelude.{◌≡◌, None}
 use Rattle.link_rules.specs.Bare.{Inputs, circuit, numbered, bare_parts}
 use Rattle.link_rules.specs.Limits.{size_fault}
-use Rattle.link_rules.specs.Link.{AreWiresTaken}
+use Rattle.link_rules.specs.Link.{HasAcceptedWires}
 use Rattle.link_wires.specs.Wires.{AreWires}
 use Rattle.design_link.specs.declared.gathering.Gathered.{Gathered}
 
 -- nothing is refused up to the sizes, and what is gathered are the nets by their pins, the check points and the wires
 pub record IsGathered (x : Inputs) (g : Gathered) : Type 0 where
-  pub taken : AreWiresTaken x
+  pub accepted : HasAcceptedWires x
   pub sizes : size_fault (bare_parts x) ≡ None
   pub circuit : g.circuit ≡ circuit x
   pub wires : AreWires x.netlist x.parasitics (numbered x) g.wires.items

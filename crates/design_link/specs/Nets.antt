@@ -6,7 +6,7 @@ use Rattle.xt_model.specs.declared.net.SinkPin.{SinkPin}
 use Rattle.xt_model.specs.declared.net.Net.{Net}
 use Rattle.xt_model.specs.Names.{IsName}
 use Rattle.elmore_tree.specs.declared.form.WireForm.{WireForm}
-use Rattle.elmore_tree.specs.Forms.{IsFormOf, IsTakenTree}
+use Rattle.elmore_tree.specs.Forms.{IsFormOf, IsAcceptedTree}
 use Rattle.elmore_tree.specs.Sums.{IsSinkSums}
 use Rattle.link_rules.specs.declared.circuit.Sink.{Sink}
 use Rattle.link_rules.specs.declared.circuit.NetPins.{NetPins}
@@ -43,9 +43,9 @@ pub record IsMade (p : NetPins) (w : NetWire) (n : Net) : Type 0 where
   pub name : IsName p.name
   pub few : length p.sinks < 2 ^ 32
 
--- the wire is taken, and its tree has the net's sinks
+-- the wire is accepted, and its tree has the net's sinks
 pub record Fits (p : NetPins) (w : NetWire) : Type 0 where
-  pub taken : IsTakenTree w.tree
+  pub accepted : IsAcceptedTree w.tree
   pub sinks : length w.tree.sinks ≡ length p.sinks
 
 -- a wire that fits for each net

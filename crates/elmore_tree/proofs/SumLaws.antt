@@ -115,7 +115,7 @@ shared_with t j (i ∷ p) q once h =
           let e : i ≡ j = eqb_is i j same in
           let gone : is_on p j ≡ false = rw (← e) once.0 in
           let rest : shared t p (j ∷ q) ≡ shared t p q = shared_apart t j p q gone in
-          let taken : term t (j ∷ q) i ≡ resistance t j = ap (λ m. term t (j ∷ q) m) e ∙ ap (λ b. cond (b || is_on q j) (resistance t j) 0) (eqb_same j) in
+          let term_is : term t (j ∷ q) i ≡ resistance t j = ap (λ m. term t (j ∷ q) m) e ∙ ap (λ b. cond (b || is_on q j) (resistance t j) 0) (eqb_same j) in
           let lost : term t q i ≡ 0 = ap (λ m. term t q m) e ∙ ap (λ b. cond b (resistance t j) 0) h in
           let its : term t (i ∷ p) j ≡ resistance t j = ap (λ b. cond (b || is_on p j) (resistance t j) 0) same in
           omega arith

@@ -13,7 +13,7 @@ use Rattle.elmore_tree.specs.declared.walk.Step.{Step}
 use Rattle.elmore_tree.specs.declared.form.WireForm.{WireForm}
 use Rattle.elmore_tree.specs.Trees.{TreeParts, IsSoundTree, ground_at, ground_sum, is_needed}
 use Rattle.elmore_tree.specs.Gathering.{IsTreeWalk}
-use Rattle.elmore_tree.specs.Forms.{IsFormOf, IsTakenTree}
+use Rattle.elmore_tree.specs.Forms.{IsFormOf, IsAcceptedTree}
 use Rattle.elmore_tree.specs.Paths.{Joins, is_on, IsPath, IsJoined, is_in, resistors_in}
 use Rattle.elmore_tree.specs.Sums.{shared, sum_below, base_of, coefficient_of, ArePaths, SinkSums, sink_sums}
 use Rattle.elmore_tree.specs.Walks.{is_visited, IsGrown, IsWalked, path_of}
@@ -195,8 +195,8 @@ module _ (t : TreeParts) (steps : List Step) (w : IsTreeWalk t steps) where
   joined k h = ((part_is t w.reached steps w.walked).each k).0 (w.all.each k (w.each k ∙ h))
 
   -- the wire is a tree that reaches all
-  pub taken_is : IsTakenTree t
-  taken_is = record { tree = not_meshed t w.reached steps w.walked w.tree; reached = joined }
+  pub accepted_is : IsAcceptedTree t
+  accepted_is = record { tree = not_meshed t w.reached steps w.walked w.tree; reached = joined }
 
   pub form_is : (form : WireForm) → form.load ≡ pos (ground_sum t.ground) → form.sinks ≡ map (sink_sums t (path_of steps)) t.sinks → IsFormOf t form
   form_is form load sinks = record {

@@ -26,7 +26,7 @@ pub record IsFormOf (t : TreeParts) (form : WireForm) : Type 0 where
   pub sums : (paths : ℕ → List ℕ) → ArePaths t paths → IsFormBy t paths form
 
 -- a tree that reaches each node that has to be reached
-pub record IsTakenTree (t : TreeParts) : Type 0 where
+pub record IsAcceptedTree (t : TreeParts) : Type 0 where
   pub tree : IsMeshed t → ⊥
   pub reached : (k : ℕ) → IsTrue (is_needed t k) → IsJoined t k
 

@@ -9,7 +9,7 @@ ghost use Rattle.elmore_tree.specs.Sums.{base_of, sink_sums};
 ghost use Rattle.elmore_tree.specs.Walks.{is_visited, path_of};
 ghost use Rattle.elmore_tree.specs.Orders.{IsPreorderWalk, IsTapOrder, IsRowOf};
 ghost use Rattle.elmore_tree.specs.Gathering.{IsTreeWalk};
-ghost use Rattle.elmore_tree.specs.Forms.{IsFormOf, IsTakenTree, IsFaultOf};
+ghost use Rattle.elmore_tree.specs.Forms.{IsFormOf, IsAcceptedTree, IsFaultOf};
 
 use crate::fault::TreeFault;
 use crate::form::{SinkForm, WireForm};
@@ -120,7 +120,7 @@ fn tree_steps(alloc: Global, tree: &Tree) -> Result<Vec<Step>, TreeFault>
 /// Tests whether a wire is a tree that reaches all that hangs at it, with the faults of `coefficients`. Takes time and
 /// memory in proportion to the nodes, the resistors, the sinks and the taps.
 pub fn check(alloc: Global, tree: &Tree) -> Result<(), TreeFault>
-    ensures ok { OnOk result (IsTakenTree tree.now) }
+    ensures ok { OnOk result (IsAcceptedTree tree.now) }
     ensures fault { IfErr result (IsFaultOf tree.now) }
 {
     tree_steps(alloc, tree)?;

@@ -17,7 +17,7 @@ use Rattle.liberty_groups.specs.Library.{rest_means}
 -- behind a form that means something the text goes on
 pub goes_on : (context : Context) (ts : Tokens) (u next : Unfinished) (w : WholeForm) (rest : Tokens)
     → is_end context ≡ false → first_form (forms_in context) ts ≡ Ok (w, rest)
-    → at_line w.line (step w.said u) ≡ Ok next → rest_means context ts u ≡ rest_means w.next rest next
+    → at_line w.line (step w.item u) ≡ Ok next → rest_means context ts u ≡ rest_means w.next rest next
 goes_on context ts u next w rest here read made =
     by_form fits misfits is_end forms_in step context ts u w rest here read ∙ ap (λ m. m >>= rest_means w.next rest) made
 
@@ -28,6 +28,6 @@ refused_by f (Refused line code) m h = ap (λ r. r >>= f) h
 -- a form that is refused for what it means
 pub form_stops : (context : Context) (ts : Tokens) (u : Unfinished) (w : WholeForm) (rest : Tokens) (fault : TextFault)
     → is_end context ≡ false → first_form (forms_in context) ts ≡ Ok (w, rest)
-    → IsRefusal fault (at_line w.line (step w.said u)) → IsRefusal fault (rest_means context ts u)
+    → IsRefusal fault (at_line w.line (step w.item u)) → IsRefusal fault (rest_means context ts u)
 form_stops context ts u w rest fault here read h =
-    rw (by_form fits misfits is_end forms_in step context ts u w rest here read) (refused_by (rest_means w.next rest) fault (at_line w.line (step w.said u)) h)
+    rw (by_form fits misfits is_end forms_in step context ts u w rest here read) (refused_by (rest_means w.next rest) fault (at_line w.line (step w.item u)) h)

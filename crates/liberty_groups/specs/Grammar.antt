@@ -1,4 +1,4 @@
--- The grammar of a Liberty text as tables of forms: what may come next in each context, what it says, and where the
+-- The grammar of a Liberty text as tables of forms: what may come next in each context, its item, and where the
 -- text goes on. A library is one group; a group has items, which are attributes, inner groups and `;`.
 use Rattle.std.specs.Prelude.{ℕ, ◌+◌, ◌-◌, Bool, true, false, nat_lt, List, [], ◌∷◌, length, Option, Some, None}
 use Rattle.std.specs.Prelude.{Result, if◌then◌else◌}
@@ -72,18 +72,18 @@ LibertyForm = Form Slot Sort Item Context
 
 -- a text begins with a library
 abbrev pub start_forms : List LibertyForm
-start_forms = record { slots = Library ∷ LeftParen ∷ []; says = named; next = contexts.LibraryArgs } ∷ []
+start_forms = record { slots = Library ∷ LeftParen ∷ []; item = named; next = contexts.LibraryArgs } ∷ []
 
 -- arguments are words and strings; commas and colons separate them
 abbrev pub args_forms : Context → Context → List LibertyForm
 args_forms here next =
-    record { slots = Value ∷ []; says = value; next = here }
-    ∷ record { slots = Separator ∷ []; says = λ ts. items.Nothing; next = here }
-    ∷ record { slots = RightParen ∷ []; says = λ ts. items.Nothing; next = next } ∷ []
+    record { slots = Value ∷ []; item = value; next = here }
+    ∷ record { slots = Separator ∷ []; item = λ ts. items.Nothing; next = here }
+    ∷ record { slots = RightParen ∷ []; item = λ ts. items.Nothing; next = next } ∷ []
 
 -- the library opens
 abbrev pub library_forms : List LibertyForm
-library_forms = record { slots = LeftBrace ∷ []; says = λ ts. items.Opens; next = contexts.Items 1 } ∷ []
+library_forms = record { slots = LeftBrace ∷ []; item = λ ts. items.Opens; next = contexts.Items 1 } ∷ []
 
 -- behind the end of one of `depth` open groups: the group around it goes on, or the library has ended
 abbrev pub after_group : ℕ → Context
@@ -93,10 +93,10 @@ after_group depth = if nat_lt 1 depth then contexts.Items (depth - 1) else conte
 -- innermost group
 abbrev pub item_forms : ℕ → List LibertyForm
 item_forms depth =
-    record { slots = Semicolon ∷ []; says = λ ts. items.Ends; next = contexts.Items depth }
-    ∷ record { slots = RightBrace ∷ []; says = λ ts. items.Closes; next = after_group depth }
-    ∷ record { slots = Name ∷ Colon ∷ []; says = named; next = contexts.FirstValue depth }
-    ∷ record { slots = Name ∷ LeftParen ∷ []; says = named; next = contexts.Args depth } ∷ []
+    record { slots = Semicolon ∷ []; item = λ ts. items.Ends; next = contexts.Items depth }
+    ∷ record { slots = RightBrace ∷ []; item = λ ts. items.Closes; next = after_group depth }
+    ∷ record { slots = Name ∷ Colon ∷ []; item = named; next = contexts.FirstValue depth }
+    ∷ record { slots = Name ∷ LeftParen ∷ []; item = named; next = contexts.Args depth } ∷ []
 
 -- at most 64 groups are open
 abbrev pub can_open : ℕ → Bool
@@ -107,26 +107,26 @@ abbrev pub named_forms : ℕ → List LibertyForm
 named_forms depth =
     record {
       slots = LeftBrace ∷ [];
-      says = λ ts. if can_open depth then items.Opens else items.TooDeep;
+      item = λ ts. if can_open depth then items.Opens else items.TooDeep;
       next = if can_open depth then contexts.Items (depth + 1) else contexts.Done;
     }
     ∷ item_forms depth
 
 -- behind the colon of a simple attribute stands a value
 abbrev pub first_value_forms : ℕ → List LibertyForm
-first_value_forms depth = record { slots = Value ∷ []; says = value; next = contexts.Values depth } ∷ []
+first_value_forms depth = record { slots = Value ∷ []; item = value; next = contexts.Values depth } ∷ []
 
 -- further values may follow, and `;` ends the attribute
 abbrev pub values_forms : ℕ → List LibertyForm
 values_forms depth =
-    record { slots = Value ∷ []; says = value; next = contexts.Values depth }
-    ∷ record { slots = Semicolon ∷ []; says = λ ts. items.Ends; next = contexts.Items depth } ∷ []
+    record { slots = Value ∷ []; item = value; next = contexts.Values depth }
+    ∷ record { slots = Semicolon ∷ []; item = λ ts. items.Ends; next = contexts.Items depth } ∷ []
 
 -- nothing stands behind the library but `;`
 abbrev pub behind_forms : List LibertyForm
 behind_forms =
-    record { slots = Semicolon ∷ []; says = λ ts. items.Nothing; next = contexts.Behind }
-    ∷ record { slots = End ∷ []; says = λ ts. items.Nothing; next = contexts.Done } ∷ []
+    record { slots = Semicolon ∷ []; item = λ ts. items.Nothing; next = contexts.Behind }
+    ∷ record { slots = End ∷ []; item = λ ts. items.Nothing; next = contexts.Done } ∷ []
 
 -- the forms that may come next
 abbrev pub forms_in : Context → List LibertyForm

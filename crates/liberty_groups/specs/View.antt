@@ -11,7 +11,7 @@ use Rattle.liberty_groups.specs.Building.{Unfinished}
 
 -- a form that was read
 abbrev pub whole_of : FormRead → WholeForm
-whole_of r = record { said = r.item; line = r.line; next = r.next }
+whole_of r = record { item = r.item; line = r.line; next = r.next }
 
 -- the refusal of the next token, which does not fit
 abbrev pub refusal_at : Tokens → Refusal Code

@@ -22,7 +22,7 @@ pub const MOST_OPEN: u32 = 64;
 /// A form that was read, whose last token stands in this line.
 #[inline]
 fn done(item: Item, line: u32, next: Context) -> FormRead
-    ensures { whole_of result ≡ record { said = item; line = line; next = next } }
+    ensures { whole_of result ≡ record { item = item; line = line; next = next } }
 {
     FormRead { item, line, next }
 }

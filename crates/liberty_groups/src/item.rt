@@ -1,9 +1,9 @@
-//! What a form of a library says.
+//! The items that forms of a library give.
 
 use crate::context::Context;
 use crate::span::Span;
 
-/// What a form says.
+/// The item that a form gives.
 #[derive(Clone, Copy, Debug, PartialEq, Eq)]
 pub enum Item {
     Nothing,
@@ -21,7 +21,7 @@ pub enum Item {
     Closes,
 }
 
-/// A form that was read: what it says, the line of its last token, and what may come next.
+/// A form that was read: its item, the line of its last token, and what may come next.
 #[derive(Clone, Copy, Debug)]
 pub struct FormRead {
     pub item: Item,

@@ -48,8 +48,8 @@ behind_parts scale (x ∷ a) b xs =
 pub item_turn : (scale : ℤ) (old new : List ℤ) (x y : ℤ) (items more : List Text) (item : Text) (whole : Option (List ℤ))
     → items ≡ item ∷ more → Ok x ≡ fixed item scale → y ≡ x → new ≡ old ++ y ∷ []
     → behind old (all_fixed scale items) ≡ whole → behind new (all_fixed scale more) ≡ whole
-item_turn scale old new x y items more item whole split read same pushed told =
-    rw (pushed, same, behind_more old x (all_fixed scale more)) (rw (split, sym read) at told)
+item_turn scale old new x y items more item whole split read same pushed known =
+    rw (pushed, same, behind_more old x (all_fixed scale more)) (rw (split, sym read) at known)
 
 module _ (bytes : List ℕ) (scale : ℤ) (value : Span) (rest more : List Span) (old : List ℤ) (whole : Option (List ℤ)) where
   -- the numbers of a string are read, and others behind it are left
@@ -57,15 +57,15 @@ module _ (bytes : List ℕ) (scale : ℤ) (value : Span) (rest more : List Span)
       → behind old (all_fixed scale (numbers_in (content bytes value))) ≡ Some new
       → behind old (all_fixed scale (flat_map numbers_in (map (content bytes) rest))) ≡ whole
       → behind new (all_fixed scale (flat_map numbers_in (map (content bytes) more))) ≡ whole
-  values_turn new split read told =
+  values_turn new split read known =
       sym (rw split (behind_parts scale (numbers_in (content bytes value)) (flat_map numbers_in (map (content bytes) more)) old)
-      ∙ ap (λ t. behind_some t (all_fixed scale (flat_map numbers_in (map (content bytes) more)))) read) ∙ told
+      ∙ ap (λ t. behind_some t (all_fixed scale (flat_map numbers_in (map (content bytes) more)))) read) ∙ known
 
   -- a number of a string is refused
   pub values_stop : rest ≡ value ∷ more
       → behind old (all_fixed scale (numbers_in (content bytes value))) ≡ None
       → behind old (all_fixed scale (flat_map numbers_in (map (content bytes) rest))) ≡ whole
       → None ≡ whole
-  values_stop split read told =
+  values_stop split read known =
       sym (rw split (behind_parts scale (numbers_in (content bytes value)) (flat_map numbers_in (map (content bytes) more)) old)
-      ∙ ap (λ t. behind_some t (all_fixed scale (flat_map numbers_in (map (content bytes) more)))) read) ∙ told
+      ∙ ap (λ t. behind_some t (all_fixed scale (flat_map numbers_in (map (content bytes) more)))) read) ∙ known

@@ -36,8 +36,8 @@ rows_more f n = map-range_with_len_more f 0 n n (omega arith)
 pub row_turn : (done : List ℤ) (f : ℕ → ℤ) (n : ℕ) (old new : List ℤ) (x y : ℤ)
     → old ≡ done ++ map f (range_with_len 0 n) → x ≡ f n → y ≡ x → new ≡ old ++ y ∷ []
     → new ≡ done ++ map f (range_with_len 0 (n + 1))
-row_turn done f n old new x y told value same pushed =
-    rw (pushed, told, same, value, rows_more f n) (append_assoc done (map f (range_with_len 0 n)) (f n ∷ []))
+row_turn done f n old new x y known value same pushed =
+    rw (pushed, known, same, value, rows_more f n) (append_assoc done (map f (range_with_len 0 n)) (f n ∷ []))
 
 -- one more column
 pub columns_more : (f : ℕ → List ℤ) (n : ℕ) → flat_map f (range_with_len 0 (n + 1)) ≡ flat_map f (range_with_len 0 n) ++ f n

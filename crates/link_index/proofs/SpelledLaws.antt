@@ -71,7 +71,7 @@ pub short_at : (nets : Nets) (k : ℕ) (e : Text × Net) → All (λ net. IsShor
 short_at nets k e h at =
     subst (λ (x : Text × Net). IsShortName x.0) (get_or_from_slice_get nets k e e at) (All-get_or (λ x. IsShortName x.0) nets k e (slice_get_within nets k e at) h)
 
--- what is said of an answer, said in another way
+-- what holds of an answer, in other words
 pub ok_so : {A E : Type 0} (r : Result A E) (P Q : Type 0) → (P → Q) → OnOk r P → OnOk r Q
 ok_so (Ok x) P Q f h = f h
 ok_so (Err e) P Q f h = h

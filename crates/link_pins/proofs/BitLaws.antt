@@ -12,7 +12,7 @@ use Rattle.link_rules.specs.Bits.{Bit, bus_bit, bits_by, bits_from, bits}
 use Rattle.link_index.proofs.BitLaws.{bits_are, from-parts}
 use Rattle.link_pins.specs.declared.bits.BitAt.{BitAt}
 use Rattle.link_pins.specs.Seen.{bit_at, numbered_bit}
-use Rattle.link_pins.proofs.PinLaws.{some_and, taken}
+use Rattle.link_pins.proofs.PinLaws.{some_and, take_next}
 
 -- the bits of one net more
 bits_next : (nets : Nets) (k : ℕ) (e : Text × Net) → slice_get nets k ≡ Some e
@@ -21,7 +21,7 @@ bits_next nets k e there =
     let within : k < length nets = slice_get_within nets k e there in
     let len : 0 + length (take k nets) ≡ k = omega (arith, length-take-le k nets (omega arith)) in
     bits_are (take (k + 1) nets)
-    ∙ ap (bits_from 0) (taken k nets e there)
+    ∙ ap (bits_from 0) (take_next k nets e there)
     ∙ from-parts 0 (take k nets) (e ∷ [])
     ∙ ap (λ m. bits_from 0 (take k nets) ++ bits_from m (e ∷ [])) len
     ∙ ap (λ l. bits_from 0 (take k nets) ++ l) (append-nil (bits_by k e.0 e.1.role e.1.range))
@@ -32,7 +32,7 @@ pub numbered_more : (f : ℕ → BitAt) (ks : List ℕ) (i k : ℕ) (old cur new
     → new ≡ old ++ map f (take (i + 1) ks)
 numbered_more f ks i k old cur new at so_far push =
     let one : map f (take (i + 1) ks) ≡ map f (take i ks) ++ f k ∷ [] =
-    ap (map f) (taken i ks k at) ∙ map-append f (take i ks) (k ∷ []) in
+    ap (map f) (take_next i ks k at) ∙ map-append f (take i ks) (k ∷ []) in
     push ∙ ap (λ l. l ++ f k ∷ []) so_far ∙ append_assoc old (map f (take i ks)) (f k ∷ []) ∙ ap (λ l. old ++ l) (sym one)
 
 pub numbered_all : (f : ℕ → BitAt) (ks : List ℕ) (i : ℕ) (old cur : List BitAt) → length ks ≤ i → cur ≡ old ++ map f (take i ks) → cur ≡ old ++ map f ks

@@ -17,7 +17,7 @@ use Rattle.link_rules.specs.Pins.{Connected, end_of, is_output, pins}
 use Rattle.link_rules.specs.Sound.{IsSoundNetlist}
 use Rattle.link_pins.specs.declared.drivers.Driver.{Driver}
 use Rattle.link_pins.specs.Rows.{outputs_in, drivers_by, IsDriver, AreDrivers}
-use Rattle.link_pins.proofs.PinLaws.{taken}
+use Rattle.link_pins.proofs.PinLaws.{take_next}
 use Rattle.link_pins.proofs.PinsSound.{IsFine, pins_fine}
 
 -- another driver
@@ -54,7 +54,7 @@ paired_at {A} {B} f xs ys k x same at =
 module _ (cs : List Connected) (k : ℕ) (c : Connected) (at : slice_get cs k ≡ Some c) where
   outputs_more : (net : ℕ) (b : Bool) → (is_output c.pin.role && c.net == net) ≡ b → outputs_in net (take (k + 1) cs) ≡ outputs_in net (take k cs) ++ cond b (c ∷ []) []
   outputs_more net b e =
-      ap (outputs_in net) (taken k cs c at)
+      ap (outputs_in net) (take_next k cs c at)
       ∙ filter-append (λ d. is_output d.pin.role && d.net == net) (take k cs) (c ∷ [])
       ∙ ap (λ t. outputs_in net (take k cs) ++ cond t (c ∷ []) []) e
 

@@ -66,9 +66,9 @@ module _ (library : Library) where
   or_some : (a b : Option LinkFault) (f : LinkFault) → a ≡ Some f → or_fault a b ≡ Some f
   or_some a b f h = ap (λ o. or_fault o b) h
 
-  pub instance_taken : (rest : List Instance) (d : Instance) → 1 ≤ length rest → fault_of (get_or rest 0 d) ≡ None
+  pub instance_accepted : (rest : List Instance) (d : Instance) → 1 ≤ length rest → fault_of (get_or rest 0 d) ≡ None
       → instances_fault library (rest_of rest) ≡ instances_fault library rest
-  instance_taken rest d some h =
+  instance_accepted rest d some h =
       sym (or_none (fault_of (get_or rest 0 d)) (instances_fault library (rest_of rest)) h)
       ∙ sym (ap (instances_fault library) (first_and_rest rest d some))
 
@@ -109,7 +109,7 @@ module _ (library : Library) (i : Instance) (o : Option ℕ) (k : ℕ) (some : o
 
   -- the pins decide of a cell that is taken
   pub pins_decide : is_odd_cell cell ≡ false → cell_fault i (cell_named library i.cell) ≡ pin_fault cell i.name i.pins
-  pins_decide taken = ap (cell_fault i) cell_is ∙ rw taken refl
+  pins_decide not_odd = ap (cell_fault i) cell_is ∙ rw not_odd refl
 
 -- the first name of those that are left, and the others
 pub first_name : (rest : List (Text × Wire)) (d : Text × Wire) (bytes : Text) → 1 ≤ length rest → All (λ p. IsShortName p.0) rest → d ≡ get_or rest 0 d → bytes ≡ d.0 → IsName bytes

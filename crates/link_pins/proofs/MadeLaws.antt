@@ -23,7 +23,7 @@ use Rattle.link_pins.specs.declared.timings.NetArcs.{NetArcs}
 use Rattle.link_pins.specs.Joined.{without_arcs, with_rows}
 use Rattle.link_pins.specs.Rows.{outputs_in, HaveArcs}
 use Rattle.link_pins.proofs.DriverLaws.{set_elsewhere}
-use Rattle.link_pins.proofs.PinLaws.{taken}
+use Rattle.link_pins.proofs.PinLaws.{take_next}
 
 -- of so many items those from a number on are as they were gathered
 pub record AreLeft (X : Type 0) (P : ℕ → X → Type 0) (count net : ℕ) (xs : List X) : Type 0 where
@@ -83,7 +83,7 @@ module _ (library : Library) (netlist : Netlist) (constraints : Constraints) whe
       push ∙ (ap (λ l. l ++ p ∷ []) so_far
       ∙ (ap (λ (x : NetPins). map bare_pins (take net (numbered netlist)) ++ x ∷ []) is
       ∙ (sym (map-append bare_pins (take net (numbered netlist)) ((net, b) ∷ []))
-      ∙ ap (map bare_pins) (sym (taken net (numbered netlist) (net, b) (numbered_at net b at))))))
+      ∙ ap (map bare_pins) (sym (take_next net (numbered netlist) (net, b) (numbered_at net b at))))))
 
   pub made_all : (net : ℕ) (made : List NetPins) → length (bits netlist.nets) ≤ net → made ≡ map bare_pins (take net (numbered netlist)) → made ≡ map bare_pins (numbered netlist)
   made_all net made past so_far =

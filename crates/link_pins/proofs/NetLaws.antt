@@ -9,7 +9,7 @@ use Rattle.verilog_net.specs.declared.netlist.Netlist.{Netlist}
 use Rattle.sdc_read.specs.declared.constraints.Constraints.{Constraints}
 use Rattle.link_rules.specs.Bits.{Bit}
 use Rattle.link_rules.specs.Checks.{port_checks, port_checks_from}
-use Rattle.link_pins.proofs.PinLaws.{taken}
+use Rattle.link_pins.proofs.PinLaws.{take_next}
 
 module _ (library : Library) (netlist : Netlist) (constraints : Constraints) where
   ports_append : (net : ℕ) (xs ys : List Bit) → port_checks_from library netlist constraints net (xs ++ ys)
@@ -26,7 +26,7 @@ module _ (library : Library) (netlist : Netlist) (constraints : Constraints) whe
   ports_more bs net b old cur new at so_far step =
       let len : 0 + length (take net bs) ≡ net = omega (arith, length-take-le net bs (omega (arith, slice_get_within bs net b at))) in
       let one : port_checks_from library netlist constraints 0 (take (net + 1) bs) ≡ port_checks_from library netlist constraints 0 (take net bs) ++ port_checks library netlist constraints net b b.role =
-      ap (port_checks_from library netlist constraints 0) (taken net bs b at)
+      ap (port_checks_from library netlist constraints 0) (take_next net bs b at)
       ∙ (ports_append 0 (take net bs) (b ∷ [])
       ∙ (ap (λ n. port_checks_from library netlist constraints 0 (take net bs) ++ port_checks_from library netlist constraints n (b ∷ [])) len
       ∙ ap (λ l. port_checks_from library netlist constraints 0 (take net bs) ++ l) (append-nil (port_checks library netlist constraints net b b.role)))) in

@@ -162,8 +162,8 @@ no_cell_pins library netlist number i none (x ∷ xs) =
     ap (λ o. cons_option o (filter_map (connected library netlist number i) xs)) here ∙ no_cell_pins library netlist number i none xs
 
 -- the first elements of a list, and one more
-pub taken : {X : Type 0} (i : ℕ) (xs : List X) (x : X) → slice_get xs i ≡ Some x → take (i + 1) xs ≡ take i xs ++ x ∷ []
-taken i xs x h = take_more xs i x (slice_get_within xs i x h) ∙ ap (λ y. take i xs ++ y ∷ []) (get_or_from_slice_get xs i x x h)
+pub take_next : {X : Type 0} (i : ℕ) (xs : List X) (x : X) → slice_get xs i ≡ Some x → take (i + 1) xs ≡ take i xs ++ x ∷ []
+take_next i xs x h = take_more xs i x (slice_get_within xs i x h) ∙ ap (λ y. take i xs ++ y ∷ []) (get_or_from_slice_get xs i x x h)
 
 module _ (library : Library) (netlist : Netlist) where
   from-append : (number : ℕ) (xs ys : List Instance) → pins_from library netlist number (xs ++ ys) ≡ pins_from library netlist number xs ++ pins_from library netlist (number + length xs) ys
@@ -179,7 +179,7 @@ module _ (library : Library) (netlist : Netlist) where
   from_more is k i at =
       let within : k < length is = slice_get_within is k i at in
       let len : 0 + length (take k is) ≡ k = omega (arith, length-take-le k is (omega arith)) in
-      ap (pins_from library netlist 0) (taken k is i at)
+      ap (pins_from library netlist 0) (take_next k is i at)
       ∙ from-append 0 (take k is) (i ∷ [])
       ∙ ap (λ m. pins_from library netlist 0 (take k is) ++ pins_from library netlist m (i ∷ [])) len
       ∙ ap (λ l. pins_from library netlist 0 (take k is) ++ l) (append-nil (filter_map (connected library netlist k i) i.pins))
@@ -226,12 +226,12 @@ pub some_is : {X : Type 0} (o : Option X) → IsSome o → (x : X) × (o ≡ Som
 some_is None h = absurd (false≢true h)
 some_is (Some x) h = (x, refl)
 
--- what is told of a value that is there
-pub told_of : {X : Type 0} (o : Option X) (P : X → Type 0) (x : X) → o ≡ Some x → IfSome o P → P x
-told_of o P x e h = rw e at h
+-- what holds of a value that is there
+pub of_some : {X : Type 0} (o : Option X) (P : X → Type 0) (x : X) → o ≡ Some x → IfSome o P → P x
+of_some o P x e h = rw e at h
 
-pub told_to : {X : Type 0} (o : Option X) (P : X → Type 0) (x : X) → o ≡ Some x → P x → IfSome o P
-told_to o P x e h = rw e h
+pub to_some : {X : Type 0} (o : Option X) (P : X → Type 0) (x : X) → o ≡ Some x → P x → IfSome o P
+to_some o P x e h = rw e h
 
 -- no pin, as what stands past the end of a list
 abbrev pub nothing : PinOn

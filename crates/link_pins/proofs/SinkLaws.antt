@@ -17,12 +17,12 @@ use Rattle.link_rules.specs.Pins.{Connected, is_input, pins}
 use Rattle.link_pins.specs.declared.sinks.NetSinks.{NetSinks}
 use Rattle.link_pins.specs.Rows.{inputs_in, sinks_by, ArePinSinks}
 use Rattle.link_pins.proofs.DriverLaws.{set_there, set_elsewhere}
-use Rattle.link_pins.proofs.PinLaws.{taken}
+use Rattle.link_pins.proofs.PinLaws.{take_next}
 
 module _ (cs : List Connected) (k : ℕ) (c : Connected) (at : slice_get cs k ≡ Some c) where
   inputs_more : (net : ℕ) → inputs_in net (take (k + 1) cs) ≡ inputs_in net (take k cs) ++ inputs_in net (c ∷ [])
   inputs_more net =
-      ap (inputs_in net) (taken k cs c at) ∙ filter-append (λ d. is_input d.pin.role && d.net == net) (take k cs) (c ∷ [])
+      ap (inputs_in net) (take_next k cs c at) ∙ filter-append (λ d. is_input d.pin.role && d.net == net) (take k cs) (c ∷ [])
 
   -- on its own net it is a sink where it is an input pin
   sinks_here : sinks_by (take (k + 1) cs) c.net ≡ sinks_by (take k cs) c.net ++ map pin_sink (filter (λ d. is_input d.pin.role) (c ∷ []))

@@ -9,9 +9,9 @@ use Rattle.name_numbers.specs.Names.{Text}
 use Rattle.xt_model.specs.declared.net.Net.{Net}
 use Rattle.xt_model.specs.Parts.{Parts}
 use Rattle.xt_model.specs.Levels.{AreLevelled}
-use Rattle.xt_model.specs.Loops.{IsToldLoop}
+use Rattle.xt_model.specs.Loops.{IsFirstLoop}
 use Rattle.xt_model.proofs.LevelLaws.{no_loop}
-use Rattle.xt_model.proofs.LoopLaws.{told_is_loop, told_is_one}
+use Rattle.xt_model.proofs.LoopLaws.{first_is_loop, first_is_one}
 use Rattle.verilog_net.specs.declared.netlist.Netlist.{Netlist}
 use Rattle.spef_read.specs.declared.parasitics.Parasitics.{Parasitics}
 use Rattle.elmore_tree.specs.declared.form.WireForm.{WireForm}
@@ -27,7 +27,7 @@ use Rattle.link_rules.specs.Bare as bare
 use Rattle.link_rules.specs.Limits.{count_fault, size_fault}
 use Rattle.link_rules.specs.Link.{name_at, IsLoopFault, AreForms, AtInstances, AtDrivers, AtWires, AtSizes, AtLevels, AtClock, IsRefused, IsLinked, Links}
 use Rattle.link_rules.specs.Link as link
-use Rattle.link_rules.specs.Refusals.{instance_fault, driver_fault, net_limit, IsTaken, IsWireFault, IsFirstWireFault, AreTaken, clock_fault}
+use Rattle.link_rules.specs.Refusals.{instance_fault, driver_fault, net_limit, IsAcceptedWire, IsWireFault, IsFirstWireFault, AreAcceptedWires, clock_fault}
 
 -- ---- values that are there
 one_value : {X : Type 0} (o : Option X) (x y : X) → o ≡ Some x → o ≡ Some y → x ≡ y
@@ -138,11 +138,11 @@ module _ (netlist : Netlist) (parasitics : Parasitics) where
       let node : a.node ≡ b.node = one_value (slice_get (bare.nodes netlist parasitics n) b.place) a.node b.node at b.at in
       a.is ∙ (ap (λ (m : Text). faults.Refused (refusals.K6 n.1.name m)) node ∙ sym b.is)
 
-  -- a wire that is taken has no fault
-  not_taken : (n : bare.Numbered) (f : LinkFault) → IsTaken netlist parasitics n → IsOneOf n f → ⊥
-  not_taken n f t (inl a) = no_value (net_limit netlist parasitics n) f t.limit a
-  not_taken n f t (inr (inl a)) = t.wire.tree a.mesh
-  not_taken n f t (inr (inr a)) = a.least.outside (t.wire.reached a.place a.least.needed)
+  -- a wire that is accepted has no fault
+  no_fault_if_accepted : (n : bare.Numbered) (f : LinkFault) → IsAcceptedWire netlist parasitics n → IsOneOf n f → ⊥
+  no_fault_if_accepted n f t (inl a) = no_value (net_limit netlist parasitics n) f t.limit a
+  no_fault_if_accepted n f t (inr (inl a)) = t.wire.tree a.mesh
+  no_fault_if_accepted n f t (inr (inr a)) = a.least.outside (t.wire.reached a.place a.least.needed)
 
   module _ (ns : List bare.Numbered) where
     abbrev IsAt : ℕ → LinkFault → Type 0
@@ -151,9 +151,9 @@ module _ (netlist : Netlist) (parasitics : Parasitics) where
     place_of : (f : LinkFault) (h : IsFirstWireFault netlist parasitics ns f) → IsAt h.place f
     place_of f h = there (λ n. IsWireFault netlist parasitics n f) (slice_get ns h.place) h.at
 
-    not_before : (p q : ℕ) (f : LinkFault) → p < q → IsAt p f → AreTaken netlist parasitics (take q ns) → ⊥
+    not_before : (p q : ℕ) (f : LinkFault) → p < q → IsAt p f → AreAcceptedWires netlist parasitics (take q ns) → ⊥
     not_before p q f lt a all =
-        not_taken a.0 f (before_by (IsTaken netlist parasitics) ns p q a.0 lt a.1 (recursion_from_All (IsTaken netlist parasitics) (take q ns) all))
+        no_fault_if_accepted a.0 f (before_by (IsAcceptedWire netlist parasitics) ns p q a.0 lt a.1 (recursion_from_All (IsAcceptedWire netlist parasitics) (take q ns) all))
         (which a.0 f a.2)
 
     same_place : (p q : ℕ) (f g : LinkFault) → p ≡ q → IsAt p f → IsAt q g → f ≡ g
@@ -172,21 +172,21 @@ module _ (netlist : Netlist) (parasitics : Parasitics) where
       ]
     ]
 
-    no_wire : (f : LinkFault) → IsFirstWireFault netlist parasitics ns f → AreTaken netlist parasitics ns → ⊥
+    no_wire : (f : LinkFault) → IsFirstWireFault netlist parasitics ns f → AreAcceptedWires netlist parasitics ns → ⊥
     no_wire f a all =
         let here = place_of f a in
-        let each = recursion_from_All (IsTaken netlist parasitics) ns all in
-        not_taken here.0 f (each_by_place ns a.place here.0 here.1 each) (which here.0 f here.2)
+        let each = recursion_from_All (IsAcceptedWire netlist parasitics) ns all in
+        no_fault_if_accepted here.0 f (each_by_place ns a.place here.0 here.1 each) (which here.0 f here.2)
       where
-        each_by_place : (ms : List bare.Numbered) (i : ℕ) (n : bare.Numbered) → slice_get ms i ≡ Some n → AllByRecursion (IsTaken netlist parasitics) ms → IsTaken netlist parasitics n
+        each_by_place : (ms : List bare.Numbered) (i : ℕ) (n : bare.Numbered) → slice_get ms i ≡ Some n → AllByRecursion (IsAcceptedWire netlist parasitics) ms → IsAcceptedWire netlist parasitics n
         each_by_place [] i n at every = absurd (cc)
-        each_by_place (m ∷ ms) zero n at every = let e : m ≡ n = cc in subst (IsTaken netlist parasitics) e every.0
+        each_by_place (m ∷ ms) zero n at every = let e : m ≡ n = cc in subst (IsAcceptedWire netlist parasitics) e every.0
         each_by_place (m ∷ ms) (suc i) n at every = each_by_place ms i n at every.1
 
 -- ---- loops
 module _ (nets : List Net) where
   abbrev IsLoopOf : LinkFault → Type 0
-  IsLoopOf f = (loop : List ℕ) × IsToldLoop nets loop × (f ≡ faults.Refused (refusals.K4 (map (name_at nets) loop)))
+  IsLoopOf f = (loop : List ℕ) × IsFirstLoop nets loop × (f ≡ faults.Refused (refusals.K4 (map (name_at nets) loop)))
 
   loop_of : (f : LinkFault) → IsLoopFault nets f → IsLoopOf f
   loop_of (faults.Refused (refusals.K1 a b)) h = absurd h
@@ -204,11 +204,11 @@ module _ (nets : List Net) where
   loop_is_one f g p q =
       let a = loop_of f p in
       let b = loop_of g q in
-      let loop : a.0 ≡ b.0 = told_is_one nets a.0 b.0 a.1 b.1 in
+      let loop : a.0 ≡ b.0 = first_is_one nets a.0 b.0 a.1 b.1 in
       a.2 ∙ (ap (λ (l : List ℕ). faults.Refused (refusals.K4 (map (name_at nets) l))) loop ∙ sym b.2)
 
   no_loop_fault : (f : LinkFault) → IsLoopFault nets f → AreLevelled nets → ⊥
-  no_loop_fault f p levels = let a = loop_of f p in no_loop nets levels.0 a.0 levels.1 (told_is_loop nets a.0 a.1)
+  no_loop_fault f p levels = let a = loop_of f p in no_loop nets levels.0 a.0 levels.1 (first_is_loop nets a.0 a.1)
 
 -- ---- the stages
 module _ (x : Inputs) where
@@ -231,12 +231,12 @@ module _ (x : Inputs) where
   levels_sizes f (inl a) = a.sizes
   levels_sizes f (inr a) = a.sizes
 
-  sizes_wires : (f : LinkFault) → FromSizes f → link.AreWiresTaken x
+  sizes_wires : (f : LinkFault) → FromSizes f → link.HasAcceptedWires x
   sizes_wires f (inl a) = a.wires
   sizes_wires f (inr (inl a)) = a.wires
   sizes_wires f (inr (inr a)) = a.wires
 
-  wires_pins : (f : LinkFault) → FromWires f → link.ArePinsTaken x
+  wires_pins : (f : LinkFault) → FromWires f → link.HasAcceptedPins x
   wires_pins f (inl a) = a.pins
   wires_pins f (inr a) = (sizes_wires f a).pins
 
@@ -279,7 +279,7 @@ module _ (x : Inputs) where
   instances_one f g (inr a) (inl b) = absurd (no_value (instance_fault x.library x.netlist) g (drivers_instances f a) b.here)
   instances_one f g (inr a) (inr b) = drivers_one f g a b
 
-  -- one fault at most is told
+  -- there is one fault at most
   pub fault_is_one : (f g : LinkFault) → IsRefused x f → IsRefused x g → f ≡ g
   fault_is_one f g (inl a) (inl b) = one_value (count_fault x.netlist) f g a b
   fault_is_one f g (inl a) (inr b) = absurd (no_value (count_fault x.netlist) f (instances_counts g b) a)
@@ -287,14 +287,14 @@ module _ (x : Inputs) where
   fault_is_one f g (inr a) (inr b) = instances_one f g a b
 
   -- where there is a design nothing is refused
-  pub linked_is_taken : (f : LinkFault) (d : Parts) → IsRefused x f → IsLinked x d → ⊥
-  linked_is_taken f d (inl a) l = no_value (count_fault x.netlist) f l.wires.pins.counts a
-  linked_is_taken f d (inr (inl a)) l = no_value (instance_fault x.library x.netlist) f l.wires.pins.instances a.here
-  linked_is_taken f d (inr (inr (inl a))) l = no_value (driver_fault x.library x.netlist) f l.wires.pins.drivers a.here
-  linked_is_taken f d (inr (inr (inr (inl a)))) l = no_wire x.netlist x.parasitics (numbered x) f a.here l.wires.wires
-  linked_is_taken f d (inr (inr (inr (inr (inl a))))) l = no_value (size_fault (bare_parts x)) f l.sizes a.here
-  linked_is_taken f d (inr (inr (inr (inr (inr (inl a)))))) l = no_loop_fault (bare_nets x) f a.here l.levels
-  linked_is_taken f d (inr (inr (inr (inr (inr (inr a)))))) l = no_value (clock_fault (bare_parts x)) f l.clock a.here
+  pub linked_is_accepted : (f : LinkFault) (d : Parts) → IsRefused x f → IsLinked x d → ⊥
+  linked_is_accepted f d (inl a) l = no_value (count_fault x.netlist) f l.wires.pins.counts a
+  linked_is_accepted f d (inr (inl a)) l = no_value (instance_fault x.library x.netlist) f l.wires.pins.instances a.here
+  linked_is_accepted f d (inr (inr (inl a))) l = no_value (driver_fault x.library x.netlist) f l.wires.pins.drivers a.here
+  linked_is_accepted f d (inr (inr (inr (inl a)))) l = no_wire x.netlist x.parasitics (numbered x) f a.here l.wires.wires
+  linked_is_accepted f d (inr (inr (inr (inr (inl a))))) l = no_value (size_fault (bare_parts x)) f l.sizes a.here
+  linked_is_accepted f d (inr (inr (inr (inr (inr (inl a)))))) l = no_loop_fault (bare_nets x) f a.here l.levels
+  linked_is_accepted f d (inr (inr (inr (inr (inr (inr a)))))) l = no_value (clock_fault (bare_parts x)) f l.clock a.here
 
   -- there is one design at most
   pub design_is_one : (d e : Parts) → IsLinked x d → IsLinked x e → d ≡ e
@@ -313,6 +313,6 @@ module _ (x : Inputs) where
   -- two answers of linking are one, but for want of memory
   pub links_one : (r s : Answer) → r ≢ Err faults.NoMemory → s ≢ Err faults.NoMemory → Links x r → Links x s → r ≡ s
   links_one (Ok d) (Ok e) p q a b = ap Ok (design_is_one d e a b)
-  links_one (Ok d) (Err g) p q a b = absurd (linked_is_taken g d (refused g q b) a)
-  links_one (Err f) (Ok e) p q a b = absurd (linked_is_taken f e (refused f p a) b)
+  links_one (Ok d) (Err g) p q a b = absurd (linked_is_accepted g d (refused g q b) a)
+  links_one (Err f) (Ok e) p q a b = absurd (linked_is_accepted f e (refused f p a) b)
   links_one (Err f) (Err g) p q a b = ap Err (fault_is_one f g (refused f p a) (refused g q b))

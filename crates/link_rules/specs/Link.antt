@@ -13,18 +13,18 @@ use Rattle.verilog_net.specs.declared.netlist.Netlist.{Netlist}
 use Rattle.spef_read.specs.declared.parasitics.Parasitics.{Parasitics}
 use Rattle.elmore_tree.specs.Forms.{IsFormOf}
 use Rattle.link_rules.specs.Bare.{Numbered, Inputs, numbered, tree, bare_parts, bare_nets, parts_with}
-use Rattle.xt_model.specs.Loops.{IsToldLoop}
+use Rattle.xt_model.specs.Loops.{IsFirstLoop}
 use Rattle.link_rules.specs.Limits.{count_fault, size_fault}
-use Rattle.link_rules.specs.Refusals.{instance_fault, driver_fault, AreTaken, IsFirstWireFault, clock_fault}
+use Rattle.link_rules.specs.Refusals.{instance_fault, driver_fault, AreAcceptedWires, IsFirstWireFault, clock_fault}
 
 -- the name of the net of a number
 abbrev pub name_at : List Net → ℕ → Text
 name_at nets i = unwrap_or (option_map (λ n. n.name) (slice_get nets i)) []
 
--- the loop of arcs that is told, by the names of its nets
+-- the first loop of arcs, by the names of its nets
 abbrev pub IsLoopFault : List Net → LinkFault → Type 0
 IsLoopFault nets (faults.Refused (refusals.K4 names)) =
-    (loop : List ℕ) × IsToldLoop nets loop × (names ≡ map (name_at nets) loop)
+    (loop : List ℕ) × IsFirstLoop nets loop × (names ≡ map (name_at nets) loop)
 IsLoopFault nets _ = ⊥
 
 -- the forms of wires, one for each net
@@ -36,14 +36,14 @@ pub record AreForms (netlist : Netlist) (parasitics : Parasitics) (nets : List N
 
 module _ (x : Inputs) where
   -- nothing is refused up to the pins of nets, and then up to their wires
-  pub record ArePinsTaken : Type 0 where
+  pub record HasAcceptedPins : Type 0 where
     pub counts : count_fault x.netlist ≡ None
     pub instances : instance_fault x.library x.netlist ≡ None
     pub drivers : driver_fault x.library x.netlist ≡ None
 
-  pub record AreWiresTaken : Type 0 where
-    pub pins : ArePinsTaken
-    pub wires : AreTaken x.netlist x.parasitics (numbered x)
+  pub record HasAcceptedWires : Type 0 where
+    pub pins : HasAcceptedPins
+    pub wires : AreAcceptedWires x.netlist x.parasitics (numbered x)
 
   -- the tests in their order, each where those before it refuse nothing
   pub record AtInstances (fault : LinkFault) : Type 0 where
@@ -56,20 +56,20 @@ module _ (x : Inputs) where
     pub here : driver_fault x.library x.netlist ≡ Some fault
 
   pub record AtWires (fault : LinkFault) : Type 0 where
-    pub pins : ArePinsTaken
+    pub pins : HasAcceptedPins
     pub here : IsFirstWireFault x.netlist x.parasitics (numbered x) fault
 
   pub record AtSizes (fault : LinkFault) : Type 0 where
-    pub wires : AreWiresTaken
+    pub wires : HasAcceptedWires
     pub here : size_fault (bare_parts x) ≡ Some fault
 
   pub record AtLevels (fault : LinkFault) : Type 0 where
-    pub wires : AreWiresTaken
+    pub wires : HasAcceptedWires
     pub sizes : size_fault (bare_parts x) ≡ None
     pub here : IsLoopFault (bare_nets x) fault
 
   pub record AtClock (fault : LinkFault) : Type 0 where
-    pub wires : AreWiresTaken
+    pub wires : HasAcceptedWires
     pub sizes : size_fault (bare_parts x) ≡ None
     pub levels : AreLevelled (bare_nets x)
     pub here : clock_fault (bare_parts x) ≡ Some fault
@@ -82,7 +82,7 @@ module _ (x : Inputs) where
 
   -- nothing is refused, and the design has the forms of its wires
   pub record IsLinked (d : Parts) : Type 0 where
-    pub wires : AreWiresTaken
+    pub wires : HasAcceptedWires
     pub sizes : size_fault (bare_parts x) ≡ None
     pub levels : AreLevelled (bare_nets x)
     pub clock : clock_fault (bare_parts x) ≡ None

@@ -20,7 +20,7 @@ use Rattle.verilog_net.specs.declared.netlist.Instance.{Instance}
 use Rattle.verilog_net.specs.declared.netlist.Wire.{Wire}
 use Rattle.verilog_net.specs.declared.netlist.Netlist.{Netlist}
 use Rattle.spef_read.specs.declared.parasitics.Parasitics.{Parasitics}
-use Rattle.elmore_tree.specs.Forms.{IsTakenTree}
+use Rattle.elmore_tree.specs.Forms.{IsAcceptedTree}
 use Rattle.elmore_tree.specs.Paths.{IsMeshed, IsLeastUnreached}
 use Rattle.link_rules.specs.declared.fault.LinkFault.{LinkFault}
 use Rattle.link_rules.specs.declared.fault.LinkFault.TheVariants as faults
@@ -121,10 +121,10 @@ module _ (netlist : Netlist) (parasitics : Parasitics) where
       or_fault (node_fault n)
       (passed limits.Load (Some n.1.name) (greatest_load (bare.tree netlist parasitics n)) most_load)
 
-  -- the wire of a net is taken: it keeps its limits, and is a tree that reaches all
-  pub record IsTaken (n : bare.Numbered) : Type 0 where
+  -- the wire of a net is accepted: it keeps its limits, and is a tree that reaches all
+  pub record IsAcceptedWire (n : bare.Numbered) : Type 0 where
     pub limit : net_limit n ≡ None
-    pub wire : IsTakenTree (bare.tree netlist parasitics n)
+    pub wire : IsAcceptedTree (bare.tree netlist parasitics n)
 
   -- a node that has to be reached and is not, by its name
   abbrev pub IsUnreached : bare.Numbered → Text → Type 0
@@ -141,15 +141,15 @@ module _ (netlist : Netlist) (parasitics : Parasitics) where
   IsWireFault n (faults.Limit what name value) = net_limit n ≡ Some (faults.Limit what name value)
   IsWireFault n _ = ⊥
 
-  -- the wires of all nets are taken
-  abbrev pub AreTaken : List bare.Numbered → Type 0
-  AreTaken nets = All IsTaken nets
+  -- the wires of all nets are accepted
+  abbrev pub AreAcceptedWires : List bare.Numbered → Type 0
+  AreAcceptedWires nets = All IsAcceptedWire nets
 
   -- the fault of the first net that has one
   pub record IsFirstWireFault (nets : List bare.Numbered) (fault : LinkFault) : Type 0 where
     pub place : ℕ
     pub at : IsSomeAnd (slice_get nets place) (λ n. IsWireFault n fault)
-    pub before : AreTaken (take place nets)
+    pub before : AreAcceptedWires (take place nets)
 
 -- ---- checks
 

@@ -26,7 +26,7 @@ pub record Capacitor : Type 0 where
   pub value : ℤ
 
 -- a resistor of a net between two nodes, in milliohms
-pub record Between : Type 0 where
+pub record NamedResistor : Type 0 where
   pub a : Text
   pub b : Text
   pub value : ℤ
@@ -35,7 +35,7 @@ pub record Between : Type 0 where
 pub record Wire : Type 0 where
   pub total : ℤ
   pub caps : List Capacitor
-  pub resistors : List Between
+  pub resistors : List NamedResistor
 
 -- nothing is known of a net's wire
 abbrev pub no_wire : Wire
@@ -71,15 +71,15 @@ module _ (netlist : Netlist) (parasitics : Parasitics) where
   capacitor_of net c =
       capacitor_by net (text_of parasitics c.a) (option_map (text_of parasitics) c.b) c.value
 
-  abbrev pub between_of : ResText → Between
-  between_of r = record { a = text_of parasitics r.a; b = text_of parasitics r.b; value = r.value }
+  abbrev pub named_resistor_of : ResText → NamedResistor
+  named_resistor_of r = record { a = text_of parasitics r.a; b = text_of parasitics r.b; value = r.value }
 
   abbrev pub wire_in : ℕ → Option WireText → Wire
   wire_in net None = no_wire
   wire_in net (Some w) = record {
     total = w.total;
     caps = map (capacitor_of net) w.caps;
-    resistors = map between_of w.resistors;
+    resistors = map named_resistor_of w.resistors;
   }
 
   -- what the parasitics have under a name
@@ -173,7 +173,7 @@ couplings_of w = filter_map coupling_of w.caps
 
 -- ---- the tree
 
-abbrev pub resistor_of : List Text → Between → Resistor
+abbrev pub resistor_of : List Text → NamedResistor → Resistor
 resistor_of nodes r = record { a = number_of r.a nodes; b = number_of r.b nodes; value = r.value }
 
 -- the tree of a net's wire with these capacitances to ground; its root is the driver

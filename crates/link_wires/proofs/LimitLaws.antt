@@ -10,7 +10,7 @@ use Rattle.link_rules.specs.declared.fault.LinkFault.TheVariants as faults
 use Rattle.link_rules.specs.Limits.{greatest_load}
 use Rattle.link_rules.specs.Sound.{IsQuantity}
 use Rattle.link_rules.specs.Wires.{Wire, charges_of, tap_of, tree_by}
-use Rattle.link_wires.specs.Told.{limit_by, IsLimit}
+use Rattle.link_wires.specs.WireFaults.{limit_by, IsLimit}
 use Rattle.link_wires.specs.Wires.{charge_sum, HasQuantities, IsNumbered}
 use Rattle.link_wires.proofs.TreeLaws.{load_is}
 

@@ -10,7 +10,7 @@ use Rattle.name_numbers.specs.Names.{Text, number_of}
 use Rattle.xt_model.specs.Names.{IsName}
 use Rattle.link_rules.specs.declared.circuit.Sink.{Sink}
 use Rattle.link_rules.specs.Bits.{rising}
-use Rattle.link_rules.specs.Wires.{Capacitor, Between, Wire, sink_node, sink_charges, names_on, has_resistors}
+use Rattle.link_rules.specs.Wires.{Capacitor, NamedResistor, Wire, sink_node, sink_charges, names_on, has_resistors}
 use Rattle.link_wires.specs.Wires.{IsNumbered}
 
 pub take_push : {X : Type 0} (xs : List X) (i : ℕ) (d : X) → i < length xs → take (i + 1) xs ≡ take i xs ++ get_or xs i d ∷ []
@@ -84,11 +84,11 @@ all_unmapped P f [] all = λ i d lt. absurd (omega (arith, lt))
 all_unmapped P f (x ∷ xs) all =
     All-cons (λ y. P (f y)) x xs (all 0 (f x) (omega arith)) (all_unmapped P f xs (λ i d lt. all (suc i) d (omega (arith, lt))))
 
-all_a : (P : Text → Type 0) (rs : List Between) → All P (flat_map (λ r. r.a ∷ r.b ∷ []) rs) → All (λ r. P r.a) rs
+all_a : (P : Text → Type 0) (rs : List NamedResistor) → All P (flat_map (λ r. r.a ∷ r.b ∷ []) rs) → All (λ r. P r.a) rs
 all_a P [] all = λ i d lt. absurd (omega (arith, lt))
 all_a P (r ∷ rs) all = All-cons (λ r. P r.a) r rs (all 0 r.a (omega arith)) (all_a P rs (λ i d lt. all (suc (suc i)) d (omega (arith, lt))))
 
-all_b : (P : Text → Type 0) (rs : List Between) → All P (flat_map (λ r. r.a ∷ r.b ∷ []) rs) → All (λ r. P r.b) rs
+all_b : (P : Text → Type 0) (rs : List NamedResistor) → All P (flat_map (λ r. r.a ∷ r.b ∷ []) rs) → All (λ r. P r.b) rs
 all_b P [] all = λ i d lt. absurd (omega (arith, lt))
 all_b P (r ∷ rs) all = All-cons (λ r. P r.b) r rs (all 1 r.b (omega arith)) (all_b P rs (λ i d lt. all (suc (suc i)) d (omega (arith, lt))))
 

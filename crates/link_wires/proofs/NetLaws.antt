@@ -12,7 +12,7 @@ use Rattle.spef_read.specs.declared.parasitics.Parasitics.{Parasitics}
 use Rattle.elmore_tree.specs.declared.fault.TreeFault.{TreeFault}
 use Rattle.elmore_tree.specs.declared.fault.TreeFault.TheVariants as trees
 use Rattle.elmore_tree.specs.Trees.{TreeParts, IsSoundTree}
-use Rattle.elmore_tree.specs.Forms.{IsFaultOf, IsTakenTree}
+use Rattle.elmore_tree.specs.Forms.{IsFaultOf, IsAcceptedTree}
 use Rattle.elmore_tree.specs.Paths.{IsMeshed, IsLeastUnreached}
 use Rattle.xt_model.specs.declared.fault.LimitKind.{LimitKind}
 use Rattle.xt_model.specs.declared.fault.LimitKind.TheVariants as limits
@@ -30,7 +30,7 @@ use Rattle.xt_model.specs.Limits.{most_nodes}
 use Rattle.link_rules.specs.Limits.{or_fault, passed, most_load, greatest_load}
 use Rattle.link_rules.specs.Refusals.{net_limit}
 use Rattle.link_wires.specs.declared.wire.NetWire.{NetWire}
-use Rattle.link_wires.specs.Told.{IsThere, IsToldFault, IsTreeFault, IsLimit, IsTreeWithin, limit_by, limit_at}
+use Rattle.link_wires.specs.WireFaults.{IsThere, IsLinkFaultOf, IsTreeFault, IsLimit, IsTreeWithin, limit_by, limit_at}
 use Rattle.link_wires.specs.Within.{IsWireWithin, IsFaultWithin}
 use Rattle.link_wires.specs.Wires.{IsNumbered, IsWireOf, IsNetFault}
 use Rattle.link_wires.proofs.ListLaws.{numbered_by}
@@ -129,10 +129,10 @@ module _ (listed : Bool) (pins : NetPins) (nodes : List Text) (w : Wire) where
   tree_fault_within t h (faults.Refused r) f = (h.limit, subst (λ x. IsTreeFault x pins.name nodes (faults.Refused r)) h.tree f)
   tree_fault_within t h (faults.Limit what name value) f = absurd f
 
-pub tree_fault : (t : TreeParts) (net : Text) (nodes : List Text) (fault : TreeFault) → IsFaultOf t fault → (told : LinkFault) → IsToldFault net nodes fault told → IsTreeFault t net nodes told
-tree_fault t net nodes trees.NotTree cause told e = subst (IsTreeFault t net nodes) (sym e) (trees.NotTree, cause, refl)
-tree_fault t net nodes (trees.NotReached k) cause told e = subst (IsTreeFault t net nodes) (sym e.2) (trees.NotReached k, cause, (e.0, e.1, refl))
-tree_fault t net nodes trees.NoMemory cause told e = subst (IsTreeFault t net nodes) (sym e) tt
+pub tree_fault : (t : TreeParts) (net : Text) (nodes : List Text) (fault : TreeFault) → IsFaultOf t fault → (link_fault : LinkFault) → IsLinkFaultOf net nodes fault link_fault → IsTreeFault t net nodes link_fault
+tree_fault t net nodes trees.NotTree cause link_fault e = subst (IsTreeFault t net nodes) (sym e) (trees.NotTree, cause, refl)
+tree_fault t net nodes (trees.NotReached k) cause link_fault e = subst (IsTreeFault t net nodes) (sym e.2) (trees.NotReached k, cause, (e.0, e.1, refl))
+tree_fault t net nodes trees.NoMemory cause link_fault e = subst (IsTreeFault t net nodes) (sym e) tt
 
 -- ---- the wire of a net
 net_limit_is : (n : Netlist) (p : Parasitics) (x : bare.Numbered) → net_limit n p x ≡ limit_at (is_some (listed n p x.1)) x.1 (bare.nodes n p x) (bare.wire n p x)
@@ -153,10 +153,10 @@ module _ (n : Netlist) (p : Parasitics) (net : ℕ) (pins : NetPins) (parts : Wi
   is_wire made h = record {
     couplings = h.couplings ∙ ap couplings_of w;
     tree = h.tree.tree ∙ tree_here;
-    taken = record { limit = limit_here ∙ h.tree.limit; wire = subst IsTakenTree (h.tree.tree ∙ tree_here) h.taken };
+    accepted = record { limit = limit_here ∙ h.tree.limit; wire = subst IsAcceptedTree (h.tree.tree ∙ tree_here) h.accepted };
   }
 
-  refused : (r : LinkRefusal) (fault : TreeFault) → limit_at here pins nodes parts ≡ None → IsFaultOf (tree_by nodes pins.sinks parts) fault → IsToldFault pins.name nodes fault (faults.Refused r)
+  refused : (r : LinkRefusal) (fault : TreeFault) → limit_at here pins nodes parts ≡ None → IsFaultOf (tree_by nodes pins.sinks parts) fault → IsLinkFaultOf pins.name nodes fault (faults.Refused r)
       → IsNetFault n p (net, pins) (faults.Refused r)
   refused r trees.NoMemory free f e = subst (IsNetFault n p (net, pins)) (sym e) tt
   refused r trees.NotTree free f e = subst (IsNetFault n p (net, pins)) (sym e) (limit_here ∙ free, refl, subst IsMeshed tree_here f)

@@ -18,7 +18,7 @@ use Rattle.link_rules.specs.Wires.{listed}
 use Rattle.link_index.specs.Cells.{at_place}
 use Rattle.link_index.proofs.FirstLaws.{position_push, number_is, any_is, find_at_place, first_and_rest, rest_of}
 use Rattle.link_wires.specs.Places.{AreNodes, HavePlaces}
-use Rattle.link_rules.specs.Wires.{Between}
+use Rattle.link_rules.specs.Wires.{NamedResistor}
 use Rattle.link_wires.proofs.ListLaws.{node_name, all_left, all_right}
 
 -- one node more
@@ -85,7 +85,7 @@ filter_turn f rest d x old new some is more =
 abbrev pub entering : List Text → Text → List Text
 entering nodes name = with_name name nodes
 
-abbrev pub both_nodes : Between → List Text
+abbrev pub both_nodes : NamedResistor → List Text
 both_nodes r = r.a ∷ r.b ∷ []
 
 pub fold_turn : {X : Type 0} (f : X → Text) (rest : List X) (d x : X) (nodes after : List Text) → 1 ≤ length rest → x ≡ get_or rest 0 d → after ≡ with_name (f x) nodes
@@ -95,7 +95,7 @@ fold_turn f rest d x nodes after some is more =
     ∙ ap (λ z. fold entering nodes (map f (z ∷ rest_of rest))) is
     ∙ ap (λ l. fold entering nodes (map f l)) (sym (first_and_rest rest d some))
 
-pub fold_pair : (rest : List Between) (d x : Between) (nodes mid after : List Text) → 1 ≤ length rest → x ≡ get_or rest 0 d
+pub fold_pair : (rest : List NamedResistor) (d x : NamedResistor) (nodes mid after : List Text) → 1 ≤ length rest → x ≡ get_or rest 0 d
     → mid ≡ with_name x.a nodes → after ≡ with_name x.b mid
     → fold entering after (flat_map both_nodes (rest_of rest)) ≡ fold entering nodes (flat_map both_nodes rest)
 fold_pair rest d x nodes mid after some is one two =
@@ -107,15 +107,15 @@ pub names_rest : {X : Type 0} (f : X → Text) (rest : List X) (d : X) → 1 ≤
 names_rest f rest d some all =
     all_right IsName (f (get_or rest 0 d) ∷ []) (map f (rest_of rest)) (subst (λ l. All IsName (map f l)) (first_and_rest rest d some) all)
 
-pub pair_rest : (rest : List Between) (d : Between) → 1 ≤ length rest → All IsName (flat_map both_nodes rest) → All IsName (flat_map both_nodes (rest_of rest))
+pub pair_rest : (rest : List NamedResistor) (d : NamedResistor) → 1 ≤ length rest → All IsName (flat_map both_nodes rest) → All IsName (flat_map both_nodes (rest_of rest))
 pair_rest rest d some all =
     all_right IsName (both_nodes (get_or rest 0 d)) (flat_map both_nodes (rest_of rest)) (subst (λ l. All IsName (flat_map both_nodes l)) (first_and_rest rest d some) all)
 
-pub pair_second : (rest : List Between) (d x : Between) → 1 ≤ length rest → x ≡ get_or rest 0 d → All IsName (flat_map both_nodes rest) → IsName x.b
+pub pair_second : (rest : List NamedResistor) (d x : NamedResistor) → 1 ≤ length rest → x ≡ get_or rest 0 d → All IsName (flat_map both_nodes rest) → IsName x.b
 pair_second rest d x some is all =
     let front : All IsName (both_nodes (get_or rest 0 d)) =
     all_left IsName (both_nodes (get_or rest 0 d)) (flat_map both_nodes (rest_of rest)) (subst (λ l. All IsName (flat_map both_nodes l)) (first_and_rest rest d some) all) in
-    subst (λ (r : Between). IsName r.b) (sym is) (front 1 [] (omega arith))
+    subst (λ (r : NamedResistor). IsName r.b) (sym is) (front 1 [] (omega arith))
 
 -- ---- wires by the names of nets
 

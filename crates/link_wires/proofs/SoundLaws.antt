@@ -15,7 +15,7 @@ use Rattle.spef_read.specs.declared.parasitics.WireText.{WireText}
 use Rattle.spef_read.specs.declared.parasitics.Parasitics.{Parasitics}
 use Rattle.link_rules.specs.Sound.{IsQuantity, IsThere, IsSoundRes, IsSoundWire, AreSoundParasitics}
 use Rattle.link_rules.specs.Nodes.{text_of}
-use Rattle.link_rules.specs.Wires.{Capacitor, Between, own_first, capacitor_by, capacitor_of, between_of, wire_in}
+use Rattle.link_rules.specs.Wires.{Capacitor, NamedResistor, own_first, capacitor_by, capacitor_of, named_resistor_of, wire_in}
 use Rattle.link_wires.specs.Wires.{HasNames, HasQuantities}
 
 -- what is found has what all have
@@ -54,11 +54,11 @@ module _ (netlist : Netlist) (p : Parasitics) (sound : AreSoundParasitics p) (ne
   other_named None h = tt
   other_named (Some name) h = text_named p sound name h
 
-  ends_named : (rs : List ResText) → All (IsSoundRes p) rs → All IsName (flat_map (λ (r : Between). r.a ∷ r.b ∷ []) (map (between_of netlist p) rs))
+  ends_named : (rs : List ResText) → All (IsSoundRes p) rs → All IsName (flat_map (λ (r : NamedResistor). r.a ∷ r.b ∷ []) (map (named_resistor_of netlist p) rs))
   ends_named [] all = All-nil IsName
   ends_named (r ∷ rs) all =
       let one = all 0 r (omega arith) in
-      let more : List Text = flat_map (λ (r : Between). r.a ∷ r.b ∷ []) (map (between_of netlist p) rs) in
+      let more : List Text = flat_map (λ (r : NamedResistor). r.a ∷ r.b ∷ []) (map (named_resistor_of netlist p) rs) in
       All-cons IsName (text_of p r.a) (text_of p r.b ∷ more) (text_named p sound r.a one.a)
       (All-cons IsName (text_of p r.b) more (text_named p sound r.b one.b) (ends_named rs (λ i d lt. all (suc i) d (omega (arith, lt)))))
 
@@ -66,7 +66,7 @@ module _ (netlist : Netlist) (p : Parasitics) (sound : AreSoundParasitics p) (ne
   pub wire_named : (o : Option WireText) → IfSome o (IsSoundWire p) → HasNames (wire_in netlist p net o)
   wire_named None h = All-nil IsName
   wire_named (Some w) h =
-      All-append IsName (map (λ (c : Capacitor). c.node) (map (capacitor_of netlist p net) w.caps)) (flat_map (λ (r : Between). r.a ∷ r.b ∷ []) (map (between_of netlist p) w.resistors))
+      All-append IsName (map (λ (c : Capacitor). c.node) (map (capacitor_of netlist p net) w.caps)) (flat_map (λ (r : NamedResistor). r.a ∷ r.b ∷ []) (map (named_resistor_of netlist p) w.resistors))
       (All-map IsName (λ (c : Capacitor). c.node) (map (capacitor_of netlist p net) w.caps)
       (All-map (λ (c : Capacitor). IsName c.node) (capacitor_of netlist p net) w.caps
       (λ i d lt. let one = h.caps i d lt in cap_named _ _ _ (text_named p sound _ one.a) (other_named _ one.b))))
@@ -79,10 +79,10 @@ module _ (netlist : Netlist) (p : Parasitics) (sound : AreSoundParasitics p) (ne
   wire_valued None h = record {
     total = zero_quantity;
     caps = All-nil (λ (c : Capacitor). IsQuantity c.value);
-    resistors = All-nil (λ (r : Between). IsQuantity r.value);
+    resistors = All-nil (λ (r : NamedResistor). IsQuantity r.value);
   }
   wire_valued (Some w) h = record {
     total = h.total;
     caps = All-map (λ (c : Capacitor). IsQuantity c.value) (capacitor_of netlist p net) w.caps (λ i d lt. let one = h.caps i d lt in cap_valued _ _ _ one.value);
-    resistors = All-map (λ (r : Between). IsQuantity r.value) (between_of netlist p) w.resistors (λ i d lt. let one = h.resistors i d lt in one.value);
+    resistors = All-map (λ (r : NamedResistor). IsQuantity r.value) (named_resistor_of netlist p) w.resistors (λ i d lt. let one = h.resistors i d lt in one.value);
   }

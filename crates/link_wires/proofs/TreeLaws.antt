@@ -10,7 +10,7 @@ use Rattle.elmore_tree.specs.Trees.{IsSoundResistor, IsSoundTap, ground_sum, tap
 use Rattle.link_rules.specs.declared.circuit.Sink.{Sink}
 use Rattle.link_rules.specs.Bits.{rising}
 use Rattle.link_rules.specs.Sound.{IsQuantity}
-use Rattle.link_rules.specs.Wires.{Capacitor, Between, Wire, Charge, has_resistors, node_count, node_at, sink_node, sink_charges, ground_by, ground_charge}
+use Rattle.link_rules.specs.Wires.{Capacitor, NamedResistor, Wire, Charge, has_resistors, node_count, node_at, sink_node, sink_charges, ground_by, ground_charge}
 use Rattle.link_rules.specs.Wires.{total_charges, charges_of, sum_at, tap_of, resistor_of, tree_by}
 use Rattle.link_wires.specs.Wires.{charge_sum, AreWithin, AreNatural, HasQuantities, IsNumbered}
 use Rattle.link_wires.proofs.GroundLaws.{length-rising, sum_natural, ground_total}
@@ -117,7 +117,7 @@ module _ (nodes : List Text) (ends : List Sink) (w : Wire) (numbered : IsNumbere
           let e : eqb l 0 ≡ false = ne_eqb l 0 (λ e. absurd (omega (arith, some, e))) in
           subst (λ b. m < cond (not b) n 1) (sym e) lt
 
-      apart : (i : ℕ) (d : Between) → i < length w.resistors → {m : ℕ} → m < length nodes → m < node_count nodes w
+      apart : (i : ℕ) (d : NamedResistor) → i < length w.resistors → {m : ℕ} → m < length nodes → m < node_count nodes w
       apart i d lt {m} less = whole_by (length nodes) m (length w.resistors) (omega (arith, lt)) less
 
   tap_by : (o : Option ℕ) (m : ℕ) (v : ℤ) → m < node_count nodes w → IsQuantity v → IfSome (option_map (λ net. record { node = m; cap = v }) o) (IsSoundTap (node_count nodes w))

@@ -13,7 +13,7 @@ use Rattle.spef_read.specs.declared.parasitics.Parasitics.{Parasitics}
 use Rattle.link_rules.specs.declared.circuit.NetPins.{NetPins}
 use Rattle.link_rules.specs.declared.fault.LinkFault.{LinkFault}
 use Rattle.link_rules.specs.declared.fault.LinkFault.TheVariants as faults
-use Rattle.link_rules.specs.Refusals.{IsTaken, IsWireFault, IsFirstWireFault}
+use Rattle.link_rules.specs.Refusals.{IsAcceptedWire, IsWireFault, IsFirstWireFault}
 use Rattle.link_wires.specs.declared.wire.NetWire.{NetWire}
 use Rattle.link_wires.specs.Wires.{IsWireOf, AreWires, IsNetFault, IsFirstFault}
 use Rattle.link_wires.proofs.ListLaws.{take_push}
@@ -60,7 +60,7 @@ module _ {N W : Type 0} (P : N → W → Type 0) where
 
 module _ (n : Netlist) (p : Parasitics) (nets : List NetPins) (i : ℕ) (x : NetPins) (ws : List NetWire) (lt : i < length nets) (at : x ≡ get_or nets i x)
     (before : AreWires n p (take i (enumerate_from 0 nets)) ws) where
-  -- one more net, whose wire is taken
+  -- one more net, whose wire is accepted
   pub wires_push : (w : NetWire) → IsWireOf n p (i, x) w → AreWires n p (take (i + 1) (enumerate_from 0 nets)) (ws ++ w ∷ [])
   wires_push w here =
       let more : take (i + 1) (enumerate_from 0 nets) ≡ take i (enumerate_from 0 nets) ++ (i, x) ∷ [] =
@@ -84,7 +84,7 @@ module _ (n : Netlist) (p : Parasitics) (nets : List NetPins) (i : ℕ) (x : Net
       record {
         place = i;
         at = subst (λ o. IsSomeAnd o (λ m. IsWireFault n p m fault)) (sym found) h;
-        before = all_each (IsWireOf n p) (IsTaken n p) (λ m w taken. taken.taken) (take i (enumerate_from 0 nets)) ws before.count before.each;
+        before = all_each (IsWireOf n p) (IsAcceptedWire n p) (λ m w wire. wire.accepted) (take i (enumerate_from 0 nets)) ws before.count before.each;
       }
 
   -- the first net with a fault

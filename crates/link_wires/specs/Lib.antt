@@ -1,5 +1,5 @@
 pub mod Places
 pub mod Wires
-pub mod Told
+pub mod WireFaults
 pub mod Within
 pub mod Ground

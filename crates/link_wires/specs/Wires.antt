@@ -13,7 +13,7 @@ use Rattle.link_rules.specs.declared.fault.LinkFault.TheVariants as faults
 use Rattle.link_rules.specs.Sound.{IsQuantity}
 use Rattle.link_rules.specs.Wires.{Wire, Charge, names_on, has_resistors, couplings_of}
 use Rattle.link_rules.specs.Bare as bare
-use Rattle.link_rules.specs.Refusals.{IsTaken, IsWireFault, IsFirstWireFault}
+use Rattle.link_rules.specs.Refusals.{IsAcceptedWire, IsWireFault, IsFirstWireFault}
 use Rattle.link_wires.specs.declared.wire.NetWire.{NetWire}
 
 -- the names of a wire's nodes are names
@@ -50,11 +50,11 @@ abbrev pub AreNatural : List Charge → Type 0
 AreNatural charges = All (λ c. pos 0 ≤ℤ c.1) charges
 
 module _ (netlist : Netlist) (parasitics : Parasitics) where
-  -- the wire of a net, which is taken
+  -- the wire of a net, which is accepted
   pub record IsWireOf (n : bare.Numbered) (w : NetWire) : Type 0 where
     pub couplings : w.couplings ≡ couplings_of (bare.wire netlist parasitics n)
     pub tree : w.tree ≡ bare.tree netlist parasitics n
-    pub taken : IsTaken netlist parasitics n
+    pub accepted : IsAcceptedWire netlist parasitics n
 
   -- the wires of nets, one for each
   pub record AreWires (nets : List bare.Numbered) (wires : List NetWire) : Type 0 where

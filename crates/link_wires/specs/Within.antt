@@ -1,19 +1,19 @@
 -- The wire of a net whose nodes are known, and its faults.
 use Rattle.std.specs.Prelude.{◌≡◌, Bool, List, Some, None}
 use Rattle.name_numbers.specs.Names.{Text}
-use Rattle.elmore_tree.specs.Forms.{IsTakenTree}
+use Rattle.elmore_tree.specs.Forms.{IsAcceptedTree}
 use Rattle.link_rules.specs.declared.circuit.NetPins.{NetPins}
 use Rattle.link_rules.specs.declared.fault.LinkFault.{LinkFault}
 use Rattle.link_rules.specs.declared.fault.LinkFault.TheVariants as faults
 use Rattle.link_rules.specs.Wires.{Wire, couplings_of, tree_by}
 use Rattle.link_wires.specs.declared.wire.NetWire.{NetWire}
-use Rattle.link_wires.specs.Told.{IsTreeFault, IsTreeWithin, limit_at}
+use Rattle.link_wires.specs.WireFaults.{IsTreeFault, IsTreeWithin, limit_at}
 
--- the wire of a net that passes no limit and whose tree is taken
+-- the wire of a net that passes no limit and whose tree is accepted
 pub record IsWireWithin (listed : Bool) (p : NetPins) (nodes : List Text) (w : Wire) (made : NetWire) : Type 0 where
   pub couplings : made.couplings ≡ couplings_of w
   pub tree : IsTreeWithin listed p nodes w made.tree
-  pub taken : IsTakenTree made.tree
+  pub accepted : IsAcceptedTree made.tree
 
 -- the fault of a net: the limit that it passes, else the fault of its tree; want of memory is always free
 abbrev pub IsFaultWithin : Bool → NetPins → List Text → Wire → LinkFault → Type 0

@@ -3,7 +3,7 @@
 ghost use Rattle.std.specs.Prelude.{◌≡◌, Some, IfOk};
 ghost use Rattle.link_rules.specs.declared.fault.LinkFault.TheVariants as faults;
 ghost use Rattle.link_rules.specs.Limits.{passed};
-ghost use Rattle.link_wires.specs.Told.{IsThere, IsToldFault, limit_by};
+ghost use Rattle.link_wires.specs.WireFaults.{IsThere, IsLinkFaultOf, limit_by};
 
 use crate::nodes::Nodes;
 use elmore_tree::TreeFault;
@@ -65,7 +65,7 @@ pub fn refusal_of<'a>(
     fault: TreeFault,
 ) -> Result<LinkFault, AllocError>
     requires { IsThere nodes.now fault }
-    ensures { IfOk result (IsToldFault net.now nodes.now fault) }
+    ensures { IfOk result (IsLinkFaultOf net.now nodes.now fault) }
 {
     match fault {
         TreeFault::NotTree => Ok(LinkFault::Refused(LinkRefusal::K5 {

@@ -1,7 +1,7 @@
 //! The parts of a wire: its capacitors, each at its own node, and its resistors.
 
 ghost use Rattle.std.specs.Prelude.{◌≡◌, IfOk, option_map};
-ghost use Rattle.link_rules.specs.Wires.{coupled, capacitor_of, between_of, wire_in};
+ghost use Rattle.link_rules.specs.Wires.{coupled, capacitor_of, named_resistor_of, wire_in};
 
 use crate::index::{WireIndex, text_of};
 use spef_read::{CapText, ResText, WireText};
@@ -33,9 +33,9 @@ pub struct ResAt<'a> {
 }
 
 impl<'a> Model for ResAt<'a> {
-    ghost use Rattle.link_rules.specs.Wires.{Between};
+    ghost use Rattle.link_rules.specs.Wires.{NamedResistor};
 
-    ghost Value = { Between };
+    ghost Value = { NamedResistor };
 
     ghost view = { λ r. record { a = r.a.now; b = r.b.now; value = r.value } };
 }
@@ -99,8 +99,8 @@ fn capacitor_of<'a>(index: &WireIndex<'a>, net: u32, cap: CapText) -> CapAt<'a>
 }
 
 /// A resistor of a net.
-fn between_of<'a>(index: &WireIndex<'a>, resistor: ResText) -> ResAt<'a>
-    ensures { result ≡ between_of index.now.netlist index.now.parasitics resistor }
+fn named_resistor_of<'a>(index: &WireIndex<'a>, resistor: ResText) -> ResAt<'a>
+    ensures { result ≡ named_resistor_of index.now.netlist index.now.parasitics resistor }
 {
     let parasitics = index.parasitics();
     ResAt {
@@ -134,7 +134,7 @@ impl<'a> WireParts<'a> {
             caps.push(capacitor_of(index, net, *cap))?;
         }
         for resistor in text.resistors.as_slice() {
-            resistors.push(between_of(index, *resistor))?;
+            resistors.push(named_resistor_of(index, *resistor))?;
         }
         Ok(WireParts {
             total: text.total,

@@ -3,10 +3,10 @@
 ghost use Rattle.std.specs.Prelude.{◌≡◌, ◌<◌, ◌^◌, false, length, IfOk, IfErr, OnOk};
 ghost use Rattle.std.specs.List.{All, enumerate_from};
 ghost use Rattle.elmore_tree.specs.declared.fault.TreeFault.{TreeFault};
-ghost use Rattle.elmore_tree.specs.Forms.{IsFormOf, IsFaultOf, IsTakenTree};
+ghost use Rattle.elmore_tree.specs.Forms.{IsFormOf, IsFaultOf, IsAcceptedTree};
 ghost use Rattle.link_rules.specs.Sound.{AreSoundParasitics};
 ghost use Rattle.link_rules.specs.Wires.{has_resistors};
-ghost use Rattle.link_wires.specs.Told.{IsThere, IsTreeFault, IsLimit, IsTreeWithin, limit_at};
+ghost use Rattle.link_wires.specs.WireFaults.{IsThere, IsTreeFault, IsLimit, IsTreeWithin, limit_at};
 ghost use Rattle.link_wires.specs.Within.{IsWireWithin, IsFaultWithin};
 ghost use Rattle.link_wires.specs.Wires.{HasQuantities, HasSinkQuantities, IsNumbered};
 ghost use Rattle.link_wires.specs.Wires.{IsWireOf, AreWires, IsNetFault, IsFirstFault};
@@ -65,7 +65,7 @@ fn check_tree<'a>(
     tree: &Tree,
 ) -> Result<(), LinkFault>
     requires { (fault : TreeFault) → IsFaultOf tree.now fault → IsThere nodes.now fault }
-    ensures ok { OnOk result (IsTakenTree tree.now) }
+    ensures ok { OnOk result (IsAcceptedTree tree.now) }
     ensures fault { IfErr result (IsTreeFault tree.now net.now nodes.now) }
 {
     match check(alloc, tree) {
@@ -145,7 +145,7 @@ pub fn wires<'a>(
 
 /// The Elmore form of a wire that is a tree which reaches all.
 pub fn form(alloc: Global, wire: &NetWire) -> Result<WireForm, AllocError>
-    requires { IsTakenTree wire.now.tree }
+    requires { IsAcceptedTree wire.now.tree }
     ensures { IfOk result (IsFormOf wire.now.tree) }
 {
     match coefficients(alloc, &wire.tree) {

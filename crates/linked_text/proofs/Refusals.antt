@@ -9,7 +9,7 @@ use Rattle.linked_text.specs.declared.fault.Fault.{Fault}
 use Rattle.linked_text.specs.declared.fault.LinkedFault.{LinkedFault}
 use Rattle.linked_text.specs.declared.fault.LinkedFault.TheVariants as faults
 use Rattle.linked_text.specs.Linked.{linked}
-use Rattle.linked_text.specs.Answers.{IsTextOf, IsToldOf, Tells}
+use Rattle.linked_text.specs.Answers.{IsTextOf, IsRefusalWithLine, AnswersWithLine}
 use Rattle.linked_text.specs.Meaning.{Means}
 use Rattle.linked_text.proofs.WholeLaws.{accepted, means_design, means_one, same_texts}
 
@@ -17,8 +17,8 @@ ok_no_err : (d : Parts) (f : Fault) → ◌≡◌ {A = Result Parts Fault} (Ok d
 ok_no_err d f e = absurd cc
 
 -- a refused text is of no design
-pub not_accepted : (bytes : List ℕ) (e : LinkedFault) → IsToldOf bytes e → (d : Parts) → IsTextOf bytes d → ⊥
-not_accepted bytes e told d of = ok_no_err d told.0 (means_one bytes (Ok d) (Err told.0) (means_design bytes d of) told.1)
+pub not_accepted : (bytes : List ℕ) (e : LinkedFault) → IsRefusalWithLine bytes e → (d : Parts) → IsTextOf bytes d → ⊥
+not_accepted bytes e refusal d of = ok_no_err d refusal.0 (means_one bytes (Ok d) (Err refusal.0) (means_design bytes d of) refusal.1)
 
 -- an accepted text is of no other design
 pub only_design : (bytes : List ℕ) (d : Parts) → Means bytes (Ok d) → (e : Parts) → IsSound e → bytes ≡ text_of (linked e) → d ≡ e
@@ -27,16 +27,16 @@ only_design bytes d means e sound written =
     same_texts d e of.sound sound (sym of.written ∙ written)
 
 -- what an answer says
-pub tells_ok : (bytes : List ℕ) (r : Result Parts LinkedFault) → Tells bytes r → IfOk r (IsTextOf bytes)
-tells_ok bytes (Ok d) t = accepted bytes d t
-tells_ok bytes (Err e) t = tt
+pub with_line_ok : (bytes : List ℕ) (r : Result Parts LinkedFault) → AnswersWithLine bytes r → IfOk r (IsTextOf bytes)
+with_line_ok bytes (Ok d) t = accepted bytes d t
+with_line_ok bytes (Err e) t = tt
 
-pub tells_only : (bytes : List ℕ) (r : Result Parts LinkedFault) → Tells bytes r → IfOk r (λ d. (e : Parts) → IsSound e → bytes ≡ text_of (linked e) → d ≡ e)
-tells_only bytes (Ok d) t = only_design bytes d t
-tells_only bytes (Err e) t = tt
+pub with_line_only : (bytes : List ℕ) (r : Result Parts LinkedFault) → AnswersWithLine bytes r → IfOk r (λ d. (e : Parts) → IsSound e → bytes ≡ text_of (linked e) → d ≡ e)
+with_line_only bytes (Ok d) t = only_design bytes d t
+with_line_only bytes (Err e) t = tt
 
-pub tells_refused : (bytes : List ℕ) (r : Result Parts LinkedFault) → Tells bytes r → (line : ℕ) (code : Code) → r ≡ Err (faults.Refused line code) → (d : Parts) → IsTextOf bytes d → ⊥
-tells_refused bytes r t line code e = not_accepted bytes (faults.Refused line code) (subst (Tells bytes) e t)
+pub with_line_refused : (bytes : List ℕ) (r : Result Parts LinkedFault) → AnswersWithLine bytes r → (line : ℕ) (code : Code) → r ≡ Err (faults.Refused line code) → (d : Parts) → IsTextOf bytes d → ⊥
+with_line_refused bytes r t line code e = not_accepted bytes (faults.Refused line code) (subst (AnswersWithLine bytes) e t)
 
-pub tells_limited : (bytes : List ℕ) (r : Result Parts LinkedFault) → Tells bytes r → (what : LimitKind) (name : Option (List ℕ)) (value : ℕ) → r ≡ Err (faults.Limit what name value) → (d : Parts) → IsTextOf bytes d → ⊥
-tells_limited bytes r t what name value e = not_accepted bytes (faults.Limit what name value) (subst (Tells bytes) e t)
+pub with_line_limited : (bytes : List ℕ) (r : Result Parts LinkedFault) → AnswersWithLine bytes r → (what : LimitKind) (name : Option (List ℕ)) (value : ℕ) → r ≡ Err (faults.Limit what name value) → (d : Parts) → IsTextOf bytes d → ⊥
+with_line_limited bytes r t what name value e = not_accepted bytes (faults.Limit what name value) (subst (AnswersWithLine bytes) e t)

@@ -10,7 +10,7 @@ use Rattle.linked_text.specs.declared.fault.LinkedFault.{LinkedFault}
 use Rattle.linked_text.specs.declared.fault.LinkedFault.TheVariants as faults
 use Rattle.linked_text.specs.declared.fault.Stop.{Stop}
 use Rattle.linked_text.specs.declared.fault.Stop.TheVariants as stops
-use Rattle.linked_text.specs.Meaning.{Means, told}
+use Rattle.linked_text.specs.Meaning.{Means, with_line}
 
 -- the bytes are the text of this design, which is sound and has levels
 pub record IsTextOf (bytes : List ℕ) (d : Parts) : Type 0 where
@@ -24,16 +24,16 @@ Answers bytes (Ok d) = Means bytes (Ok d)
 Answers bytes (Err stops.NoMemory) = Unit {0}
 Answers bytes (Err (stops.At fault)) = Means bytes (Err fault)
 
--- a refusal that the text means, told with the number of its line
-abbrev pub IsToldOf : List ℕ → LinkedFault → Type 0
-IsToldOf bytes e = (fault : Fault) × Means bytes (Err fault) × (e ≡ told bytes fault)
+-- a refusal that the text means, with the number of its line
+abbrev pub IsRefusalWithLine : List ℕ → LinkedFault → Type 0
+IsRefusalWithLine bytes e = (fault : Fault) × Means bytes (Err fault) × (e ≡ with_line bytes fault)
 
 abbrev pub IsRefusalOf : List ℕ → LinkedFault → Type 0
 IsRefusalOf bytes faults.NoMemory = Unit {0}
-IsRefusalOf bytes (faults.Refused line code) = IsToldOf bytes (faults.Refused line code)
-IsRefusalOf bytes (faults.Limit what name value) = IsToldOf bytes (faults.Limit what name value)
+IsRefusalOf bytes (faults.Refused line code) = IsRefusalWithLine bytes (faults.Refused line code)
+IsRefusalOf bytes (faults.Limit what name value) = IsRefusalWithLine bytes (faults.Limit what name value)
 
 -- the design that the text means, or its first refusal with its line
-abbrev pub Tells : List ℕ → Result Parts LinkedFault → Type 0
-Tells bytes (Ok d) = Means bytes (Ok d)
-Tells bytes (Err e) = IsRefusalOf bytes e
+abbrev pub AnswersWithLine : List ℕ → Result Parts LinkedFault → Type 0
+AnswersWithLine bytes (Ok d) = Means bytes (Ok d)
+AnswersWithLine bytes (Err e) = IsRefusalOf bytes e

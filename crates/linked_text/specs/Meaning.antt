@@ -149,7 +149,7 @@ pair_at zero bytes = do
   Ok (record { rise = rise.0; fall = fall.0 }, fall.1)
 pair_at (suc arcs) bytes = Ok (record { rise = bottom; fall = bottom }, bytes)
 
--- the net of this head with these couplings and nothing else, by which its greatest load is told
+-- the net of this head with these couplings and nothing else, by which its greatest load is tested
 abbrev pub coupled_net : NetHead → List Coupling → Net
 coupled_net h couplings = record {
   name = h.name;
@@ -266,7 +266,7 @@ Means bytes outcome = Comes (parts_at bytes) outcome
 abbrev pub line_number : List ℕ → ℕ → ℕ
 line_number bytes left = 1 + (newlines bytes - left)
 
--- a refusal as it is told
-abbrev pub told : List ℕ → Fault → LinkedFault
-told bytes (faults.Refused left code) = linked.Refused (line_number bytes left) code
-told bytes (faults.Limit what name value) = linked.Limit what name value
+-- a refusal with the number of its line
+abbrev pub with_line : List ℕ → Fault → LinkedFault
+with_line bytes (faults.Refused left code) = linked.Refused (line_number bytes left) code
+with_line bytes (faults.Limit what name value) = linked.Limit what name value

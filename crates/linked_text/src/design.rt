@@ -10,7 +10,7 @@ ghost use Rattle.xt_model.specs.Sound.{IsSound};
 ghost use Rattle.text_lines.specs.Lines.{text_of};
 ghost use Rattle.linked_text.specs.declared.fault.LinkedFault.TheVariants.{Refused, Limit};
 ghost use Rattle.linked_text.specs.Linked.{linked};
-ghost use Rattle.linked_text.specs.Answers.{Answers, IsTextOf, Tells};
+ghost use Rattle.linked_text.specs.Answers.{Answers, IsTextOf, AnswersWithLine};
 
 use crate::fault::{Fault, LinkedFault, Stop};
 use crate::parts::{end, parts};
@@ -53,9 +53,9 @@ fn read(alloc: Global, bytes: Vec<u8>) -> Result<Design, Stop>
 }
 
 /// The same with the number of the line that is refused.
-fn tell(alloc: Global, bytes: Vec<u8>) -> Result<Design, LinkedFault>
+fn read_with_line(alloc: Global, bytes: Vec<u8>) -> Result<Design, LinkedFault>
     requires { count_by (λ b. b == 10) bytes.items + 1 < 2 ^ 32 }
-    ensures { Tells bytes.items result }
+    ensures { AnswersWithLine bytes.items result }
 {
     let all = newlines(bytes.as_slice());
     match read(alloc, bytes) {
@@ -76,7 +76,7 @@ pub fn read_linked(alloc: Global, bytes: &[u8]) -> Result<Design, LinkedFault>
     // Each line has a number of 32 bits: `has_numbered_lines`.
     requires { count_by (λ b. b == 10) bytes.now + 1 < 2 ^ 32 }
     // What the text means, line by line: a design, or the first refusal.
-    ensures means { Tells bytes.now result }
+    ensures means { AnswersWithLine bytes.now result }
     // What is read is sound, and spelled so.
     ensures ok { IfOk result (IsTextOf bytes.now) }
     // No other sound design is spelled so.
@@ -88,14 +88,14 @@ pub fn read_linked(alloc: Global, bytes: &[u8]) -> Result<Design, LinkedFault>
         → (d : Parts) → IsTextOf bytes.now d → ⊥ }
 {
     let text = Vec::from_slice(alloc, bytes)?;
-    tell(alloc, text)
+    read_with_line(alloc, text)
 }
 
 /// The same as `read_linked`, of a text that is let go while it is read: each time half of what was left is read.
 pub fn read_linked_text(alloc: Global, bytes: Vec<u8>) -> Result<Design, LinkedFault>
     requires { count_by (λ b. b == 10) bytes.items + 1 < 2 ^ 32 }
-    ensures means { Tells bytes.items result }
+    ensures means { AnswersWithLine bytes.items result }
     ensures ok { IfOk result (IsTextOf bytes.items) }
 {
-    tell(alloc, bytes)
+    read_with_line(alloc, bytes)
 }

@@ -89,7 +89,7 @@ fn makes_no_other_calls(rt: HostRuntime) -> Result<(), Fail> {
     assert_eq!(rt; read_whole(alloc, &mut files, "a")?.len(), 200_000);
     assert_eq!(rt; files.opened.len(), 1);
     assert_eq!(rt; files.opened[0].as_str(), "a");
-    assert_eq!(rt; files.asked.as_slice(), [65_536; 5].as_slice());
+    assert_eq!(rt; files.lengths.as_slice(), [65_536; 5].as_slice());
     Ok(())
 }
 
@@ -141,7 +141,7 @@ struct Trickle {
     at: usize,
     length: usize,
     fail: Option<usize>,
-    taken: Vec<u8>,
+    bytes: Vec<u8>,
 }
 
 impl Trickle {
@@ -177,7 +177,7 @@ impl Write for Trickle {
         if self.at >= self.length || piece.is_empty() {
             return Ok(0);
         }
-        self.taken.push(piece[0])?;
+        self.bytes.push(piece[0])?;
         self.at += 1;
         Ok(1)
     }
@@ -218,7 +218,7 @@ impl Directory for Trickles {
             at: 0,
             length: self.length,
             fail: self.fail,
-            taken: Vec::new(self.alloc),
+            bytes: Vec::new(self.alloc),
         })
     }
 }
@@ -263,11 +263,11 @@ fn writes_byte_by_byte(rt: HostRuntime) -> Result<(), Fail> {
             at: 0,
             length,
             fail,
-            taken: Vec::new(alloc),
+            bytes: Vec::new(alloc),
         });
         assert_eq!(rt; write_whole(&mut sink, &bytes).is_ok(), written == 1000);
         assert_eq!(rt;
-            sink.into_stream().taken.as_slice(),
+            sink.into_stream().bytes.as_slice(),
             sample(alloc, written)?.as_slice()
         );
     }

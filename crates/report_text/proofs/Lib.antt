@@ -1,6 +1,6 @@
 mod Lines
 mod Pieces
 mod Bound
-mod Told
+mod CheckLines
 mod WorkedReports
 mod Widths

@@ -1,4 +1,4 @@
-//! What a report tells of the checks of a design.
+//! The lines of a report on the checks of a design.
 
 ghost use Rattle.std.specs.Prelude.{◌≡◌, ◌++◌, ◌<◌, ℕ, length, IfOk, IfSome, OnOk};
 ghost use Rattle.std.specs.List.{All};
@@ -27,7 +27,7 @@ pub struct Checked {
 }
 
 impl Checked {
-    /// What is told of the checks of a design in its least and its greatest windows. Fails only for want of memory.
+    /// The slacks and the worst paths of a design in its least and its greatest windows. Fails only for want of memory.
     pub fn of(
         alloc: Global,
         design: &Design,
@@ -39,7 +39,7 @@ impl Checked {
         requires high_count { length high.now ≡ length design.now.nets }
         requires high_within { IsWithinEnvelope design.now high.now }
         requires closed { (n : ℕ) (e : Edge) → step design.now high.now n e ≡ assigned high.now n e }
-        ensures told { IfOk result (IsChecked design.now low.now high.now) }
+        ensures is_checked { IfOk result (IsChecked design.now low.now high.now) }
         ensures named { IfOk result (AreOfDesign design.now) }
     {
         let slacks = slacks(alloc, design, low, high)?;

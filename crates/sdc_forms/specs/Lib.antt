@@ -1,4 +1,4 @@
 pub mod Options
 pub mod Arranged
-pub mod Said
+pub mod Statement
 pub mod View

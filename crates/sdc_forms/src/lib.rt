@@ -5,10 +5,10 @@ mod arranged;
 mod command;
 mod option;
 mod picked;
-mod said;
 mod slot;
+mod statement;
 mod units;
 
 pub use picked::Picked;
-pub use said::{Said, said_by_words};
 pub use slot::text_in;
+pub use statement::{Statement, statement_of_words};

@@ -1,8 +1,8 @@
 //! Units of times and capacitances.
 
 ghost use Rattle.std.specs.Prelude.{◌≡◌, ℤ, pos, neg_ℤ, ◌≤ℤ◌, IfSome};
-ghost use Rattle.sdc_forms.specs.Said.{is_same, one_of, number_power, sum_of, letters_of, number_of};
-ghost use Rattle.sdc_forms.specs.Said.{time_power, cap_power};
+ghost use Rattle.sdc_forms.specs.Statement.{is_same, one_of, number_power, sum_of, letters_of, number_of};
+ghost use Rattle.sdc_forms.specs.Statement.{time_power, cap_power};
 ghost use Rattle.sdc_forms.specs.View.{IsPower};
 
 use xt_number::power_of_ten;
@@ -62,7 +62,7 @@ fn split_unit(text: &[u8]) -> (&[u8], &[u8])
 }
 
 /// A unit of time by the power of ten of its fs.
-#[tactic(auto, unfolding(crate::specs::Said::time_power))]
+#[tactic(auto, unfolding(crate::specs::Statement::time_power))]
 pub fn time_power(text: &[u8]) -> Option<i32>
     ensures value { result ≡ time_power text.now }
     ensures bounds { IfSome result IsPower }
@@ -72,7 +72,7 @@ pub fn time_power(text: &[u8]) -> Option<i32>
 }
 
 /// A unit of capacitance by the power of ten of its aF.
-#[tactic(auto, unfolding(crate::specs::Said::cap_power))]
+#[tactic(auto, unfolding(crate::specs::Statement::cap_power))]
 pub fn cap_power(text: &[u8]) -> Option<i32>
     ensures value { result ≡ cap_power text.now }
     ensures bounds { IfSome result IsPower }

@@ -12,8 +12,8 @@ use Rattle.xt_number.specs.declared.fault.NumberFault.{NumberFault}
 use Rattle.verilog_net.specs.Nets.{Nets}
 use Rattle.sdc_words.specs.Items.{items_of}
 use Rattle.sdc_words.specs.Words.{Text, WordText}
-use Rattle.sdc_forms.specs.Said.{Said, Nothing, Units, InputDelay, OutputDelay, InputTransition, Load}
-use Rattle.sdc_forms.specs.Said as forms
+use Rattle.sdc_forms.specs.Statement.{Statement, Nothing, Units, InputDelay, OutputDelay, InputTransition, Load}
+use Rattle.sdc_forms.specs.Statement as forms
 use Rattle.sdc_read.specs.declared.change.Change.{Change}
 use Rattle.sdc_read.specs.declared.change.Change.TheVariants as changes
 use Rattle.sdc_read.specs.declared.constraints.Clock.{Clock}
@@ -56,13 +56,13 @@ with_units time cap s = record s { time = or_same time s.time; cap = or_same cap
 
 -- ---- numbers
 
-abbrev pub taken : Result ℤ NumberFault → Result ℤ Code
-taken (Ok x) = Ok x
-taken (Err fault) = Err C4
+abbrev pub number_or_refusal : Result ℤ NumberFault → Result ℤ Code
+number_or_refusal (Ok x) = Ok x
+number_or_refusal (Err fault) = Err C4
 
 -- a number
 unfoldable pub number_in : Text → ℤ → Result ℤ Code
-number_in t scale = taken (fixed t scale)
+number_in t scale = number_or_refusal (fixed t scale)
 
 abbrev pub at_least : ℤ → ℤ → Result ℤ Code
 at_least least x = if int_le least x then Ok x else Err C4
@@ -136,7 +136,7 @@ if_known true read = read
 if_known false read = Err C6
 
 -- what a command means by what it says
-unfoldable pub means : Nets → Said → State → Result State Code
+unfoldable pub means : Nets → Statement → State → Result State Code
 means nets Nothing s = Ok s
 means nets (Units time cap) s = Ok (with_units time cap s)
 means nets (forms.Clock name period waveform source) s = create_clock nets name period waveform source s

@@ -8,14 +8,14 @@ use Rattle.xt_model.specs.Results.{◌>>=◌}
 use Rattle.xt_model.specs.declared.code.Code.TheVariants.{C1}
 use Rattle.verilog_net.specs.Nets.{Nets}
 use Rattle.sdc_words.specs.Words.{CommandText, commands_of}
-use Rattle.sdc_forms.specs.Said.{said_by_words}
+use Rattle.sdc_forms.specs.Statement.{statement_of_words}
 use Rattle.sdc_read.specs.declared.constraints.Constraints.{Constraints}
 use Rattle.sdc_read.specs.Ports.{settled}
 use Rattle.sdc_read.specs.Meaning.{State, nothing, means}
 
 -- what a command means: its form comes first
 abbrev pub command_means : Nets → CommandText → State → Result State Code
-command_means nets c s = said_by_words c.words >>= λ said. means nets said s
+command_means nets c s = statement_of_words c.words >>= λ statement. means nets statement s
 
 -- what commands mean, one after another
 abbrev pub commands_mean : Nets → List CommandText → State → Meant State

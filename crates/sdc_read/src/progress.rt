@@ -2,7 +2,7 @@
 
 ghost use Rattle.std.specs.Prelude.{◌≡◌, pos, option_map, map, IfSome, IfOk};
 ghost use Rattle.sdc_words.specs.View.{word_text};
-ghost use Rattle.sdc_forms.specs.View.{said_text, HasPowers, IsPower};
+ghost use Rattle.sdc_forms.specs.View.{statement_text, HasPowers, IsPower};
 ghost use Rattle.sdc_read.specs.Changes.{IsChange};
 ghost use Rattle.sdc_read.specs.Meaning.{nothing, or_same, with_units, create_clock, change_ports, means, bit_of};
 ghost use Rattle.sdc_read.specs.Meaning.{if_known, or_name, IsScale, IsClock};
@@ -19,7 +19,7 @@ use crate::objects::change_objects;
 use crate::port_table::{PortTable, SetPorts};
 use crate::ports::PortBit;
 use crate::source::{bit_name, source_of};
-use sdc_forms::Said;
+use sdc_forms::Statement;
 use sdc_words::Word;
 use std::alloc::{AllocError, Global};
 use std::marker::Model;
@@ -183,33 +183,33 @@ impl Progress {
         &mut self,
         alloc: Global,
         netlist: &ListedNetlist<'_>,
-        said: Said<'_>,
+        statement: Statement<'_>,
     ) -> Result<(), Stop>
-        requires { HasPowers said }
-        ensures { Changes result self.new (means netlist.now (said_text said.entry) self.old) }
+        requires { HasPowers statement }
+        ensures { Changes result self.new (means netlist.now (statement_text statement.entry) self.old) }
     {
-        match said {
-            Said::Nothing => Ok(()),
-            Said::Units(time, cap) => {
+        match statement {
+            Statement::Nothing => Ok(()),
+            Statement::Units(time, cap) => {
                 self.set_units(time, cap);
                 Ok(())
             }
-            Said::Clock(name, period, waveform, source) => {
+            Statement::Clock(name, period, waveform, source) => {
                 self.create_clock(alloc, netlist, name, period, waveform, source)
             }
-            Said::InputDelay(number, clock, picked, list) => {
+            Statement::InputDelay(number, clock, picked, list) => {
                 let number = number_in(number, self.time)?;
                 self.change_known(netlist, clock, Change::InputDelay(picked, number), list)
             }
-            Said::OutputDelay(number, clock, picked, list) => {
+            Statement::OutputDelay(number, clock, picked, list) => {
                 let number = number_in(number, self.time)?;
                 self.change_known(netlist, clock, Change::OutputDelay(picked, number), list)
             }
-            Said::InputTransition(number, picked, list) => {
+            Statement::InputTransition(number, picked, list) => {
                 let number = number_from(0, number, self.time)?;
                 self.change_ports(netlist, Change::Slew(picked, number), list)
             }
-            Said::Load(number, list) => {
+            Statement::Load(number, list) => {
                 let number = number_from(0, number, self.cap)?;
                 self.change_ports(netlist, Change::Load(number), list)
             }

@@ -9,7 +9,7 @@ ghost use Rattle.text_forms.specs.Stops.{Changes, Gives};
 use crate::constraints::Constraints;
 use crate::listed::ListedNetlist;
 use crate::progress::Progress;
-use sdc_forms::said_by_words;
+use sdc_forms::statement_of_words;
 use sdc_words::{Command, Commands};
 use std::alloc::Global;
 use text_forms::{Stop, tokens_refused};
@@ -26,8 +26,8 @@ fn act_on(
 ) -> Result<(), Stop>
     ensures { Changes result state.new (command_means netlist.now (command_text command.now) state.old) }
 {
-    let said = said_by_words(alloc, command.words.as_ref())?;
-    state.act(alloc, netlist, said)
+    let statement = statement_of_words(alloc, command.words.as_ref())?;
+    state.act(alloc, netlist, statement)
 }
 
 /// Does what the commands of a text mean.

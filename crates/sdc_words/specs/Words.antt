@@ -165,9 +165,9 @@ go_on t None = None
 go_on t (Some p) = added t p
 
 -- a token of a command, which begins with it where none is open
-abbrev pub taken : TokenText → Option OpenText → OpenText
-taken t None = record { line = t.line; read = added t nothing }
-taken t (Some c) = record { line = c.line; read = go_on t c.read }
+abbrev pub with_token : TokenText → Option OpenText → OpenText
+with_token t None = record { line = t.line; read = added t nothing }
+with_token t (Some c) = record { line = c.line; read = go_on t c.read }
 
 -- the words of a command that ends: no bracket may stand open
 abbrev pub finished : Option PartialText → Option (List WordText)
@@ -187,7 +187,7 @@ is_break _ = false
 abbrev pub commands_from : Option OpenText → List TokenText → List CommandText
 commands_from o [] = with_ended o []
 commands_from o (t ∷ ts) =
-    if is_break t.kind then with_ended o (commands_from None ts) else commands_from (Some (taken t o)) ts
+    if is_break t.kind then with_ended o (commands_from None ts) else commands_from (Some (with_token t o)) ts
 
 -- the commands of a text
 unfoldable pub commands_of : List ℕ → List CommandText

@@ -2,7 +2,7 @@
 
 ghost use Rattle.std.specs.Prelude.{◌≡◌, ℕ, ◌+◌, ◌≤◌, [], ◌∷◌, length, None, Some, IfOk, IfSome, MatchOption};
 ghost use Rattle.xt_lex.specs.View.{text_of};
-ghost use Rattle.sdc_words.specs.Words.{is_break, taken, finished, read_of, commands_from, commands_of};
+ghost use Rattle.sdc_words.specs.Words.{is_break, with_token, finished, read_of, commands_from, commands_of};
 ghost use Rattle.sdc_words.specs.View.{command_text};
 
 use crate::partial::Partial;
@@ -49,7 +49,7 @@ fn is_break(kind: Kind) -> bool
 fn first_token<'a>(tokens: &mut Lexemes<'a>) -> Option<Lexeme<'a>>
     ensures first { MatchOption result
         ((commands_from None tokens.old ≡ []) × (commands_from None tokens.new ≡ []))
-        (λ t. commands_from None tokens.old ≡ commands_from (Some (taken (text_of t) None)) tokens.new) }
+        (λ t. commands_from None tokens.old ≡ commands_from (Some (with_token (text_of t) None)) tokens.new) }
     ensures within { IfSome result (λ t. t.from + length t.text.now ≤ MOST_BYTES) }
 {
     'tokens: while let Some(token) = tokens.next_token() {
@@ -77,7 +77,7 @@ fn read_command<'a>(
     first: Lexeme<'a>,
 ) -> Result<Command<'a>, AllocError>
     requires { first.from + length first.text.now ≤ MOST_BYTES }
-    ensures { IfOk result (λ c. commands_from (Some (taken (text_of first.entry) None)) tokens.old
+    ensures { IfOk result (λ c. commands_from (Some (with_token (text_of first.entry) None)) tokens.old
         ≡ command_text c ∷ commands_from None tokens.new) }
 {
     let mut read = Partial::new(alloc);

@@ -19,8 +19,8 @@ use Rattle.xt_number.specs.Reading.{numeral_of}
 use Rattle.verilog_net.specs.declared.netlist.PortRole.{PortRole}
 use Rattle.verilog_net.specs.Nets.{Nets}
 use Rattle.sdc_words.specs.Words.{Text, NamesText, WordText, CommandText, commands_of}
-use Rattle.sdc_forms.specs.Said.{Said, Nothing, Units, InputDelay, OutputDelay, InputTransition, Load, said_by_words}
-use Rattle.sdc_forms.specs.Said as forms
+use Rattle.sdc_forms.specs.Statement.{Statement, Nothing, Units, InputDelay, OutputDelay, InputTransition, Load, statement_of_words}
+use Rattle.sdc_forms.specs.Statement as forms
 use Rattle.sdc_forms.specs.declared.picked.Picked.{Picked}
 use Rattle.sdc_read.specs.declared.change.Change.{Change}
 use Rattle.sdc_read.specs.declared.change.Change.TheVariants as changes
@@ -33,7 +33,7 @@ use Rattle.sdc_read.specs.Ports.{Ports, unset, found_sides, with_sides, filled, 
 use Rattle.sdc_read.specs.Changes.{chosen, with_number, changed, role_for, is_input_delay, is_clock, or_unset, change_bit, over_first, bit_at, bit_count, Bits, change_bits, IsChange}
 use Rattle.xt_model.specs.Results.{◌>>=◌}
 use Rattle.sdc_read.specs.Objects.{names_in, port_names, all_of, named_bits, net_bits, has_role, same_role, change_found, change_names, change_if, change_all, change_as, change_objects, knows_clock, source_of, bit_name}
-use Rattle.sdc_read.specs.Meaning.{State, nothing, with_units, taken, number_in, at_least, number_from, fall_in, or_name, with_clock, create_clock, bit_of, change_ports, if_known, means}
+use Rattle.sdc_read.specs.Meaning.{State, nothing, with_units, number_or_refusal, number_in, at_least, number_from, fall_in, or_name, with_clock, create_clock, bit_of, change_ports, if_known, means}
 use Rattle.sdc_read.specs.Reading.{command_means, commands_mean, constraints_in, constraints_of}
 use Rattle.sound_reads.proofs.Texts.{not_refused}
 use Rattle.sdc_read.proofs.PortLaws.{entered_in_range, found_in_range}
@@ -59,9 +59,9 @@ module _ (scale v : ℤ) where
   by_numeral None h = absurd (cc)
   by_numeral (Some n) h = by_tests n (nat_lt 30 (digit_count n)) (nat_lt (2 ^ 40) (size n scale)) refl h
 
-  taken_by : (r : Result ℤ NumberFault) → (r ≡ Ok v → Within v) → taken r ≡ Ok v → Within v
-  taken_by (Err f) g e = absurd (cc)
-  taken_by (Ok x) g e = let same : x ≡ v = cc in g (ap Ok same)
+  by_result : (r : Result ℤ NumberFault) → (r ≡ Ok v → Within v) → number_or_refusal r ≡ Ok v → Within v
+  by_result (Err f) g e = absurd (cc)
+  by_result (Ok x) g e = let same : x ≡ v = cc in g (ap Ok same)
 
 -- ---- what a command changes
 module _ (p : Picked) where
@@ -170,7 +170,7 @@ Fine s = AllInRange s.ports
 
 number_is : (t : Text) (scale x : ℤ) → number_in t scale ≡ Ok x → IsTime (Some x)
 unfolding number_in fixed
-number_is t scale x e = taken_by scale x (fixed t scale) (λ at. by_numeral scale x (numeral_of t) at) e
+number_is t scale x e = by_result scale x (fixed t scale) (λ at. by_numeral scale x (numeral_of t) at) e
 
 low_by : (least v x : ℤ) (b : Bool) → int_le least v ≡ b → (if b then Ok v else Err C4) ≡ Ok x → (v ≡ x) × (int_le least v ≡ true)
 low_by least v x true le e = (cc, le)
@@ -214,23 +214,23 @@ module _ (nets : Nets) (s s' : State) (h : Fine s) where
       let c = got (source_of nets source) (behind a.0 b.0) s' b.2 in
       clock_by s.clock (made a.0 b.0 c.0) c.2
 
-  pub said_fine : (said : Said) → means nets said s ≡ Ok s' → Fine s'
+  pub statement_fine : (statement : Statement) → means nets statement s ≡ Ok s' → Fine s'
   unfolding means
-  said_fine Nothing e = let same : s ≡ s' = cc in subst Fine same h
-  said_fine (Units time cap) e = let same : with_units time cap s ≡ s' = cc in subst Fine same h
-  said_fine (forms.Clock name period waveform source) e = clock_created name period waveform source e
-  said_fine (InputDelay number clock picked ports) e =
+  statement_fine Nothing e = let same : s ≡ s' = cc in subst Fine same h
+  statement_fine (Units time cap) e = let same : with_units time cap s ≡ s' = cc in subst Fine same h
+  statement_fine (forms.Clock name period waveform source) e = clock_created name period waveform source e
+  statement_fine (InputDelay number clock picked ports) e =
       let g = got (number_in number s.time) (λ x. if_known (knows_clock s.clock clock) (change_ports nets (changes.InputDelay picked x) ports s)) s' e in
       known_by (knows_clock s.clock clock) (change_ports nets (changes.InputDelay picked g.0) ports s)
       (λ at. ports_changed (changes.InputDelay picked g.0) ports (number_is number s.time g.0 g.1) at) g.2
-  said_fine (OutputDelay number clock picked ports) e =
+  statement_fine (OutputDelay number clock picked ports) e =
       let g = got (number_in number s.time) (λ x. if_known (knows_clock s.clock clock) (change_ports nets (changes.OutputDelay picked x) ports s)) s' e in
       known_by (knows_clock s.clock clock) (change_ports nets (changes.OutputDelay picked g.0) ports s)
       (λ at. ports_changed (changes.OutputDelay picked g.0) ports (number_is number s.time g.0 g.1) at) g.2
-  said_fine (InputTransition number picked ports) e =
+  statement_fine (InputTransition number picked ports) e =
       let g = got (number_from (pos 0) number s.time) (λ x. change_ports nets (changes.Slew picked x) ports s) s' e in
       ports_changed (changes.Slew picked g.0) ports (size_is number s.time g.0 g.1) g.2
-  said_fine (Load number ports) e =
+  statement_fine (Load number ports) e =
       let g = got (number_from (pos 0) number s.cap) (λ x. change_ports nets (changes.Load x) ports s) s' e in
       ports_changed (changes.Load g.0) ports (size_is number s.cap g.0 g.1) g.2
 
@@ -243,7 +243,7 @@ commands_fine : (nets : Nets) (cs : List CommandText) (s s' : State) → Fine s 
 commands_fine nets [] s s' h e = let same : s ≡ s' = cc in subst Fine same h
 commands_fine nets (c ∷ cs) s s' h e =
     command_by nets c (command_means nets c s) cs s'
-    (λ t at. let g = got (said_by_words c.words) (λ said. means nets said s) t at in said_fine nets s t h g.0 g.2)
+    (λ t at. let g = got (statement_of_words c.words) (λ statement. means nets statement s) t at in statement_fine nets s t h g.0 g.2)
     (λ t k at. commands_fine nets cs t s' k at) e
 
 -- ---- what is meant

@@ -14,7 +14,7 @@ use Rattle.spef_read.specs.declared.context.Context.{Context}
 use Rattle.spef_read.specs.declared.context.Context.TheVariants as contexts
 use Rattle.spef_read.specs.Sorts.{spef_tokens}
 use Rattle.spef_read.specs.Words.{Text}
-use Rattle.spef_read.specs.Forms.{Said, Slot, Only, AnyWord, AnyToken, ValueWord, NodeWord, Passed, InConnection, Tokens, SpefForm, fits, misfits, is_word, is_node, is_done, form, quiet, untaken}
+use Rattle.spef_read.specs.Forms.{Item, Slot, Only, AnyWord, AnyToken, ValueWord, NodeWord, Passed, InConnection, Tokens, SpefForm, fits, misfits, is_word, is_node, is_done, form, quiet, refused}
 use Rattle.spef_read.specs.Forms.{separator_of, quantity_of, forms, forms_in, section_forms, start_forms, header_forms, flow_forms, unit_forms, pairs_forms}
 use Rattle.spef_read.specs.Forms.{pair_name_forms, skipped_forms, closing_forms, behind_capacitors, behind_connections, net_name_forms, net_total_forms}
 use Rattle.spef_read.specs.Forms.{lists_forms, totalled_forms, connections_forms, connection_forms, element, capacitors_forms, cap_second_forms}
@@ -57,24 +57,24 @@ Keeps context f = FormKeeps fits misfits forms means IsPrintable Holds context [
 abbrev AllOf : Context → List SpefForm → Type 0
 AllOf context fs = AllByRecursion (Keeps context) fs
 
--- what is said leads from what holds in one context to what holds in the next
-abbrev Says : Context → Context → Said → Type 0
-Says context next said = (s s' : State) → Holds context s → means said s ≡ Ok s' → Holds next s'
+-- an item leads from what holds in one context to what holds in the next
+abbrev ItemKeeps : Context → Context → Item → Type 0
+ItemKeeps context next item = (s s' : State) → Holds context s → means item s ≡ Ok s' → Holds next s'
 
 -- ---- forms of one, two and three words
 module _ (context next : Context) where
-  one : (slot : Slot) (says : Text → Said) → ((t : Token Sort) → fits slot t.sort ≡ true → IsPrintable t → Says context next (says t.text))
-      → Keeps context (form (slot ∷ []) (λ ts. says (text_at 0 ts)) next)
-  one slot says k [] fit = absurd fit
-  one slot says k (t ∷ []) fit = k t fit.0 fit.1
-  one slot says k (t ∷ u ∷ ts) fit = absurd fit.2
+  one : (slot : Slot) (item : Text → Item) → ((t : Token Sort) → fits slot t.sort ≡ true → IsPrintable t → ItemKeeps context next (item t.text))
+      → Keeps context (form (slot ∷ []) (λ ts. item (text_at 0 ts)) next)
+  one slot item k [] fit = absurd fit
+  one slot item k (t ∷ []) fit = k t fit.0 fit.1
+  one slot item k (t ∷ u ∷ ts) fit = absurd fit.2
 
-  two : (a b : Slot) (says : Text → Text → Said) → ((t u : Token Sort) → fits b u.sort ≡ true → IsPrintable u → Says context next (says t.text u.text))
-      → Keeps context (form (a ∷ b ∷ []) (λ ts. says (text_at 0 ts) (text_at 1 ts)) next)
-  two a b says k [] fit = absurd fit
-  two a b says k (t ∷ []) fit = absurd fit.2
-  two a b says k (t ∷ u ∷ []) fit = k t u fit.2.0 fit.2.1
-  two a b says k (t ∷ u ∷ v ∷ ts) fit = absurd fit.2.2
+  two : (a b : Slot) (item : Text → Text → Item) → ((t u : Token Sort) → fits b u.sort ≡ true → IsPrintable u → ItemKeeps context next (item t.text u.text))
+      → Keeps context (form (a ∷ b ∷ []) (λ ts. item (text_at 0 ts) (text_at 1 ts)) next)
+  two a b item k [] fit = absurd fit
+  two a b item k (t ∷ []) fit = absurd fit.2
+  two a b item k (t ∷ u ∷ []) fit = k t u fit.2.0 fit.2.1
+  two a b item k (t ∷ u ∷ v ∷ ts) fit = absurd fit.2.2
 
 moved : (context : Context) (s s' : State) → ◌≡◌ {A = Result State Code} (Ok s) (Ok s') → Holds context s → Holds context s'
 moved context s s' e h = let same : s ≡ s' = cc in rw same at h
@@ -83,9 +83,9 @@ quiet_keeps : (context next : Context) (slots : List Slot) → ((s : State) → 
 unfolding means
 quiet_keeps context next slots n ts fit s s' h e = moved next s s' e (h.0, n s h.1)
 
-untaken_keeps : (context : Context) (section : Sort) → Keeps context (untaken section)
+refused_keeps : (context : Context) (section : Sort) → Keeps context (refused section)
 unfolding means
-untaken_keeps context section ts fit s s' h e = absurd (cc)
+refused_keeps context section ts fit s s' h e = absurd (cc)
 
 begins_keeps : (context : Context) → Keeps context (form (Only sorts.Net ∷ []) (λ ts. grammar.NetBegins) contexts.NetName)
 unfolding means
@@ -96,7 +96,7 @@ unfolding means
 ends_keeps context ts fit s s' h e = ((units_lead s s' h.0 e).0, tt)
 
 net_ends_keeps : (context : Context) → ((s : State) → InNet context s → HasNames s)
-    → Keeps context (form (Only sorts.NetEnd ∷ []) (λ ts. grammar.NetEnds) contexts.Between)
+    → Keeps context (form (Only sorts.NetEnd ∷ []) (λ ts. grammar.NetEnds) contexts.BehindNet)
 unfolding means
 net_ends_keeps context n ts fit s s' h e = ((end_net_leads s h.0 s' (n s h.1) e).0, tt)
 
@@ -108,68 +108,68 @@ node_word _ h = h
 grown : (n m : ℕ) → 0 < n → n ≤ m → 0 < m
 grown n m a b = omega (arith, a, b)
 
--- ---- what forms say
+-- ---- what items keep
 module _ (context : Context) where
-  says_separator : (a b : Text) → AreGraphic b → Says context contexts.Header (grammar.Separator_is (separator_of a) b)
+  separator_keeps : (a b : Text) → AreGraphic b → ItemKeeps context contexts.Header (grammar.Separator_is (separator_of a) b)
   unfolding means
-  says_separator a b g s s' h e = ((separator_leads s s' h.0 (separator_of a) b g e).0, tt)
+  separator_keeps a b g s s' h e = ((separator_leads s s' h.0 (separator_of a) b g e).0, tt)
 
-  says_pair : (b : Text) → Says context contexts.Header (grammar.Pair b)
+  pair_keeps : (b : Text) → ItemKeeps context contexts.Header (grammar.Pair b)
   unfolding means
-  says_pair b s s' h e = ((pair_leads s s' h.0 b e).0, tt)
+  pair_keeps b s s' h e = ((pair_leads s s' h.0 b e).0, tt)
 
   brackets_keep : Keeps context (form (Only sorts.Brackets ∷ Only sorts.Bracket ∷ AnyWord ∷ []) (λ ts. grammar.Brackets_are (text_at 1 ts) (text_at 2 ts)) contexts.Header)
   unfolding means
   brackets_keep ts fit s s' h e = ((brackets_lead s s' h.0 (text_at 1 ts) (text_at 2 ts) e).0, tt)
 
-  says_unit_number : (a b : Text) → Says context contexts.Unit (grammar.UnitNumber (quantity_of a) b)
+  unit_number_keeps : (a b : Text) → ItemKeeps context contexts.Unit (grammar.UnitNumber (quantity_of a) b)
   unfolding means
-  says_unit_number a b s s' h e = ((unit_number_leads s s' h.0 (quantity_of a) b e).0, tt)
+  unit_number_keeps a b s s' h e = ((unit_number_leads s s' h.0 (quantity_of a) b e).0, tt)
 
-  says_unit : (b : Text) → Says context contexts.Header (grammar.Unit_is b)
+  unit_keeps : (b : Text) → ItemKeeps context contexts.Header (grammar.Unit_is b)
   unfolding means
-  says_unit b s s' h e = ((unit_leads s s' h.0 b e).0, tt)
+  unit_keeps b s s' h e = ((unit_leads s s' h.0 b e).0, tt)
 
-  says_pair_number : (b : Text) → Says context contexts.PairName (grammar.PairNumber b)
+  pair_number_keeps : (b : Text) → ItemKeeps context contexts.PairName (grammar.PairNumber b)
   unfolding means
-  says_pair_number b s s' h e = ((pair_number_leads s s' h.0 b e).0, tt)
+  pair_number_keeps b s s' h e = ((pair_number_leads s s' h.0 b e).0, tt)
 
-  says_pair_name : (b : Text) → AreGraphic b → Says context contexts.Pairs (grammar.PairName b)
+  pair_name_keeps : (b : Text) → AreGraphic b → ItemKeeps context contexts.Pairs (grammar.PairName b)
   unfolding means
-  says_pair_name b g s s' h e = ((end_pair_leads s s' h.0 b g e).0, tt)
+  pair_name_keeps b g s s' h e = ((end_pair_leads s s' h.0 b g e).0, tt)
 
-  says_net_name : (b : Text) → AreGraphic b → Says context contexts.NetTotal (grammar.NetName b)
+  net_name_keeps : (b : Text) → AreGraphic b → ItemKeeps context contexts.NetTotal (grammar.NetName b)
   unfolding means
-  says_net_name b g s s' h e = let l = net_name_leads s h.0 s' b g e in (l.0.0, l.1)
+  net_name_keeps b g s s' h e = let l = net_name_leads s h.0 s' b g e in (l.0.0, l.1)
 
   module _ (n : (s : State) → InNet context s → HasNames s) where
-    says_total : (b : Text) → Says context contexts.Totalled (grammar.Total b)
+    total_keeps : (b : Text) → ItemKeeps context contexts.Totalled (grammar.Total b)
     unfolding means
-    says_total b s s' h e = let l = total_leads s h.0 s' b e in (l.0, grown (length s.names) (length s'.names) (n s h.1) l.1)
+    total_keeps b s s' h e = let l = total_leads s h.0 s' b e in (l.0, grown (length s.names) (length s'.names) (n s h.1) l.1)
 
-    says_cap_first : (b : Text) → AreGraphic b → Says context contexts.CapSecond (grammar.FirstNode b)
+    cap_first_keeps : (b : Text) → AreGraphic b → ItemKeeps context contexts.CapSecond (grammar.FirstNode b)
     unfolding means
-    says_cap_first b g s s' h e = let l = first_leads s h.0 s' b g e in (l.0, grown (length s.names) (length s'.names) (n s h.1) l.1)
+    cap_first_keeps b g s s' h e = let l = first_leads s h.0 s' b g e in (l.0, grown (length s.names) (length s'.names) (n s h.1) l.1)
 
-    says_res_first : (b : Text) → AreGraphic b → Says context contexts.ResSecond (grammar.FirstNode b)
+    res_first_keeps : (b : Text) → AreGraphic b → ItemKeeps context contexts.ResSecond (grammar.FirstNode b)
     unfolding means
-    says_res_first b g s s' h e = let l = first_leads s h.0 s' b g e in (l.0, grown (length s.names) (length s'.names) (n s h.1) l.1)
+    res_first_keeps b g s s' h e = let l = first_leads s h.0 s' b g e in (l.0, grown (length s.names) (length s'.names) (n s h.1) l.1)
 
-    says_cap_node : (b : Text) → AreGraphic b → Says context contexts.CapValue (grammar.CapNode b)
+    cap_node_keeps : (b : Text) → AreGraphic b → ItemKeeps context contexts.CapValue (grammar.CapNode b)
     unfolding means
-    says_cap_node b g s s' h e = let l = cap_node_leads s h.0 s' b g e in (l.0, grown (length s.names) (length s'.names) (n s h.1) l.1)
+    cap_node_keeps b g s s' h e = let l = cap_node_leads s h.0 s' b g e in (l.0, grown (length s.names) (length s'.names) (n s h.1) l.1)
 
-    says_res_node : (b : Text) → AreGraphic b → Says context contexts.ResValue (grammar.ResNode b)
+    res_node_keeps : (b : Text) → AreGraphic b → ItemKeeps context contexts.ResValue (grammar.ResNode b)
     unfolding means
-    says_res_node b g s s' h e = let l = res_node_leads s h.0 s' b g e in (l.0, grown (length s.names) (length s'.names) (n s h.1) l.1)
+    res_node_keeps b g s s' h e = let l = res_node_leads s h.0 s' b g e in (l.0, grown (length s.names) (length s'.names) (n s h.1) l.1)
 
-    says_cap_value : (b : Text) → Says context contexts.Capacitors (grammar.CapValue b)
+    cap_value_keeps : (b : Text) → ItemKeeps context contexts.Capacitors (grammar.CapValue b)
     unfolding means
-    says_cap_value b s s' h e = let l = cap_value_leads s h.0 s' (n s h.1) b e in (l.0, grown (length s.names) (length s'.names) (n s h.1) l.1)
+    cap_value_keeps b s s' h e = let l = cap_value_leads s h.0 s' (n s h.1) b e in (l.0, grown (length s.names) (length s'.names) (n s h.1) l.1)
 
-    says_res_value : (b : Text) → Says context contexts.Resistors (grammar.ResValue b)
+    res_value_keeps : (b : Text) → ItemKeeps context contexts.Resistors (grammar.ResValue b)
     unfolding means
-    says_res_value b s s' h e = let l = res_value_leads s h.0 s' (n s h.1) b e in (l.0, grown (length s.names) (length s'.names) (n s h.1) l.1)
+    res_value_keeps b s s' h e = let l = res_value_leads s h.0 s' (n s h.1) b e in (l.0, grown (length s.names) (length s'.names) (n s h.1) l.1)
 
 -- ---- the forms of each context
 section_keep : (context : Context) → AllOf context section_forms
@@ -180,7 +180,7 @@ section_keep context = (
     (
       begins_keeps context,
       (
-        untaken_keeps context sorts.Unsupported,
+        refused_keeps context sorts.Unsupported,
         (ends_keeps context, tt),
       ),
     ),
@@ -193,13 +193,13 @@ header_keep context = (
   (
     quiet_keeps context contexts.Flow (Only sorts.Flow ∷ Only sorts.Text ∷ []) (λ s i. tt),
     (
-      two context contexts.Header (Only sorts.Separator) AnyWord (λ a b. grammar.Separator_is (separator_of a) b) (λ t u f p. says_separator context t.text u.text (p f)),
+      two context contexts.Header (Only sorts.Separator) AnyWord (λ a b. grammar.Separator_is (separator_of a) b) (λ t u f p. separator_keeps context t.text u.text (p f)),
       (
         brackets_keep context,
         (
-          two context contexts.Header (Only sorts.Brackets) (Only sorts.Word) (λ a b. grammar.Pair b) (λ t u f p. says_pair context u.text),
+          two context contexts.Header (Only sorts.Brackets) (Only sorts.Word) (λ a b. grammar.Pair b) (λ t u f p. pair_keeps context u.text),
           (
-            two context contexts.Unit (Only sorts.Unit) AnyWord (λ a b. grammar.UnitNumber (quantity_of a) b) (λ t u f p. says_unit_number context t.text u.text),
+            two context contexts.Unit (Only sorts.Unit) AnyWord (λ a b. grammar.UnitNumber (quantity_of a) b) (λ t u f p. unit_number_keeps context t.text u.text),
             section_keep context,
           ),
         ),
@@ -212,8 +212,8 @@ closing_keep : (context : Context) → ((s : State) → InNet context s → HasN
 closing_keep context n = (
   net_ends_keeps context n,
   (
-    untaken_keeps context sorts.Inductances,
-    (untaken_keeps context sorts.Unsupported, tt),
+    refused_keeps context sorts.Inductances,
+    (refused_keeps context sorts.Unsupported, tt),
   ),
 )
 
@@ -230,17 +230,17 @@ forms_keep : (context : Context) → AllOf context (forms_in context)
 forms_keep contexts.Start = (quiet_keeps contexts.Start contexts.Header (Only sorts.Spef ∷ Only sorts.Text ∷ []) (λ s i. tt), tt)
 forms_keep contexts.Header = header_keep contexts.Header
 forms_keep contexts.Flow = (quiet_keeps contexts.Flow contexts.Flow (Only sorts.Text ∷ []) (λ s i. tt), header_keep contexts.Flow)
-forms_keep contexts.Unit = (one contexts.Unit contexts.Header AnyWord (λ a. grammar.Unit_is a) (λ t f p. says_unit contexts.Unit t.text), tt)
+forms_keep contexts.Unit = (one contexts.Unit contexts.Header AnyWord (λ a. grammar.Unit_is a) (λ t f p. unit_keeps contexts.Unit t.text), tt)
 forms_keep contexts.Pairs =
-    (one contexts.Pairs contexts.PairName (Only sorts.Index) (λ a. grammar.PairNumber a) (λ t f p. says_pair_number contexts.Pairs t.text), section_keep contexts.Pairs)
+    (one contexts.Pairs contexts.PairName (Only sorts.Index) (λ a. grammar.PairNumber a) (λ t f p. pair_number_keeps contexts.Pairs t.text), section_keep contexts.Pairs)
 forms_keep contexts.PairName =
-    (one contexts.PairName contexts.Pairs AnyWord (λ a. grammar.PairName a) (λ t f p. says_pair_name contexts.PairName t.text (p f)), tt)
+    (one contexts.PairName contexts.Pairs AnyWord (λ a. grammar.PairName a) (λ t f p. pair_name_keeps contexts.PairName t.text (p f)), tt)
 forms_keep contexts.Skipped = (quiet_keeps contexts.Skipped contexts.Skipped (Passed ∷ []) (λ s i. tt), section_keep contexts.Skipped)
-forms_keep contexts.Between = section_keep contexts.Between
+forms_keep contexts.BehindNet = section_keep contexts.BehindNet
 forms_keep contexts.NetName =
-    (one contexts.NetName contexts.NetTotal AnyWord (λ a. grammar.NetName a) (λ t f p. says_net_name contexts.NetName t.text (p f)), tt)
+    (one contexts.NetName contexts.NetTotal AnyWord (λ a. grammar.NetName a) (λ t f p. net_name_keeps contexts.NetName t.text (p f)), tt)
 forms_keep contexts.NetTotal =
-    (one contexts.NetTotal contexts.Totalled ValueWord (λ a. grammar.Total a) (λ t f p. says_total contexts.NetTotal (λ s i. i) t.text), tt)
+    (one contexts.NetTotal contexts.Totalled ValueWord (λ a. grammar.Total a) (λ t f p. total_keeps contexts.NetTotal (λ s i. i) t.text), tt)
 forms_keep contexts.Totalled =
     (quiet_keeps contexts.Totalled contexts.Lists (Only sorts.Confidence ∷ AnyToken ∷ []) (λ s i. i), lists_keep contexts.Totalled (λ s i. i))
 forms_keep contexts.Lists = lists_keep contexts.Lists (λ s i. i)
@@ -250,24 +250,24 @@ forms_keep contexts.Connection =
     (quiet_keeps contexts.Connection contexts.Connection (InConnection ∷ []) (λ s i. i), behind_connections_keep contexts.Connection (λ s i. i))
 forms_keep contexts.Capacitors = (
   two contexts.Capacitors contexts.CapSecond (Only sorts.Digits) AnyWord (λ a b. grammar.FirstNode b)
-      (λ t u f p. says_cap_first contexts.Capacitors (λ s i. i) u.text (p f)),
+      (λ t u f p. cap_first_keeps contexts.Capacitors (λ s i. i) u.text (p f)),
   behind_capacitors_keep contexts.Capacitors (λ s i. i),
 )
 forms_keep contexts.CapSecond = (
-  one contexts.CapSecond contexts.Capacitors ValueWord (λ a. grammar.CapValue a) (λ t f p. says_cap_value contexts.CapSecond (λ s i. i) t.text),
-  (one contexts.CapSecond contexts.CapValue NodeWord (λ a. grammar.CapNode a) (λ t f p. says_cap_node contexts.CapSecond (λ s i. i) t.text (p (node_word t.sort f))), tt),
+  one contexts.CapSecond contexts.Capacitors ValueWord (λ a. grammar.CapValue a) (λ t f p. cap_value_keeps contexts.CapSecond (λ s i. i) t.text),
+  (one contexts.CapSecond contexts.CapValue NodeWord (λ a. grammar.CapNode a) (λ t f p. cap_node_keeps contexts.CapSecond (λ s i. i) t.text (p (node_word t.sort f))), tt),
 )
 forms_keep contexts.CapValue =
-    (one contexts.CapValue contexts.Capacitors ValueWord (λ a. grammar.CapValue a) (λ t f p. says_cap_value contexts.CapValue (λ s i. i) t.text), tt)
+    (one contexts.CapValue contexts.Capacitors ValueWord (λ a. grammar.CapValue a) (λ t f p. cap_value_keeps contexts.CapValue (λ s i. i) t.text), tt)
 forms_keep contexts.Resistors = (
   two contexts.Resistors contexts.ResSecond (Only sorts.Digits) AnyWord (λ a b. grammar.FirstNode b)
-      (λ t u f p. says_res_first contexts.Resistors (λ s i. i) u.text (p f)),
+      (λ t u f p. res_first_keeps contexts.Resistors (λ s i. i) u.text (p f)),
   closing_keep contexts.Resistors (λ s i. i),
 )
 forms_keep contexts.ResSecond =
-    (one contexts.ResSecond contexts.ResValue AnyWord (λ a. grammar.ResNode a) (λ t f p. says_res_node contexts.ResSecond (λ s i. i) t.text (p f)), tt)
+    (one contexts.ResSecond contexts.ResValue AnyWord (λ a. grammar.ResNode a) (λ t f p. res_node_keeps contexts.ResSecond (λ s i. i) t.text (p f)), tt)
 forms_keep contexts.ResValue =
-    (one contexts.ResValue contexts.Resistors ValueWord (λ a. grammar.ResValue a) (λ t f p. says_res_value contexts.ResValue (λ s i. i) t.text), tt)
+    (one contexts.ResValue contexts.Resistors ValueWord (λ a. grammar.ResValue a) (λ t f p. res_value_keeps contexts.ResValue (λ s i. i) t.text), tt)
 forms_keep contexts.Done = tt
 
 all_by : (context : Context) (fs : List SpefForm) (b : Bool) → (if b then None else Some (forms_in context)) ≡ Some fs → AllOf context fs

@@ -5,7 +5,7 @@ use Rattle.std.proofs.Common.{append_assoc, subst}
 use Rattle.std.proofs.lemmas.List.{append-nil}
 use Rattle.text_forms.specs.Forms.{Token, Form, Refusal, Misfits, agree, agree_one, at_line, whole_or}
 use Rattle.text_forms.specs.Refusals.{Meant, unless}
-use Rattle.text_forms.specs.Meaning.{Says, behind, go_on, reading, meaning, text_means}
+use Rattle.text_forms.specs.Meaning.{Yields, behind, go_on, reading, meaning, text_means}
 use Rattle.xt_model.specs.Results.{◌>>=◌}
 use Rattle.xt_model.specs.declared.code.Code as model
 
@@ -17,52 +17,52 @@ module _ {Slot Sort : Type 0} (fits : Slot → Sort → Bool) (P : Token Sort �
   Fit (slot ∷ slots) [] = ⊥
   Fit (slot ∷ slots) (t ∷ ts) = (fits slot t.sort ≡ true) × P t × Fit slots ts
 
-module _ {Slot Sort Said Context State Code : Type 0} (fits : Slot → Sort → Bool) (misfits : Misfits Sort Code)
-    (forms : Context → Option (List (Form Slot Sort Said Context))) (step : Said → State → Result State Code)
+module _ {Slot Sort Item Context State Code : Type 0} (fits : Slot → Sort → Bool) (misfits : Misfits Sort Code)
+    (forms : Context → Option (List (Form Slot Sort Item Context))) (step : Item → State → Result State Code)
     (P : Token Sort → Type 0) (Inv : Context → State → Type 0) where
-  -- what is said in one context leaves the fact that the next one wants
-  abbrev pub Keeps : Context → Said → Context → Type 0
-  Keeps context said next = (s s' : State) → Inv context s → step said s ≡ Ok s' → Inv next s'
+  -- an item of one context leaves the fact that the next one wants
+  abbrev pub Keeps : Context → Item → Context → Type 0
+  Keeps context item next = (s s' : State) → Inv context s → step item s ≡ Ok s' → Inv next s'
 
   -- a form keeps the fact whatever tokens fit what is left of it
-  abbrev pub FormKeeps : Context → List (Token Sort) → Form Slot Sort Said Context → Type 0
+  abbrev pub FormKeeps : Context → List (Token Sort) → Form Slot Sort Item Context → Type 0
   FormKeeps context read f =
-      (ts : List (Token Sort)) → Fit fits P f.slots ts → Keeps context (f.says (read ++ ts)) f.next
+      (ts : List (Token Sort)) → Fit fits P f.slots ts → Keeps context (f.item (read ++ ts)) f.next
 
-  abbrev pub FormsKeep : Context → List (Token Sort) → List (Form Slot Sort Said Context) → Type 0
+  abbrev pub FormsKeep : Context → List (Token Sort) → List (Form Slot Sort Item Context) → Type 0
   FormsKeep context read fs = AllByRecursion (FormKeeps context read) fs
 
   -- each form of each context keeps the fact
   abbrev pub AllKeep : Type 0
-  AllKeep = (context : Context) (fs : List (Form Slot Sort Said Context)) → forms context ≡ Some fs → FormsKeep context [] fs
+  AllKeep = (context : Context) (fs : List (Form Slot Sort Item Context)) → forms context ≡ Some fs → FormsKeep context [] fs
 
   -- the fact at the end of a text
   abbrev pub HoldsAtEnd : State → Type 0
   HoldsAtEnd s = (context : Context) × (forms context ≡ None) × Inv context s
 
   module _ (context : Context) (read : List (Token Sort)) (t : Token Sort) (p : P t) where
-    agreed_by : (b : Bool) (slot : Slot) (slots : List Slot) (f : Form Slot Sort Said Context) (more : List (Form Slot Sort Said Context))
+    agreed_by : (b : Bool) (slot : Slot) (slots : List Slot) (f : Form Slot Sort Item Context) (more : List (Form Slot Sort Item Context))
         → fits slot t.sort ≡ b
-        → ((ts : List (Token Sort)) → Fit fits P (slot ∷ slots) ts → Keeps context (f.says (read ++ ts)) f.next)
+        → ((ts : List (Token Sort)) → Fit fits P (slot ∷ slots) ts → Keeps context (f.item (read ++ ts)) f.next)
         → FormsKeep context (read ++ t ∷ []) more
         → FormsKeep context (read ++ t ∷ []) (if b then record f { slots = slots } ∷ more else more)
     agreed_by false slot slots f more e k m = m
     agreed_by true slot slots f more e k m = ((λ ts fit. rw (append_assoc read (t ∷ []) ts) (k (t ∷ ts) (e, p, fit))), m)
 
-    agreed_one : (slots : List Slot) (f : Form Slot Sort Said Context) (more : List (Form Slot Sort Said Context))
-        → ((ts : List (Token Sort)) → Fit fits P slots ts → Keeps context (f.says (read ++ ts)) f.next)
+    agreed_one : (slots : List Slot) (f : Form Slot Sort Item Context) (more : List (Form Slot Sort Item Context))
+        → ((ts : List (Token Sort)) → Fit fits P slots ts → Keeps context (f.item (read ++ ts)) f.next)
         → FormsKeep context (read ++ t ∷ []) more → FormsKeep context (read ++ t ∷ []) (agree_one fits t.sort slots f more)
     agreed_one [] f more k m = m
     agreed_one (slot ∷ slots) f more k m = agreed_by (fits slot t.sort) slot slots f more refl k m
 
-    agreed : (fs : List (Form Slot Sort Said Context)) → FormsKeep context read fs
+    agreed : (fs : List (Form Slot Sort Item Context)) → FormsKeep context read fs
         → FormsKeep context (read ++ t ∷ []) (agree fits t.sort fs)
     agreed [] k = tt
     agreed (f ∷ fs) k = agreed_one f.slots f (agree fits t.sort fs) k.0 (agreed fs k.1)
 
   -- what the rest of a text keeps, in the middle of a form
   abbrev Goes : List (Token Sort) → Type 0
-  Goes ts = (context : Context) (fs : List (Form Slot Sort Said Context)) (read : List (Token Sort)) (s s' : State)
+  Goes ts = (context : Context) (fs : List (Form Slot Sort Item Context)) (read : List (Token Sort)) (s s' : State)
       → FormsKeep context read fs → Inv context s
       → meaning step (reading fits misfits forms (Some fs) read ts) s ≡ Ok s' → HoldsAtEnd s'
 
@@ -72,31 +72,31 @@ module _ {Slot Sort Said Context State Code : Type 0} (fits : Slot → Sort → 
     ends [] next s s' e i h = let same : s ≡ s' = cc in (next, e, subst (Inv next) same i)
     ends (t ∷ ts) next s s' e i h = absurd (cc)
 
-    behind_form : (o : Option (List (Form Slot Sort Said Context))) (ts : List (Token Sort)) (next : Context) (s s' : State)
+    behind_form : (o : Option (List (Form Slot Sort Item Context))) (ts : List (Token Sort)) (next : Context) (s s' : State)
         → Goes ts → forms next ≡ o → Inv next s
         → meaning step (reading fits misfits forms o [] ts) s ≡ Ok s' → HoldsAtEnd s'
     behind_form None ts next s s' go e i h = ends ts next s s' e i h
     behind_form (Some fs) ts next s s' go e i h = go next fs [] s s' (keep next fs e) i h
 
-    said_by : (r : Result State Code) (line : ℕ) (ts : List (Token Sort)) (next : Context) (s' : State)
+    item_by : (r : Result State Code) (line : ℕ) (ts : List (Token Sort)) (next : Context) (s' : State)
         → Goes ts → ((s1 : State) → r ≡ Ok s1 → Inv next s1)
         → (at_line line r >>= meaning step (reading fits misfits forms (forms next) [] ts)) ≡ Ok s' → HoldsAtEnd s'
-    said_by (Err code) line ts next s' go i h = absurd (cc)
-    said_by (Ok s1) line ts next s' go i h = behind_form (forms next) ts next s1 s' go refl (i s1 refl) h
+    item_by (Err code) line ts next s' go i h = absurd (cc)
+    item_by (Ok s1) line ts next s' go i h = behind_form (forms next) ts next s1 s' go refl (i s1 refl) h
 
-    whole_by : (slots : List Slot) (g : Form Slot Sort Said Context) (gs : List (Form Slot Sort Said Context)) (t : Token Sort)
+    whole_by : (slots : List Slot) (g : Form Slot Sort Item Context) (gs : List (Form Slot Sort Item Context)) (t : Token Sort)
         (read ts : List (Token Sort)) (context : Context) (s s' : State)
-        → Goes ts → ((ts : List (Token Sort)) → Fit fits P slots ts → Keeps context (g.says (read ++ ts)) g.next)
+        → Goes ts → ((ts : List (Token Sort)) → Fit fits P slots ts → Keeps context (g.item (read ++ ts)) g.next)
         → FormsKeep context read (g ∷ gs) → Inv context s
-        → meaning step (whole_or slots (Says (g.says read) t.line (reading fits misfits forms (forms g.next) [] ts))
+        → meaning step (whole_or slots (Yields (g.item read) t.line (reading fits misfits forms (forms g.next) [] ts))
         (reading fits misfits forms (Some (g ∷ gs)) read ts)) s ≡ Ok s'
         → HoldsAtEnd s'
     whole_by [] g gs t read ts context s s' go one all i h =
-        said_by (step (g.says read) s) t.line ts g.next s' go
+        item_by (step (g.item read) s) t.line ts g.next s' go
         (λ s1 e. (rw (append-nil read) at (one [] tt)) s s1 i e) h
     whole_by (slot ∷ slots) g gs t read ts context s s' go one all i h = go context (g ∷ gs) read s s' all i h
 
-    decided : (gs : List (Form Slot Sort Said Context)) (t : Token Sort) (read ts : List (Token Sort)) (context : Context) (s s' : State)
+    decided : (gs : List (Form Slot Sort Item Context)) (t : Token Sort) (read ts : List (Token Sort)) (context : Context) (s s' : State)
         → Goes ts → FormsKeep context read gs → Inv context s
         → meaning step (go_on misfits gs t read (reading fits misfits forms (behind forms gs) [] ts)
         (reading fits misfits forms (Some gs) read ts)) s ≡ Ok s'

@@ -47,8 +47,8 @@ pub record IsFine (s : State) : Type 0 where
 -- ---- what is true in some contexts
 
 -- no module is being read
-abbrev pub IsBetween : State → Type 0
-IsBetween s = s.nets ≡ []
+abbrev pub IsOutsideModule : State → Type 0
+IsOutsideModule s = s.nets ≡ []
 
 -- an instance is being read
 abbrev pub IsInInstance : State → Type 0
@@ -77,7 +77,7 @@ module _ (s s' : State) (h : IsFine s) where
   abbrev pub named : Text → List Text → State
   named name modules = record s { modules = modules; current = name; header = []; bit_nets = []; instance_names = [] }
 
-  named_fine : (name : Text) (modules : List Text) → IsBetween s → IsFine (named name modules)
+  named_fine : (name : Text) (modules : List Text) → IsOutsideModule s → IsFine (named name modules)
   named_fine name modules none = record {
     ended = h.ended;
     nets = rw none (none_fine []);
@@ -87,11 +87,11 @@ module _ (s s' : State) (h : IsFine s) where
     pins = h.pins;
   }
 
-  module_by : (name : Text) (modules : List Text) (b : Bool) → IsBetween s → (if b then Err V5 else Ok (named name modules)) ≡ Ok s' → IsFine s'
+  module_by : (name : Text) (modules : List Text) (b : Bool) → IsOutsideModule s → (if b then Err V5 else Ok (named name modules)) ≡ Ok s' → IsFine s'
   module_by name modules true none e = absurd (cc)
   module_by name modules false none e = let same : named name modules ≡ s' = cc in rw same at (named_fine name modules none)
 
-  pub name_module_fine : (name : Text) → IsBetween s → name_module name s ≡ Ok s' → IsFine s'
+  pub name_module_fine : (name : Text) → IsOutsideModule s → name_module name s ≡ Ok s' → IsFine s'
   unfolding name_module
   name_module_fine name none e = module_by name _ (has_name name s.modules) none e
 
@@ -111,7 +111,7 @@ module _ (s s' : State) (h : IsFine s) where
   abbrev closed : State
   closed = record s { ended = s.ended ++ netlist_of s ∷ []; nets = []; instances = [] }
 
-  ended_by : (b : Bool) → (if b then Ok closed else Err V4) ≡ Ok s' → IsFine s' × IsBetween s'
+  ended_by : (b : Bool) → (if b then Ok closed else Err V4) ≡ Ok s' → IsFine s' × IsOutsideModule s'
   ended_by false e = absurd (cc)
   ended_by true e =
       let same : closed ≡ s' = cc in
@@ -124,10 +124,10 @@ module _ (s s' : State) (h : IsFine s) where
         range = h.range;
         pins = h.pins;
       } in
-      let all : IsFine closed × IsBetween closed = (fine, refl) in
-      subst (λ x. IsFine x × IsBetween x) same all
+      let all : IsFine closed × IsOutsideModule closed = (fine, refl) in
+      subst (λ x. IsFine x × IsOutsideModule x) same all
 
-  pub end_module_fine : end_module s ≡ Ok s' → IsFine s' × IsBetween s'
+  pub end_module_fine : end_module s ≡ Ok s' → IsFine s' × IsOutsideModule s'
   unfolding end_module
   end_module_fine e = ended_by (list_all (λ name. is_port name s.nets) s.header) e
 

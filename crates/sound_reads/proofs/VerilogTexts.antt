@@ -14,8 +14,8 @@ use Rattle.verilog_net.specs.declared.netlist.Netlist.{Netlist}
 use Rattle.verilog_net.specs.declared.netlist.PortRole.{PortRole}
 use Rattle.verilog_net.specs.declared.netlist.Wire.TheVariants as wires
 use Rattle.verilog_net.specs.Sorts.{same_sort, netlist_tokens}
-use Rattle.verilog_net.specs.Forms.{Text, Said, Tokens, NetlistForm, misfits, is_done, form, quiet, refused, role_of, forms, forms_in}
-use Rattle.verilog_net.specs.Forms.{start_forms, between_forms, module_name_forms, header_forms, listed_forms, declaration_forms, body_forms}
+use Rattle.verilog_net.specs.Forms.{Text, Item, Tokens, NetlistForm, misfits, is_done, form, quiet, refused, role_of, forms, forms_in}
+use Rattle.verilog_net.specs.Forms.{start_forms, behind_module_forms, module_name_forms, header_forms, listed_forms, declaration_forms, body_forms}
 use Rattle.verilog_net.specs.Forms.{left_bound_forms, right_bound_forms, declared_forms, opening_forms, pins_forms, pin_forms, connection_forms}
 use Rattle.verilog_net.specs.Forms.{bit_given_forms, connected_forms, closed_forms}
 use Rattle.verilog_net.specs.Forms as grammar
@@ -24,15 +24,15 @@ use Rattle.verilog_net.specs.Reading.{rest_means, text_state, modules_in, one_of
 use Rattle.sound_reads.proofs.Texts.{FormKeeps, text_keeps, not_refused}
 use Rattle.sound_reads.proofs.VerilogTokens as tokens
 use Rattle.sound_reads.proofs.VerilogTokens.{names_named}
-use Rattle.sound_reads.proofs.VerilogStates.{IsNamed, IsFine, IsFineModule, IsBetween, IsInInstance, IsInPin, nothing_fine, begin_module_is, name_module_fine}
+use Rattle.sound_reads.proofs.VerilogStates.{IsNamed, IsFine, IsFineModule, IsOutsideModule, IsInInstance, IsInPin, nothing_fine, begin_module_is, name_module_fine}
 use Rattle.sound_reads.proofs.VerilogStates.{list_name_fine, end_module_fine, declare_fine, left_bound_fine, right_bound_fine, scalar_fine, further_instance}
 use Rattle.sound_reads.proofs.VerilogStates.{begin_pin_fine, connect_fine, connect_bit_fine, connect_name_fine, end_instance_fine}
 
 -- what else holds in a context
 abbrev In : Context → State → Type 0
-In contexts.Start s = IsBetween s
-In contexts.Between s = IsBetween s
-In contexts.ModuleName s = IsBetween s
+In contexts.Start s = IsOutsideModule s
+In contexts.BehindModule s = IsOutsideModule s
+In contexts.ModuleName s = IsOutsideModule s
 In contexts.Opening s = IsInInstance s
 In contexts.Pins s = IsInInstance s
 In contexts.Pin s = IsInPin s
@@ -51,8 +51,8 @@ Keeps context f = FormKeeps same_sort misfits forms means tokens.IsNamed Holds c
 abbrev AllOf : Context → List NetlistForm → Type 0
 AllOf context fs = AllByRecursion (Keeps context) fs
 
-abbrev Says : Context → Context → Said → Type 0
-Says context next said = (s s' : State) → Holds context s → means said s ≡ Ok s' → Holds next s'
+abbrev ItemKeeps : Context → Context → Item → Type 0
+ItemKeeps context next item = (s s' : State) → Holds context s → means item s ≡ Ok s' → Holds next s'
 
 moved : (context : Context) (s s' : State) → ◌≡◌ {A = Result State Code} (Ok s) (Ok s') → Holds context s → Holds context s'
 moved context s s' e h = let same : s ≡ s' = cc in rw same at h
@@ -64,87 +64,87 @@ module _ (context next : Context) where
   quiet_keeps slots n ts fit s s' h e = moved next s s' e (h.0, n s h.1)
 
   -- a form whose meaning does not want its tokens
-  plain : (slots : List Sort) (says : Tokens → Said) → ((ts : Tokens) → Says context next (says ts)) → Keeps context (form slots says next)
-  plain slots says k ts fit = k ts
+  plain : (slots : List Sort) (item : Tokens → Item) → ((ts : Tokens) → ItemKeeps context next (item ts)) → Keeps context (form slots item next)
+  plain slots item k ts fit = k ts
 
   -- a form whose last token is a name
-  one : (says : Text → Said) → ((t : Token Sort) → IsNamed t.text → Says context next (says t.text))
-      → Keeps context (form (sorts.Name ∷ []) (λ ts. says (text_at 0 ts)) next)
-  one says k [] fit = absurd fit
-  one says k (t ∷ []) fit = k t (fit.1 fit.0)
-  one says k (t ∷ u ∷ ts) fit = absurd fit.2
+  one : (item : Text → Item) → ((t : Token Sort) → IsNamed t.text → ItemKeeps context next (item t.text))
+      → Keeps context (form (sorts.Name ∷ []) (λ ts. item (text_at 0 ts)) next)
+  one item k [] fit = absurd fit
+  one item k (t ∷ []) fit = k t (fit.1 fit.0)
+  one item k (t ∷ u ∷ ts) fit = absurd fit.2
 
-  two : (a : Sort) (says : Text → Text → ℕ → Said) → ((t u : Token Sort) → IsNamed u.text → Says context next (says t.text u.text u.line))
-      → Keeps context (form (a ∷ sorts.Name ∷ []) (λ ts. says (text_at 0 ts) (text_at 1 ts) (line_at 1 ts)) next)
-  two a says k [] fit = absurd fit
-  two a says k (t ∷ []) fit = absurd fit.2
-  two a says k (t ∷ u ∷ []) fit = k t u (fit.2.1 fit.2.0)
-  two a says k (t ∷ u ∷ v ∷ ts) fit = absurd fit.2.2
+  two : (a : Sort) (item : Text → Text → ℕ → Item) → ((t u : Token Sort) → IsNamed u.text → ItemKeeps context next (item t.text u.text u.line))
+      → Keeps context (form (a ∷ sorts.Name ∷ []) (λ ts. item (text_at 0 ts) (text_at 1 ts) (line_at 1 ts)) next)
+  two a item k [] fit = absurd fit
+  two a item k (t ∷ []) fit = absurd fit.2
+  two a item k (t ∷ u ∷ []) fit = k t u (fit.2.1 fit.2.0)
+  two a item k (t ∷ u ∷ v ∷ ts) fit = absurd fit.2.2
 
-  names : (says : Text → Text → ℕ → Said) → ((t u : Token Sort) → IsNamed t.text → IsNamed u.text → Says context next (says t.text u.text u.line))
-      → Keeps context (form (sorts.Name ∷ sorts.Name ∷ []) (λ ts. says (text_at 0 ts) (text_at 1 ts) (line_at 1 ts)) next)
-  names says k [] fit = absurd fit
-  names says k (t ∷ []) fit = absurd fit.2
-  names says k (t ∷ u ∷ []) fit = k t u (fit.1 fit.0) (fit.2.1 fit.2.0)
-  names says k (t ∷ u ∷ v ∷ ts) fit = absurd fit.2.2
+  names : (item : Text → Text → ℕ → Item) → ((t u : Token Sort) → IsNamed t.text → IsNamed u.text → ItemKeeps context next (item t.text u.text u.line))
+      → Keeps context (form (sorts.Name ∷ sorts.Name ∷ []) (λ ts. item (text_at 0 ts) (text_at 1 ts) (line_at 1 ts)) next)
+  names item k [] fit = absurd fit
+  names item k (t ∷ []) fit = absurd fit.2
+  names item k (t ∷ u ∷ []) fit = k t u (fit.1 fit.0) (fit.2.1 fit.2.0)
+  names item k (t ∷ u ∷ v ∷ ts) fit = absurd fit.2.2
 
-  three : (a b : Sort) (says : Text → Said) → ((t : Token Sort) → IsNamed t.text → Says context next (says t.text))
-      → Keeps context (form (a ∷ b ∷ sorts.Name ∷ []) (λ ts. says (text_at 2 ts)) next)
-  three a b says k [] fit = absurd fit
-  three a b says k (t ∷ []) fit = absurd fit.2
-  three a b says k (t ∷ u ∷ []) fit = absurd fit.2.2
-  three a b says k (t ∷ u ∷ v ∷ []) fit = k v (fit.2.2.1 fit.2.2.0)
-  three a b says k (t ∷ u ∷ v ∷ w ∷ ts) fit = absurd fit.2.2.2
+  three : (a b : Sort) (item : Text → Item) → ((t : Token Sort) → IsNamed t.text → ItemKeeps context next (item t.text))
+      → Keeps context (form (a ∷ b ∷ sorts.Name ∷ []) (λ ts. item (text_at 2 ts)) next)
+  three a b item k [] fit = absurd fit
+  three a b item k (t ∷ []) fit = absurd fit.2
+  three a b item k (t ∷ u ∷ []) fit = absurd fit.2.2
+  three a b item k (t ∷ u ∷ v ∷ []) fit = k v (fit.2.2.1 fit.2.2.0)
+  three a b item k (t ∷ u ∷ v ∷ w ∷ ts) fit = absurd fit.2.2.2
 
-  used : (rest : List Sort) (says : Text → Said) → ((t : Token Sort) → IsNamed t.text → Says context next (says t.text))
-      → Keeps context (form (sorts.Name ∷ rest) (λ ts. says (text_at 0 ts)) next)
-  used rest says k [] fit = absurd fit
-  used rest says k (t ∷ ts) fit = k t (fit.1 fit.0)
+  used : (rest : List Sort) (item : Text → Item) → ((t : Token Sort) → IsNamed t.text → ItemKeeps context next (item t.text))
+      → Keeps context (form (sorts.Name ∷ rest) (λ ts. item (text_at 0 ts)) next)
+  used rest item k [] fit = absurd fit
+  used rest item k (t ∷ ts) fit = k t (fit.1 fit.0)
 
 refused_keeps : (context : Context) (slots : List Sort) (code : Code) → Keeps context (refused slots code)
 unfolding means
 refused_keeps context slots code ts fit s s' h e = absurd (cc)
 
--- ---- what forms say
+-- ---- what items keep
 module _ (context : Context) where
-  begins : ((s : State) → In context s → IsBetween s) → (ts : Tokens) → Says context contexts.ModuleName grammar.ModuleBegins
+  begins : ((s : State) → In context s → IsOutsideModule s) → (ts : Tokens) → ItemKeeps context contexts.ModuleName grammar.ModuleBegins
   unfolding means
   begins n ts s s' h e =
       let same = begin_module_is s s' h.0 e in
       let all : Holds contexts.ModuleName s = (h.0, n s h.1) in
       rw same at all
 
-  says_module : ((s : State) → In context s → IsBetween s) → (name : Text) → Says context contexts.Header (grammar.ModuleName name)
+  module_keeps : ((s : State) → In context s → IsOutsideModule s) → (name : Text) → ItemKeeps context contexts.Header (grammar.ModuleName name)
   unfolding means
-  says_module n name s s' h e = (name_module_fine s s' h.0 name (n s h.1) e, tt)
+  module_keeps n name s s' h e = (name_module_fine s s' h.0 name (n s h.1) e, tt)
 
-  says_listed : (name : Text) → Says context contexts.Listed (grammar.Listed name)
+  listed_keeps : (name : Text) → ItemKeeps context contexts.Listed (grammar.Listed name)
   unfolding means
-  says_listed name s s' h e = (list_name_fine s s' h.0 name e, tt)
+  listed_keeps name s s' h e = (list_name_fine s s' h.0 name e, tt)
 
-  says_end : (ts : Tokens) → Says context contexts.Between grammar.ModuleEnds
+  end_keeps : (ts : Tokens) → ItemKeeps context contexts.BehindModule grammar.ModuleEnds
   unfolding means
-  says_end ts s s' h e = let f = end_module_fine s s' h.0 e in (f.0, f.1)
+  end_keeps ts s s' h e = let f = end_module_fine s s' h.0 e in (f.0, f.1)
 
-  says_scalar : (role : PortRole) (name : Text) → IsNamed name → Says context contexts.Declared (grammar.Scalar role name)
+  scalar_keeps : (role : PortRole) (name : Text) → IsNamed name → ItemKeeps context contexts.Declared (grammar.Scalar role name)
   unfolding means
-  says_scalar role name is s s' h e = (declare_fine _ (scalar_fine s h.0 role) s' name is e, tt)
+  scalar_keeps role name is s s' h e = (declare_fine _ (scalar_fine s h.0 role) s' name is e, tt)
 
-  says_left : (role : PortRole) (digits : Text) → Says context contexts.LeftBound (grammar.Left role digits)
+  left_keeps : (role : PortRole) (digits : Text) → ItemKeeps context contexts.LeftBound (grammar.Left role digits)
   unfolding means
-  says_left role digits s s' h e = (left_bound_fine s h.0 s' role digits e, tt)
+  left_keeps role digits s s' h e = (left_bound_fine s h.0 s' role digits e, tt)
 
-  says_right : (digits : Text) → Says context contexts.RightBound (grammar.Right digits)
+  right_keeps : (digits : Text) → ItemKeeps context contexts.RightBound (grammar.Right digits)
   unfolding means
-  says_right digits s s' h e = (right_bound_fine s h.0 s' digits e, tt)
+  right_keeps digits s s' h e = (right_bound_fine s h.0 s' digits e, tt)
 
-  says_further : (name : Text) → IsNamed name → Says context contexts.Declared (grammar.Further name)
+  further_keeps : (name : Text) → IsNamed name → ItemKeeps context contexts.Declared (grammar.Further name)
   unfolding means
-  says_further name is s s' h e = (declare_fine s h.0 s' name is e, tt)
+  further_keeps name is s s' h e = (declare_fine s h.0 s' name is e, tt)
 
-  says_instance : (cell name : Text) (line : ℕ) → IsNamed cell → IsNamed name → Says context contexts.Opening (grammar.Instance cell name line)
+  instance_keeps : (cell name : Text) (line : ℕ) → IsNamed cell → IsNamed name → ItemKeeps context contexts.Opening (grammar.Instance cell name line)
   unfolding means
-  says_instance cell name line is also s s' h e =
+  instance_keeps cell name line is also s s' h e =
       let f = h.0 in
       let celled : IsFine (record s { cell = cell }) = record {
         ended = f.ended;
@@ -157,42 +157,42 @@ module _ (context : Context) where
       further_instance (record s { cell = cell }) celled s' name line is also e
 
   module _ (n : (s : State) → In context s → IsInInstance s) where
-    says_further_instance : (name : Text) (line : ℕ) → IsNamed name → Says context contexts.Opening (grammar.FurtherInstance name line)
+    further_instance_keeps : (name : Text) (line : ℕ) → IsNamed name → ItemKeeps context contexts.Opening (grammar.FurtherInstance name line)
     unfolding means
-    says_further_instance name line is s s' h e = further_instance s h.0 s' name line (n s h.1).0 is e
+    further_instance_keeps name line is s s' h e = further_instance s h.0 s' name line (n s h.1).0 is e
 
-    says_pin : (name : Text) → IsNamed name → Says context contexts.Pin (grammar.Pin name)
+    pin_keeps : (name : Text) → IsNamed name → ItemKeeps context contexts.Pin (grammar.Pin name)
     unfolding means
-    says_pin name is s s' h e = begin_pin_fine s h.0 s' name (n s h.1) is e
+    pin_keeps name is s s' h e = begin_pin_fine s h.0 s' name (n s h.1) is e
 
-    says_ended : (ts : Tokens) → Says context contexts.Closed grammar.InstanceEnds
+    ended_keeps : (ts : Tokens) → ItemKeeps context contexts.Closed grammar.InstanceEnds
     unfolding means
-    says_ended ts s s' h e = end_instance_fine s h.0 s' (n s h.1) e
+    ended_keeps ts s s' h e = end_instance_fine s h.0 s' (n s h.1) e
 
 -- ---- what a pin is connected to
-says_open : (ts : Tokens) → Says contexts.Connection contexts.Connected grammar.NoConnection
+open_keeps : (ts : Tokens) → ItemKeeps contexts.Connection contexts.Connected grammar.NoConnection
 unfolding means
-says_open ts s s' h e = connect_fine s h.0 s' wires.Open h.1 e
+open_keeps ts s s' h e = connect_fine s h.0 s' wires.Open h.1 e
 
-says_constant : (ts : Tokens) → Says contexts.Connection contexts.Connected grammar.Constant
+constant_keeps : (ts : Tokens) → ItemKeeps contexts.Connection contexts.Connected grammar.Constant
 unfolding means
-says_constant ts s s' h e = connect_fine s h.0 s' wires.Constant h.1 e
+constant_keeps ts s s' h e = connect_fine s h.0 s' wires.Constant h.1 e
 
-says_net : (name : Text) → IsNamed name → Says contexts.Connection contexts.Connected (grammar.Net name)
+net_keeps : (name : Text) → IsNamed name → ItemKeeps contexts.Connection contexts.Connected (grammar.Net name)
 unfolding means
-says_net name is s s' h e = connect_name_fine s h.0 s' name is h.1 e
+net_keeps name is s s' h e = connect_name_fine s h.0 s' name is h.1 e
 
-says_bit : (ts : Tokens) → Says contexts.Connection contexts.BitGiven (grammar.Bit (text_at 0 ts) (text_at 2 ts))
+bit_keeps : (ts : Tokens) → ItemKeeps contexts.Connection contexts.BitGiven (grammar.Bit (text_at 0 ts) (text_at 2 ts))
 unfolding means
-says_bit ts s s' h e = connect_bit_fine s h.0 s' (text_at 0 ts) (text_at 2 ts) h.1 e
+bit_keeps ts s s' h e = connect_bit_fine s h.0 s' (text_at 0 ts) (text_at 2 ts) h.1 e
 
 -- ---- the forms of each context
 declaration_keep : (word : Sort) (more : List NetlistForm) → AllOf contexts.Body more → AllOf contexts.Body (declaration_forms word more)
 declaration_keep word more rest = (
-  two contexts.Body contexts.Declared word (λ a b line. grammar.Scalar (role_of a) b) (λ t u is. says_scalar contexts.Body (role_of t.text) u.text is),
+  two contexts.Body contexts.Declared word (λ a b line. grammar.Scalar (role_of a) b) (λ t u is. scalar_keeps contexts.Body (role_of t.text) u.text is),
   (
     plain contexts.Body contexts.LeftBound (word ∷ sorts.LeftBracket ∷ sorts.Number ∷ []) (λ ts. grammar.Left (role_of (text_at 0 ts)) (text_at 2 ts))
-        (λ ts. says_left contexts.Body (role_of (text_at 0 ts)) (text_at 2 ts)),
+        (λ ts. left_keeps contexts.Body (role_of (text_at 0 ts)) (text_at 2 ts)),
     rest,
   ),
 )
@@ -201,7 +201,7 @@ declaration_keep word more rest = (
 abbrev instance_forms : List NetlistForm
 instance_forms =
     form (sorts.Name ∷ sorts.Name ∷ []) (λ ts. grammar.Instance (text_at 0 ts) (text_at 1 ts) (line_at 1 ts)) contexts.Opening
-    ∷ form (sorts.Endmodule ∷ []) (λ ts. grammar.ModuleEnds) contexts.Between
+    ∷ form (sorts.Endmodule ∷ []) (λ ts. grammar.ModuleEnds) contexts.BehindModule
     ∷ []
 
 forms_keep : (context : Context) → AllOf context (forms_in context)
@@ -209,19 +209,19 @@ forms_keep contexts.Start = (
   plain contexts.Start contexts.ModuleName (sorts.Module ∷ []) (λ ts. grammar.ModuleBegins) (begins contexts.Start (λ s i. i)),
   (refused_keeps contexts.Start (sorts.Unsupported ∷ []) _, tt),
 )
-forms_keep contexts.Between = (
-  plain contexts.Between contexts.ModuleName (sorts.Module ∷ []) (λ ts. grammar.ModuleBegins) (begins contexts.Between (λ s i. i)),
+forms_keep contexts.BehindModule = (
+  plain contexts.BehindModule contexts.ModuleName (sorts.Module ∷ []) (λ ts. grammar.ModuleBegins) (begins contexts.BehindModule (λ s i. i)),
   (
-    quiet_keeps contexts.Between contexts.Done (sorts.End ∷ []) (λ s i. tt),
-    (refused_keeps contexts.Between (sorts.Unsupported ∷ []) _, tt),
+    quiet_keeps contexts.BehindModule contexts.Done (sorts.End ∷ []) (λ s i. tt),
+    (refused_keeps contexts.BehindModule (sorts.Unsupported ∷ []) _, tt),
   ),
 )
 forms_keep contexts.ModuleName =
-    (one contexts.ModuleName contexts.Header (λ a. grammar.ModuleName a) (λ t is. says_module contexts.ModuleName (λ s i. i) t.text), tt)
+    (one contexts.ModuleName contexts.Header (λ a. grammar.ModuleName a) (λ t is. module_keeps contexts.ModuleName (λ s i. i) t.text), tt)
 forms_keep contexts.Header = (
   quiet_keeps contexts.Header contexts.Body (sorts.Semicolon ∷ []) (λ s i. tt),
   (
-    two contexts.Header contexts.Listed sorts.LeftParen (λ a b line. grammar.Listed b) (λ t u is. says_listed contexts.Header u.text),
+    two contexts.Header contexts.Listed sorts.LeftParen (λ a b line. grammar.Listed b) (λ t u is. listed_keeps contexts.Header u.text),
     (
       refused_keeps contexts.Header (sorts.Direction ∷ []) _,
       (refused_keeps contexts.Header (sorts.LeftParen ∷ sorts.Direction ∷ []) _, tt),
@@ -229,7 +229,7 @@ forms_keep contexts.Header = (
   ),
 )
 forms_keep contexts.Listed = (
-  two contexts.Listed contexts.Listed sorts.Comma (λ a b line. grammar.Listed b) (λ t u is. says_listed contexts.Listed u.text),
+  two contexts.Listed contexts.Listed sorts.Comma (λ a b line. grammar.Listed b) (λ t u is. listed_keeps contexts.Listed u.text),
   (
     quiet_keeps contexts.Listed contexts.Body (sorts.RightParen ∷ sorts.Semicolon ∷ []) (λ s i. tt),
     (
@@ -242,15 +242,15 @@ forms_keep contexts.Listed = (
   ),
 )
 forms_keep contexts.Body = declaration_keep sorts.Direction (declaration_forms sorts.NetType instance_forms) (declaration_keep sorts.NetType instance_forms (
-  names contexts.Body contexts.Opening (λ a b line. grammar.Instance a b line) (λ t u is also. says_instance contexts.Body t.text u.text u.line is also),
-  (plain contexts.Body contexts.Between (sorts.Endmodule ∷ []) (λ ts. grammar.ModuleEnds) (says_end contexts.Body), tt),
+  names contexts.Body contexts.Opening (λ a b line. grammar.Instance a b line) (λ t u is also. instance_keeps contexts.Body t.text u.text u.line is also),
+  (plain contexts.Body contexts.BehindModule (sorts.Endmodule ∷ []) (λ ts. grammar.ModuleEnds) (end_keeps contexts.Body), tt),
 ))
 forms_keep contexts.LeftBound =
-    (plain contexts.LeftBound contexts.RightBound (sorts.Colon ∷ sorts.Number ∷ []) (λ ts. grammar.Right (text_at 1 ts)) (λ ts. says_right contexts.LeftBound (text_at 1 ts)), tt)
+    (plain contexts.LeftBound contexts.RightBound (sorts.Colon ∷ sorts.Number ∷ []) (λ ts. grammar.Right (text_at 1 ts)) (λ ts. right_keeps contexts.LeftBound (text_at 1 ts)), tt)
 forms_keep contexts.RightBound =
-    (two contexts.RightBound contexts.Declared sorts.RightBracket (λ a b line. grammar.Further b) (λ t u is. says_further contexts.RightBound u.text is), tt)
+    (two contexts.RightBound contexts.Declared sorts.RightBracket (λ a b line. grammar.Further b) (λ t u is. further_keeps contexts.RightBound u.text is), tt)
 forms_keep contexts.Declared = (
-  two contexts.Declared contexts.Declared sorts.Comma (λ a b line. grammar.Further b) (λ t u is. says_further contexts.Declared u.text is),
+  two contexts.Declared contexts.Declared sorts.Comma (λ a b line. grammar.Further b) (λ t u is. further_keeps contexts.Declared u.text is),
   (quiet_keeps contexts.Declared contexts.Body (sorts.Semicolon ∷ []) (λ s i. tt), tt),
 )
 forms_keep contexts.Opening = (
@@ -258,9 +258,9 @@ forms_keep contexts.Opening = (
   (refused_keeps contexts.Opening (sorts.LeftBracket ∷ []) _, tt),
 )
 forms_keep contexts.Pins = (
-  plain contexts.Pins contexts.Closed (sorts.RightParen ∷ []) (λ ts. grammar.InstanceEnds) (says_ended contexts.Pins (λ s i. i)),
+  plain contexts.Pins contexts.Closed (sorts.RightParen ∷ []) (λ ts. grammar.InstanceEnds) (ended_keeps contexts.Pins (λ s i. i)),
   (
-    two contexts.Pins contexts.Pin sorts.Dot (λ a b line. grammar.Pin b) (λ t u is. says_pin contexts.Pins (λ s i. i) u.text is),
+    two contexts.Pins contexts.Pin sorts.Dot (λ a b line. grammar.Pin b) (λ t u is. pin_keeps contexts.Pins (λ s i. i) u.text is),
     (
       refused_keeps contexts.Pins (sorts.Name ∷ []) _,
       (
@@ -272,14 +272,14 @@ forms_keep contexts.Pins = (
 )
 forms_keep contexts.Pin = (quiet_keeps contexts.Pin contexts.Connection (sorts.LeftParen ∷ []) (λ s i. i), tt)
 forms_keep contexts.Connection = (
-  plain contexts.Connection contexts.Connected (sorts.RightParen ∷ []) (λ ts. grammar.NoConnection) says_open,
+  plain contexts.Connection contexts.Connected (sorts.RightParen ∷ []) (λ ts. grammar.NoConnection) open_keeps,
   (
-    plain contexts.Connection contexts.Connected (sorts.Constant ∷ sorts.RightParen ∷ []) (λ ts. grammar.Constant) says_constant,
+    plain contexts.Connection contexts.Connected (sorts.Constant ∷ sorts.RightParen ∷ []) (λ ts. grammar.Constant) constant_keeps,
     (
-      used contexts.Connection contexts.Connected (sorts.RightParen ∷ []) (λ a. grammar.Net a) (λ t is. says_net t.text is),
+      used contexts.Connection contexts.Connected (sorts.RightParen ∷ []) (λ a. grammar.Net a) (λ t is. net_keeps t.text is),
       (
         plain contexts.Connection contexts.BitGiven (sorts.Name ∷ sorts.LeftBracket ∷ sorts.Number ∷ sorts.RightBracket ∷ [])
-            (λ ts. grammar.Bit (text_at 0 ts) (text_at 2 ts)) says_bit,
+            (λ ts. grammar.Bit (text_at 0 ts) (text_at 2 ts)) bit_keeps,
         (
           refused_keeps contexts.Connection (sorts.Name ∷ sorts.LeftBracket ∷ sorts.Number ∷ sorts.Colon ∷ []) _,
           (refused_keeps contexts.Connection (sorts.LeftBrace ∷ []) _, tt),
@@ -290,9 +290,9 @@ forms_keep contexts.Connection = (
 )
 forms_keep contexts.BitGiven = (quiet_keeps contexts.BitGiven contexts.Connected (sorts.RightParen ∷ []) (λ s i. i), tt)
 forms_keep contexts.Connected = (
-  plain contexts.Connected contexts.Closed (sorts.RightParen ∷ []) (λ ts. grammar.InstanceEnds) (says_ended contexts.Connected (λ s i. i)),
+  plain contexts.Connected contexts.Closed (sorts.RightParen ∷ []) (λ ts. grammar.InstanceEnds) (ended_keeps contexts.Connected (λ s i. i)),
   (
-    three contexts.Connected contexts.Pin sorts.Comma sorts.Dot (λ a. grammar.Pin a) (λ t is. says_pin contexts.Connected (λ s i. i) t.text is),
+    three contexts.Connected contexts.Pin sorts.Comma sorts.Dot (λ a. grammar.Pin a) (λ t is. pin_keeps contexts.Connected (λ s i. i) t.text is),
     (
       refused_keeps contexts.Connected (sorts.Comma ∷ sorts.Name ∷ []) _,
       (
@@ -304,7 +304,7 @@ forms_keep contexts.Connected = (
 )
 forms_keep contexts.Closed = (
   two contexts.Closed contexts.Opening sorts.Comma (λ a b line. grammar.FurtherInstance b line)
-      (λ t u is. says_further_instance contexts.Closed (λ s i. i) u.text u.line is),
+      (λ t u is. further_instance_keeps contexts.Closed (λ s i. i) u.text u.line is),
   (quiet_keeps contexts.Closed contexts.Body (sorts.Semicolon ∷ []) (λ s i. tt), tt),
 )
 forms_keep contexts.Done = tt

@@ -1,4 +1,4 @@
--- The grammar of a SPEF text as tables of forms: what may come next in each context, what it says, and where the text
+-- The grammar of a SPEF text as tables of forms: what may come next in each context, its item, and where the text
 -- goes on. Forms are cut where something is meant, so that each refusal is met at a form's last token.
 use Rattle.std.specs.Prelude.{ℕ, Bool, true, false, List, [], ◌∷◌, Option, Some, None, Result, codes}
 use Rattle.std.specs.Prelude.{if◌then◌else◌}
@@ -25,35 +25,35 @@ Bytes = List ℕ
 abbrev pub Tokens : Type 0
 Tokens = List (Token Sort)
 
--- what a form says; words by their bytes
-pub data Said : Type 0 where
+-- the item that a form gives; words by their bytes
+pub data Item : Type 0 where
   -- nothing that is not in its context
-  Nothing : Said
+  Nothing : Item
   -- something that is refused wherever it stands
-  Refused : Code → Said
+  Refused : Code → Item
   -- one of the marks of names
-  Separator_is : Separator → Bytes → Said
+  Separator_is : Separator → Bytes → Item
   -- the brackets of a bus's bit, in one word or in two
-  Pair : Bytes → Said
-  Brackets_are : Bytes → Bytes → Said
+  Pair : Bytes → Item
+  Brackets_are : Bytes → Bytes → Item
   -- the number of a unit, and the unit
-  UnitNumber : Quantity → Bytes → Said
-  Unit_is : Bytes → Said
+  UnitNumber : Quantity → Bytes → Item
+  Unit_is : Bytes → Item
   -- a pair of the name map: `*` and its number, and its name
-  PairNumber : Bytes → Said
-  PairName : Bytes → Said
+  PairNumber : Bytes → Item
+  PairName : Bytes → Item
   -- a net begins; its name, its total capacitance
-  NetBegins : Said
-  NetName : Bytes → Said
-  Total : Bytes → Said
+  NetBegins : Item
+  NetName : Bytes → Item
+  Total : Bytes → Item
   -- the first node of a capacitor or a resistor, the second one of each, and the value
-  FirstNode : Bytes → Said
-  CapNode : Bytes → Said
-  ResNode : Bytes → Said
-  CapValue : Bytes → Said
-  ResValue : Bytes → Said
-  NetEnds : Said
-  TextEnds : Said
+  FirstNode : Bytes → Item
+  CapNode : Bytes → Item
+  ResNode : Bytes → Item
+  CapValue : Bytes → Item
+  ResValue : Bytes → Item
+  NetEnds : Item
+  TextEnds : Item
 
 -- any word, a keyword too
 abbrev pub is_word : Sort → Bool
@@ -133,19 +133,19 @@ quantity_of word =
     else quantities.Inductance
 
 abbrev pub SpefForm : Type 0
-SpefForm = Form Slot Sort Said Context
+SpefForm = Form Slot Sort Item Context
 
--- a form of these slots that says this, with what comes next
-abbrev pub form : List Slot → (Tokens → Said) → Context → SpefForm
-form slots says next = record { slots = slots; says = says; next = next }
+-- a form of these slots that gives this item, with what comes next
+abbrev pub form : List Slot → (Tokens → Item) → Context → SpefForm
+form slots item next = record { slots = slots; item = item; next = next }
 
--- a form that says nothing more
+-- a form whose item is nothing
 abbrev pub quiet : List Slot → Context → SpefForm
 quiet slots next = form slots (λ ts. Nothing) next
 
--- a word of a section or a list that is not taken
-abbrev pub untaken : Sort → SpefForm
-untaken word = form (Only word ∷ []) (λ ts. Refused S7) contexts.Done
+-- a word of a section or a list that is refused
+abbrev pub refused : Sort → SpefForm
+refused word = form (Only word ∷ []) (λ ts. Refused S7) contexts.Done
 
 -- ---- outside the sections of nets
 
@@ -155,7 +155,7 @@ section_forms =
     quiet (Only NameMap ∷ []) contexts.Pairs
     ∷ quiet (Only sorts.Skipped ∷ []) contexts.Skipped
     ∷ form (Only Net ∷ []) (λ ts. NetBegins) contexts.NetName
-    ∷ untaken Unsupported
+    ∷ refused Unsupported
     ∷ form (Only End ∷ []) (λ ts. TextEnds) contexts.Done
     ∷ []
 
@@ -201,9 +201,9 @@ skipped_forms = quiet (Passed ∷ []) contexts.Skipped ∷ section_forms
 -- the end of a net; a list of inductances and a section that is not taken are refused
 abbrev pub closing_forms : List SpefForm
 closing_forms =
-    form (Only NetEnd ∷ []) (λ ts. NetEnds) contexts.Between
-    ∷ untaken Inductances
-    ∷ untaken Unsupported
+    form (Only NetEnd ∷ []) (λ ts. NetEnds) contexts.BehindNet
+    ∷ refused Inductances
+    ∷ refused Unsupported
     ∷ []
 
 -- the resistors of a net, or its end
@@ -280,7 +280,7 @@ forms_in contexts.Unit = unit_forms
 forms_in contexts.Pairs = pairs_forms
 forms_in contexts.PairName = pair_name_forms
 forms_in contexts.Skipped = skipped_forms
-forms_in contexts.Between = section_forms
+forms_in contexts.BehindNet = section_forms
 forms_in contexts.NetName = net_name_forms
 forms_in contexts.NetTotal = net_total_forms
 forms_in contexts.Totalled = totalled_forms
@@ -306,7 +306,7 @@ forms context = if is_done context then None else Some (forms_in context)
 
 -- a form that was read whole
 abbrev pub WholeForm : Type 0
-WholeForm = Whole Said Context
+WholeForm = Whole Item Context
 
 -- the first form of the tokens, and the tokens behind it
 abbrev pub first_form : List SpefForm → Tokens → Result (WholeForm × Tokens) (Refusal Code)

@@ -19,7 +19,7 @@ use Rattle.spef_read.specs.declared.parasitics.CapText.{CapText}
 use Rattle.spef_read.specs.declared.parasitics.ResText.{ResText}
 use Rattle.spef_read.specs.declared.parasitics.WireText.{WireText}
 use Rattle.spef_read.specs.Words.{Text, counted}
-use Rattle.spef_read.specs.Forms.{Said}
+use Rattle.spef_read.specs.Forms.{Item}
 use Rattle.spef_read.specs.Forms as grammar
 use Rattle.spef_read.specs.Names.{NameMap, plain_marks, whole_name, pair_name}
 
@@ -272,7 +272,7 @@ abbrev pub end_net : State → State
 end_net s = record s { nets = s.nets ++ net_of s ∷ []; caps = []; resistors = [] }
 
 -- what a form means
-unfoldable pub means : Said → State → Result State Code
+unfoldable pub means : Item → State → Result State Code
 means grammar.Nothing s = Ok s
 means (grammar.Refused code) s = Err code
 means (grammar.Separator_is which word) s = set_separator which word s

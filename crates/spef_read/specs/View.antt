@@ -5,34 +5,34 @@ use Rattle.xt_model.specs.declared.code.Code.{Code}
 use Rattle.spef_read.specs.declared.item.Item.{Item}
 use Rattle.spef_read.specs.declared.item.Item.TheVariants as items
 use Rattle.spef_read.specs.declared.item.FormRead.{FormRead}
-use Rattle.spef_read.specs.Forms.{Said, WholeForm, Tokens, Slot, fits, misfit, misfits}
+use Rattle.spef_read.specs.Forms.{WholeForm, Tokens, Slot, fits, misfit, misfits}
 use Rattle.spef_read.specs.Forms as grammar
 
--- what an item says
-abbrev pub said : Item → Said
-said items.Nothing = grammar.Nothing
-said (items.Refused code) = grammar.Refused code
-said (items.Separator which word) = grammar.Separator_is which word.now
-said (items.Pair word) = grammar.Pair word.now
-said (items.Brackets left right) = grammar.Brackets_are left.now right.now
-said (items.UnitNumber quantity word) = grammar.UnitNumber quantity word.now
-said (items.Unit word) = grammar.Unit_is word.now
-said (items.PairNumber word) = grammar.PairNumber word.now
-said (items.PairName word) = grammar.PairName word.now
-said items.NetBegins = grammar.NetBegins
-said (items.NetName word) = grammar.NetName word.now
-said (items.Total word) = grammar.Total word.now
-said (items.FirstNode word) = grammar.FirstNode word.now
-said (items.CapNode word) = grammar.CapNode word.now
-said (items.ResNode word) = grammar.ResNode word.now
-said (items.CapValue word) = grammar.CapValue word.now
-said (items.ResValue word) = grammar.ResValue word.now
-said items.NetEnds = grammar.NetEnds
-said items.TextEnds = grammar.TextEnds
+-- an item as the grammar has it
+abbrev pub item_text : Item → grammar.Item
+item_text items.Nothing = grammar.Nothing
+item_text (items.Refused code) = grammar.Refused code
+item_text (items.Separator which word) = grammar.Separator_is which word.now
+item_text (items.Pair word) = grammar.Pair word.now
+item_text (items.Brackets left right) = grammar.Brackets_are left.now right.now
+item_text (items.UnitNumber quantity word) = grammar.UnitNumber quantity word.now
+item_text (items.Unit word) = grammar.Unit_is word.now
+item_text (items.PairNumber word) = grammar.PairNumber word.now
+item_text (items.PairName word) = grammar.PairName word.now
+item_text items.NetBegins = grammar.NetBegins
+item_text (items.NetName word) = grammar.NetName word.now
+item_text (items.Total word) = grammar.Total word.now
+item_text (items.FirstNode word) = grammar.FirstNode word.now
+item_text (items.CapNode word) = grammar.CapNode word.now
+item_text (items.ResNode word) = grammar.ResNode word.now
+item_text (items.CapValue word) = grammar.CapValue word.now
+item_text (items.ResValue word) = grammar.ResValue word.now
+item_text items.NetEnds = grammar.NetEnds
+item_text items.TextEnds = grammar.TextEnds
 
 -- a form that was read
 abbrev pub whole_of : FormRead → WholeForm
-whole_of r = record { said = said r.item; line = r.line; next = r.next }
+whole_of r = record { item = item_text r.item; line = r.line; next = r.next }
 
 -- the refusal of the next token, which does not fit
 abbrev pub refusal_at : Tokens → Refusal Code

@@ -18,7 +18,7 @@ pub enum Context {
     /// In a section that is skipped.
     Skipped,
     /// Behind `*END`: a section or the end of the text.
-    Between,
+    BehindNet,
     /// Behind `*D_NET`: the net's name.
     NetName,
     /// Behind a net's name: its total capacitance.

@@ -7,7 +7,7 @@ ghost use Rattle.spef_read.specs.Forms.{header_forms, flow_forms, unit_forms, pa
 ghost use Rattle.spef_read.specs.Forms.{skipped_forms, forms_in, is_done, Only};
 ghost use Rattle.text_forms.specs.Tokens.{token_of};
 ghost use Rattle.text_forms.specs.Stops.{refusal_of, Reads};
-ghost use Rattle.spef_read.specs.View.{said, whole_of, refusal_at, IsOther};
+ghost use Rattle.spef_read.specs.View.{item_text, whole_of, refusal_at, IsOther};
 
 use crate::context::Context;
 use crate::item::{FormRead, Item, Quantity, Separator};
@@ -22,7 +22,7 @@ use xt_model::Code;
 /// A form that was read, whose last token stands in this line.
 #[inline]
 pub fn done(item: Item<'_>, line: u32, next: Context) -> FormRead<'_>
-    ensures { whole_of result ≡ record { said = said item.entry; line = line; next = next } }
+    ensures { whole_of result ≡ record { item = item_text item.entry; line = line; next = next } }
 {
     FormRead { item, line, next }
 }
@@ -258,7 +258,7 @@ fn skipped<'a>(terms: &mut Terms<'a, Sort>) -> Result<FormRead<'a>, Refused>
 }
 
 /// Behind the end of a net.
-fn between<'a>(terms: &mut Terms<'a, Sort>) -> Result<FormRead<'a>, Refused>
+fn behind_net<'a>(terms: &mut Terms<'a, Sort>) -> Result<FormRead<'a>, Refused>
     ensures { Reads (λ r. (whole_of r, terms.new)) result (first_form section_forms terms.old) }
 {
     let first = any(terms)?;
@@ -278,7 +278,7 @@ pub fn read_form<'a>(context: Context, terms: &mut Terms<'a, Sort>) -> Result<Fo
         Context::Pairs => pairs(terms),
         Context::PairName => pair_name(terms),
         Context::Skipped => skipped(terms),
-        Context::Between => between(terms),
+        Context::BehindNet => behind_net(terms),
         Context::NetName => net_name(terms),
         Context::NetTotal => net_total(terms),
         Context::Totalled => totalled(terms),

@@ -1,4 +1,4 @@
-//! What a form says.
+//! The items that forms give.
 
 use crate::context::Context;
 use xt_model::Code;
@@ -19,7 +19,7 @@ pub enum Quantity {
     Inductance,
 }
 
-/// What a form says; words by their bytes.
+/// The item that a form gives; words by their bytes.
 #[derive(Clone, Copy)]
 pub enum Item<'a> {
     Nothing,
@@ -54,7 +54,7 @@ pub enum Item<'a> {
     TextEnds,
 }
 
-/// A form that was read: what it says, the line of its last token, and what may come next.
+/// A form that was read: its item, the line of its last token, and what may come next.
 #[derive(Clone, Copy)]
 pub struct FormRead<'a> {
     pub item: Item<'a>,

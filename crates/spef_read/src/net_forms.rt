@@ -22,7 +22,7 @@ fn closing_from<'a>(first: Term<'a, Sort>, terms: &Terms<'a, Sort>) -> Result<Fo
         (first_form closing_forms (token_of first.entry ∷ terms.now)) }
 {
     match first.sort {
-        Sort::NetEnd => Ok(done(Item::NetEnds, first.line, Context::Between)),
+        Sort::NetEnd => Ok(done(Item::NetEnds, first.line, Context::BehindNet)),
         Sort::Inductances => Ok(done(Item::Refused(Code::S7), first.line, Context::Done)),
         Sort::Unsupported => Ok(done(Item::Refused(Code::S7), first.line, Context::Done)),
         _ => Err(refused(first)),

@@ -7,7 +7,7 @@ ghost use Rattle.spef_read.specs.Meaning.{net_name, net_total, first_node, cap_n
 ghost use Rattle.spef_read.specs.Meaning.{end_net, means};
 ghost use Rattle.spef_read.specs.Reading.{parasitics_in};
 ghost use Rattle.text_forms.specs.Stops.{Changes, Answers, Computes};
-ghost use Rattle.spef_read.specs.View.{said};
+ghost use Rattle.spef_read.specs.View.{item_text};
 
 use crate::item::{Item, Quantity, Separator};
 use crate::marks::Marks;
@@ -364,7 +364,7 @@ impl<'a> Progress<'a> {
     /// What a form means.
     #[tactic(auto, unfolding(crate::specs::Meaning::means))]
     pub fn act(&mut self, alloc: Global, item: Item<'a>) -> Result<(), Stop>
-        ensures { Changes result self.new (means (said item.entry) self.old) }
+        ensures { Changes result self.new (means (item_text item.entry) self.old) }
     {
         match item {
             Item::Nothing => Ok(()),

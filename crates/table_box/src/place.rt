@@ -18,7 +18,7 @@ pub(crate) struct Place {
 }
 
 /// The place of `x` between the grid lines `cell` and `cell + 1`.
-fn between(index: &[i64], x: i64, cell: usize) -> Place
+fn place_in_cell(index: &[i64], x: i64, cell: usize) -> Place
     requires index { IsIndex index.now }
     requires cell { cell + 1 < length index.now }
     requires low { slice_index_or index.now cell (pos 0) ≤ℤ x }
@@ -82,7 +82,7 @@ impl Place {
         ensures { span_in result ≡ span_of index.now x }
     {
         if is_between_lines(index, lines) {
-            return between(index, x, lines - 1);
+            return place_in_cell(index, x, lines - 1);
         }
         Place::of_clamped(index, x, lines)
     }
@@ -98,7 +98,7 @@ impl Place {
             return whole();
         }
         let cell = lines.saturating_sub(1).min(index.len() - 2);
-        between(index, brought_within(index, x), cell)
+        place_in_cell(index, brought_within(index, x), cell)
     }
 
     /// The place of a grid line.
@@ -110,6 +110,6 @@ impl Place {
         if index.len() == 1 {
             return whole();
         }
-        between(index, index[line], line.min(index.len() - 2))
+        place_in_cell(index, index[line], line.min(index.len() - 2))
     }
 }

@@ -22,15 +22,15 @@ module _ {Sort : Type 0} where
   line_at zero (t ∷ ts) = t.line
   line_at (suc n) (t ∷ ts) = line_at n ts
 
--- a form: a slot for each of its tokens, what it says by these, and where the text goes on
-pub record Form (Slot Sort Said Context : Type 0) : Type 0 where
+-- a form: a slot for each of its tokens, the item that these give, and where the text goes on
+pub record Form (Slot Sort Item Context : Type 0) : Type 0 where
   pub slots : List Slot
-  pub says : List (Token Sort) → Said
+  pub item : List (Token Sort) → Item
   pub next : Context
 
--- a form that was read whole: what it says, the line of its last token, and where the text goes on
-pub record Whole (Said Context : Type 0) : Type 0 where
-  pub said : Said
+-- a form that was read whole: its item, the line of its last token, and where the text goes on
+pub record Whole (Item Context : Type 0) : Type 0 where
+  pub item : Item
   pub line : ℕ
   pub next : Context
 
@@ -51,15 +51,15 @@ pub record Misfits (Sort Code : Type 0) : Type 0 where
   pub early : Code
   pub last : ℕ
 
-module _ {Slot Sort Said Context : Type 0} (fits : Slot → Sort → Bool) where
+module _ {Slot Sort Item Context : Type 0} (fits : Slot → Sort → Bool) where
   -- the form behind its first slot, where that fits the token
-  abbrev pub agree_one : Sort → List Slot → Form Slot Sort Said Context
-      → List (Form Slot Sort Said Context) → List (Form Slot Sort Said Context)
+  abbrev pub agree_one : Sort → List Slot → Form Slot Sort Item Context
+      → List (Form Slot Sort Item Context) → List (Form Slot Sort Item Context)
   agree_one s [] f more = more
   agree_one s (slot ∷ slots) f more = if fits slot s then record f { slots = slots } ∷ more else more
 
   -- the forms that agree with the token, each behind it
-  abbrev pub agree : Sort → List (Form Slot Sort Said Context) → List (Form Slot Sort Said Context)
+  abbrev pub agree : Sort → List (Form Slot Sort Item Context) → List (Form Slot Sort Item Context)
   agree s [] = []
   agree s (f ∷ fs) = agree_one s f.slots f (agree s fs)
 
@@ -68,19 +68,19 @@ abbrev pub whole_or : {Slot A : Type 0} → List Slot → A → A → A
 whole_or [] whole more = whole
 whole_or (slot ∷ slots) whole more = more
 
-module _ {Slot Sort Said Context Code : Type 0} (misfits : Misfits Sort Code) where
+module _ {Slot Sort Item Context Code : Type 0} (misfits : Misfits Sort Code) where
   -- what the forms that agree with the tokens so far make of them
-  abbrev pub decide : List (Form Slot Sort Said Context) → Token Sort → List (Token Sort) → List (Token Sort)
-      → Result (Whole Said Context × List (Token Sort)) (Refusal Code)
-      → Result (Whole Said Context × List (Token Sort)) (Refusal Code)
+  abbrev pub decide : List (Form Slot Sort Item Context) → Token Sort → List (Token Sort) → List (Token Sort)
+      → Result (Whole Item Context × List (Token Sort)) (Refusal Code)
+      → Result (Whole Item Context × List (Token Sort)) (Refusal Code)
   decide [] t read rest more = Err (record { line = t.line; code = misfits.token t.sort })
   decide (f ∷ fs) t read rest more =
-      whole_or f.slots (Ok (record { said = f.says read; line = t.line; next = f.next }, rest)) more
+      whole_or f.slots (Ok (record { item = f.item read; line = t.line; next = f.next }, rest)) more
 
-module _ {Slot Sort Said Context Code : Type 0} (fits : Slot → Sort → Bool) (misfits : Misfits Sort Code) where
+module _ {Slot Sort Item Context Code : Type 0} (fits : Slot → Sort → Bool) (misfits : Misfits Sort Code) where
   -- the first form of the tokens, behind those that were read of it, and the tokens behind it
-  abbrev pub form_at : List (Form Slot Sort Said Context) → List (Token Sort) → List (Token Sort)
-      → Result (Whole Said Context × List (Token Sort)) (Refusal Code)
+  abbrev pub form_at : List (Form Slot Sort Item Context) → List (Token Sort) → List (Token Sort)
+      → Result (Whole Item Context × List (Token Sort)) (Refusal Code)
   form_at fs read [] = Err (record { line = misfits.last; code = misfits.early })
   form_at fs read (t ∷ ts) = decide misfits (agree fits t.sort fs) t (read ++ t ∷ []) ts
       (form_at (agree fits t.sort fs) (read ++ t ∷ []) ts)

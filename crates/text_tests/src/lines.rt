@@ -365,7 +365,7 @@ const TWO: [(u32, &str, u32, &str, &str); 13] = [
 ];
 
 #[test]
-fn the_first_refusal_is_told(rt: HostRuntime) -> Result<(), Fail> {
+fn the_first_refusal_counts(rt: HostRuntime) -> Result<(), Fail> {
     for (number, line, other, other_line, want) in &TWO {
         let changed = replaced(rt.alloc(), EACH_KIND, *number, line)?;
         let changed = replaced(rt.alloc(), changed.as_str(), *other, other_line)?;

@@ -1,4 +1,4 @@
--- The grammar of a structural Verilog text as tables of forms: what may come next in each context, what it says, and
+-- The grammar of a structural Verilog text as tables of forms: what may come next in each context, its item, and
 -- where the text goes on. Forms are cut where something is meant, so that each refusal is met at a form's last token.
 use Rattle.std.specs.Prelude.{ℕ, Bool, true, false, List, [], ◌∷◌, Option, Some, None, Result, codes, if◌then◌else◌}
 use Rattle.std.specs.Str.{bytes_eq}
@@ -24,36 +24,36 @@ Text = List ℕ
 abbrev pub Tokens : Type 0
 Tokens = List (Token Sort)
 
--- what a form says; names and numbers by their bytes
-pub data Said : Type 0 where
+-- the item that a form gives; names and numbers by their bytes
+pub data Item : Type 0 where
   -- nothing that is not in its context
-  Nothing : Said
+  Nothing : Item
   -- something that is refused wherever it stands
-  Refused : Code → Said
+  Refused : Code → Item
   -- `module`
-  ModuleBegins : Said
-  ModuleName : Text → Said
+  ModuleBegins : Item
+  ModuleName : Text → Item
   -- a name of the header
-  Listed : Text → Said
-  ModuleEnds : Said
+  Listed : Text → Item
+  ModuleEnds : Item
   -- a name that is declared without a range
-  Scalar : PortRole → Text → Said
+  Scalar : PortRole → Text → Item
   -- the left and the right bound of the range of names that are declared
-  Left : PortRole → Text → Said
-  Right : Text → Said
+  Left : PortRole → Text → Item
+  Right : Text → Item
   -- a further name that is declared
-  Further : Text → Said
+  Further : Text → Item
   -- an instance: its cell, its name, the line of its name
-  Instance : Text → Text → ℕ → Said
+  Instance : Text → Text → ℕ → Item
   -- a further instance of the same cell
-  FurtherInstance : Text → ℕ → Said
-  Pin : Text → Said
+  FurtherInstance : Text → ℕ → Item
+  Pin : Text → Item
   -- what a pin is connected to: nothing, a constant, a net, a bit by its bus and its number
-  NoConnection : Said
-  Constant : Said
-  Net : Text → Said
-  Bit : Text → Text → Said
-  InstanceEnds : Said
+  NoConnection : Item
+  Constant : Item
+  Net : Text → Item
+  Bit : Text → Text → Item
+  InstanceEnds : Item
 
 -- the code of a token that does not fit, by its sort: of the text's end, of what is not read, of any other
 abbrev pub misfit : Sort → Code
@@ -73,13 +73,13 @@ role_of word =
     else roles.Inner
 
 abbrev pub NetlistForm : Type 0
-NetlistForm = Form Sort Sort Said Context
+NetlistForm = Form Sort Sort Item Context
 
--- a form of these sorts that says this, with what comes next
-abbrev pub form : List Sort → (Tokens → Said) → Context → NetlistForm
-form slots says next = record { slots = slots; says = says; next = next }
+-- a form of these sorts that gives this item, with what comes next
+abbrev pub form : List Sort → (Tokens → Item) → Context → NetlistForm
+form slots item next = record { slots = slots; item = item; next = next }
 
--- a form that says nothing more
+-- a form whose item is nothing
 abbrev pub quiet : List Sort → Context → NetlistForm
 quiet slots next = form slots (λ ts. Nothing) next
 
@@ -95,8 +95,8 @@ start_forms =
     ∷ []
 
 -- behind `endmodule`
-abbrev pub between_forms : List NetlistForm
-between_forms =
+abbrev pub behind_module_forms : List NetlistForm
+behind_module_forms =
     form (Module ∷ []) (λ ts. ModuleBegins) contexts.ModuleName
     ∷ quiet (End ∷ []) contexts.Done
     ∷ refused (Unsupported ∷ []) V1
@@ -136,7 +136,7 @@ declaration_forms word more =
 abbrev pub body_forms : List NetlistForm
 body_forms = declaration_forms Direction (declaration_forms NetType (
     form (Name ∷ Name ∷ []) (λ ts. Instance (text_at 0 ts) (text_at 1 ts) (line_at 1 ts)) contexts.Opening
-    ∷ form (Endmodule ∷ []) (λ ts. ModuleEnds) contexts.Between
+    ∷ form (Endmodule ∷ []) (λ ts. ModuleEnds) contexts.BehindModule
     ∷ []))
 
 -- behind the left bound of a range
@@ -207,7 +207,7 @@ closed_forms =
 -- the forms of each context
 abbrev pub forms_in : Context → List NetlistForm
 forms_in contexts.Start = start_forms
-forms_in contexts.Between = between_forms
+forms_in contexts.BehindModule = behind_module_forms
 forms_in contexts.ModuleName = module_name_forms
 forms_in contexts.Header = header_forms
 forms_in contexts.Listed = listed_forms
@@ -235,7 +235,7 @@ forms context = if is_done context then None else Some (forms_in context)
 
 -- a form that was read whole
 abbrev pub WholeForm : Type 0
-WholeForm = Whole Said Context
+WholeForm = Whole Item Context
 
 -- the first form of the tokens, and the tokens behind it
 abbrev pub first_form : List NetlistForm → Tokens → Result (WholeForm × Tokens) (Refusal Code)

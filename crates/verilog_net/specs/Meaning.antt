@@ -13,7 +13,7 @@ use Rattle.verilog_net.specs.declared.netlist.Wire.{Wire}
 use Rattle.verilog_net.specs.declared.netlist.Wire.TheVariants as wires
 use Rattle.verilog_net.specs.declared.netlist.PortRole.{PortRole}
 use Rattle.verilog_net.specs.declared.netlist.PortRole.TheVariants as roles
-use Rattle.verilog_net.specs.Forms.{Said}
+use Rattle.verilog_net.specs.Forms.{Item}
 use Rattle.verilog_net.specs.Forms as grammar
 use Rattle.verilog_net.specs.Nets.{Nets, NetBit, number_of, has_bit, named_bit, same_range, joined_role}
 use Rattle.verilog_net.specs.Nets.{BitNets, with_net, has_bit_net, is_port}
@@ -213,7 +213,7 @@ abbrev pub end_instance : State → State
 end_instance s = record s { instances = s.instances ++ instance_of s ∷ []; pins = [] }
 
 -- what a form means
-unfoldable pub means : Said → State → Result State Code
+unfoldable pub means : Item → State → Result State Code
 means grammar.Nothing s = Ok s
 means (grammar.Refused code) s = Err code
 means grammar.ModuleBegins s = begin_module s

@@ -7,35 +7,35 @@ use Rattle.verilog_net.specs.declared.item.Item.{Item}
 use Rattle.verilog_net.specs.declared.item.Item.TheVariants as items
 use Rattle.verilog_net.specs.declared.item.FormRead.{FormRead}
 use Rattle.verilog_net.specs.Sorts.{same_sort}
-use Rattle.verilog_net.specs.Forms.{Said, Nothing, ModuleBegins, ModuleName, Listed, ModuleEnds, Scalar, Left, Right}
+use Rattle.verilog_net.specs.Forms.{Nothing, ModuleBegins, ModuleName, Listed, ModuleEnds, Scalar, Left, Right}
 use Rattle.verilog_net.specs.Forms.{Further, Instance, FurtherInstance, Pin, NoConnection, Constant, Net, Bit}
 use Rattle.verilog_net.specs.Forms.{InstanceEnds, WholeForm, Tokens, misfit, misfits}
 use Rattle.verilog_net.specs.Forms as grammar
 
--- what an item says
-abbrev pub said : Item → Said
-said items.Nothing = Nothing
-said (items.Refused code) = grammar.Refused code
-said items.ModuleBegins = ModuleBegins
-said (items.ModuleName name) = ModuleName name.now
-said (items.Listed name) = Listed name.now
-said items.ModuleEnds = ModuleEnds
-said (items.Scalar role name) = Scalar role name.now
-said (items.Left role bound) = Left role bound.now
-said (items.Right bound) = Right bound.now
-said (items.Further name) = Further name.now
-said (items.Instance cell name line) = Instance cell.now name.now line
-said (items.FurtherInstance name line) = FurtherInstance name.now line
-said (items.Pin name) = Pin name.now
-said items.NoConnection = NoConnection
-said items.Constant = Constant
-said (items.Net name) = Net name.now
-said (items.Bit bus number) = Bit bus.now number.now
-said items.InstanceEnds = InstanceEnds
+-- an item as the grammar has it
+abbrev pub item_text : Item → grammar.Item
+item_text items.Nothing = Nothing
+item_text (items.Refused code) = grammar.Refused code
+item_text items.ModuleBegins = ModuleBegins
+item_text (items.ModuleName name) = ModuleName name.now
+item_text (items.Listed name) = Listed name.now
+item_text items.ModuleEnds = ModuleEnds
+item_text (items.Scalar role name) = Scalar role name.now
+item_text (items.Left role bound) = Left role bound.now
+item_text (items.Right bound) = Right bound.now
+item_text (items.Further name) = Further name.now
+item_text (items.Instance cell name line) = Instance cell.now name.now line
+item_text (items.FurtherInstance name line) = FurtherInstance name.now line
+item_text (items.Pin name) = Pin name.now
+item_text items.NoConnection = NoConnection
+item_text items.Constant = Constant
+item_text (items.Net name) = Net name.now
+item_text (items.Bit bus number) = Bit bus.now number.now
+item_text items.InstanceEnds = InstanceEnds
 
 -- a form that was read
 abbrev pub whole_of : FormRead → WholeForm
-whole_of r = record { said = said r.item; line = r.line; next = r.next }
+whole_of r = record { item = item_text r.item; line = r.line; next = r.next }
 
 -- the refusal of the next token, which does not fit
 abbrev pub refusal_at : Tokens → Refusal Code

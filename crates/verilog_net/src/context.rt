@@ -4,7 +4,7 @@ pub enum Context {
     /// The start of the text: a module.
     Start,
     /// Behind `endmodule`: a further module, or the end of the text.
-    Between,
+    BehindModule,
     /// Behind `module`: its name.
     ModuleName,
     /// Behind a module's name: its header's list of names, or `;`.

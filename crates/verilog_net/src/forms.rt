@@ -3,13 +3,13 @@
 ghost use Rattle.std.specs.Prelude.{◌≡◌, ℕ, Some, None, [], ◌∷◌, true, MatchResult, IfOk, IfErr, Option};
 ghost use Rattle.text_forms.specs.Forms.{Form};
 ghost use Rattle.text_forms.specs.Tokens.{token_of};
-ghost use Rattle.verilog_net.specs.Forms.{misfit, misfits, role_of, first_form, start_forms, between_forms};
+ghost use Rattle.verilog_net.specs.Forms.{misfit, misfits, role_of, first_form, start_forms, behind_module_forms};
 ghost use Rattle.verilog_net.specs.Forms.{module_name_forms, header_forms, listed_forms, body_forms};
 ghost use Rattle.verilog_net.specs.Forms.{left_bound_forms, right_bound_forms, declared_forms, opening_forms};
 ghost use Rattle.verilog_net.specs.Forms.{pins_forms, pin_forms, connection_forms, bit_given_forms};
 ghost use Rattle.verilog_net.specs.Forms.{connected_forms, closed_forms, forms_in, is_done};
 ghost use Rattle.text_forms.specs.Stops.{refusal_of, Reads};
-ghost use Rattle.verilog_net.specs.View.{said, whole_of, refusal_at, IsOther};
+ghost use Rattle.verilog_net.specs.View.{item_text, whole_of, refusal_at, IsOther};
 
 use crate::context::Context;
 use crate::item::{FormRead, Item};
@@ -21,7 +21,7 @@ use xt_model::Code;
 /// A form that was read, whose last token stands in this line.
 #[inline]
 fn done(item: Item<'_>, line: u32, next: Context) -> FormRead<'_>
-    ensures { whole_of result ≡ record { said = said item.entry; line = line; next = next } }
+    ensures { whole_of result ≡ record { item = item_text item.entry; line = line; next = next } }
 {
     FormRead { item, line, next }
 }
@@ -100,8 +100,8 @@ fn at_start<'a>(terms: &mut Terms<'a, Sort>) -> Result<FormRead<'a>, Refused>
 }
 
 /// Behind `endmodule`.
-fn between<'a>(terms: &mut Terms<'a, Sort>) -> Result<FormRead<'a>, Refused>
-    ensures { Reads (λ r. (whole_of r, terms.new)) result (first_form between_forms terms.old) }
+fn behind_module<'a>(terms: &mut Terms<'a, Sort>) -> Result<FormRead<'a>, Refused>
+    ensures { Reads (λ r. (whole_of r, terms.new)) result (first_form behind_module_forms terms.old) }
 {
     let first = any(terms)?;
     match first.sort {
@@ -198,7 +198,7 @@ fn in_body<'a>(terms: &mut Terms<'a, Sort>) -> Result<FormRead<'a>, Refused>
             let item = Item::Instance(first.text, name.text, name.line);
             Ok(done(item, name.line, Context::Opening))
         }
-        Sort::Endmodule => Ok(done(Item::ModuleEnds, first.line, Context::Between)),
+        Sort::Endmodule => Ok(done(Item::ModuleEnds, first.line, Context::BehindModule)),
         _ => Err(refused(first)),
     }
 }
@@ -375,7 +375,7 @@ pub fn read_form<'a>(context: Context, terms: &mut Terms<'a, Sort>) -> Result<Fo
 {
     match context {
         Context::Start => at_start(terms),
-        Context::Between => between(terms),
+        Context::BehindModule => behind_module(terms),
         Context::ModuleName => module_name(terms),
         Context::Header => header(terms),
         Context::Listed => listed(terms),

@@ -1,10 +1,10 @@
-//! What a form says.
+//! The items that forms give.
 
 use crate::context::Context;
 use crate::netlist::PortRole;
 use xt_model::Code;
 
-/// What a form says; names, numbers and constants by their bytes.
+/// The item that a form gives; names, numbers and constants by their bytes.
 #[derive(Clone, Copy)]
 pub enum Item<'a> {
     Nothing,
@@ -36,7 +36,7 @@ pub enum Item<'a> {
     InstanceEnds,
 }
 
-/// A form that was read: what it says, the line of its last token, and what may come next.
+/// A form that was read: its item, the line of its last token, and what may come next.
 #[derive(Clone, Copy)]
 pub struct FormRead<'a> {
     pub item: Item<'a>,

@@ -147,13 +147,13 @@ pub fn is_port(nets: &NameTable<Net>, name: &[u8]) -> bool
 }
 
 /// Takes out the numbers of a bus.
-fn taken<'a>(
+fn take_numbers<'a>(
     alloc: Global,
     bit_nets: &mut Named<'a, Row<u32>>,
     bus: &'a [u8],
 ) -> Result<Vec<u32>, AllocError>
     ensures numbers { IfOk result (λ ns. ns.items ≡ bit_nets_of bus.entry.now bit_nets.old) }
-    ensures taken { OnOk result (bit_nets.new ≡ with_value bus.entry.now [] bit_nets.old) }
+    ensures emptied { OnOk result (bit_nets.new ≡ with_value bus.entry.now [] bit_nets.old) }
 {
     match bit_nets.replace(bus, Row::from_vec(Vec::new(alloc)))? {
         Some(numbers) => Ok(numbers.into_vec()),
@@ -170,7 +170,7 @@ fn note_bit<'a>(
 ) -> Result<(), AllocError>
     ensures { OnOk result (bit_nets.new ≡ with_bit_net bus.entry.now bit bit_nets.old) }
 {
-    let mut numbers = taken(alloc, bit_nets, bus)?;
+    let mut numbers = take_numbers(alloc, bit_nets, bus)?;
     numbers.push(bit)?;
     bit_nets.set(bus, Row::from_vec(numbers))?;
     Ok(())

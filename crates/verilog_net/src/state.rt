@@ -8,7 +8,7 @@ ghost use Rattle.verilog_net.specs.Meaning.{with_further, declare_new};
 ghost use Rattle.verilog_net.specs.Meaning.{declare_scalar, left_bound, right_bound, begin_further, begin_instance};
 ghost use Rattle.verilog_net.specs.Meaning.{begin_pin, connect, connect_name, connect_bit, end_instance, means};
 ghost use Rattle.text_forms.specs.Stops.{Changes};
-ghost use Rattle.verilog_net.specs.View.{said};
+ghost use Rattle.verilog_net.specs.View.{item_text};
 
 use crate::item::Item;
 use crate::name::Name;
@@ -387,7 +387,7 @@ impl<'a> Progress<'a> {
     /// What a form means.
     #[tactic(auto, unfolding(crate::specs::Meaning::means))]
     pub fn act(&mut self, alloc: Global, item: Item<'a>) -> Result<(), Stop>
-        ensures { Changes result self.new (means (said item.entry) self.old) }
+        ensures { Changes result self.new (means (item_text item.entry) self.old) }
     {
         match item {
             Item::Nothing => Ok(()),

@@ -86,22 +86,22 @@ module _ (slots id i : ℕ) (me : Me (Unit {0}) View) (live : IsUnspent me.0.rol
       left_rule : Kept me.0.setting (record { words = set s.words i left; homes = s.homes; views = set s.views id (with_seen me.0 i left (me.0.made + 1)) })
       left_rule = moved me.0.setting s k id me.0 there live i here left (me.0.made + 1) left_kept left_on
 
-      left_told : Published me.0 i (number_at k.now i) left (with_seen me.0 i left (me.0.made + 1))
-      left_told = record { found = found; after = refl; seen = seen_after me.0.setting s k id me.0 there live i here left (me.0.made + 1) left_kept left_on }
+      left_is : Published me.0 i (number_at k.now i) left (with_seen me.0 i left (me.0.made + 1))
+      left_is = record { found = found; after = refl; seen = seen_after me.0.setting s k id me.0 there live i here left (me.0.made + 1) left_kept left_on }
 
     pub lowers_own : MovesDown me.0.setting.way (i % 2) → Owes me.0.setting s id i me (lowered (step slots i value 0 none) me) (slice_index s.words i) (min (slice_index s.words i) value)
     lowers_own side =
         let n = number_at k.now i in
         let is = further_down me.0.setting.way (i % 2) n value side in
         let P : ℕ → Type 0 = λ m. Owes me.0.setting s id i me (lowered (step slots i value 0 none) me) m (min m value) in
-        subst P (sym at_word) (with_seen me.0 i (min n value) (me.0.made + 1), keeps, tt, left_rule (min n value) is, (left_told (min n value) is, refl))
+        subst P (sym at_word) (with_seen me.0 i (min n value) (me.0.made + 1), keeps, tt, left_rule (min n value) is, (left_is (min n value) is, refl))
 
     pub raises_own : MovesUp me.0.setting.way (i % 2) → Owes me.0.setting s id i me (raised (step slots i value 0 none) me) (slice_index s.words i) (max (slice_index s.words i) value)
     raises_own side =
         let n = number_at k.now i in
         let is = further_up me.0.setting.way (i % 2) n value side in
         let P : ℕ → Type 0 = λ m. Owes me.0.setting s id i me (raised (step slots i value 0 none) me) m (max m value) in
-        subst P (sym at_word) (with_seen me.0 i (max n value) (me.0.made + 1), keeps, tt, left_rule (max n value) is, (left_told (max n value) is, refl))
+        subst P (sym at_word) (with_seen me.0 i (max n value) (me.0.made + 1), keeps, tt, left_rule (max n value) is, (left_is (max n value) is, refl))
 
 -- the rule speaks of the run of the board, and so does what a pass knows
 kept_own : (a : Setting) (s : State (Unit {0}) View) (id : ℕ) (v : View) → Kept a s → IsThere s.views id v → IsUnspent v.role → Kept v.setting s

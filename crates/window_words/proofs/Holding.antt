@@ -29,12 +29,12 @@ role_kept : (v w : View) → w.role ≡ v.role → IsUnspent v.role → IsUnspen
 role_kept v w e h = subst IsUnspent (sym e) h
 
 pub held_loaded : (t u : TableId) (m n : Me (Unit {0}) View) (word number : ℕ) → IsHeld t m → u ≡ t → Loaded m.0 word number n.0 → n.1 ≡ m.1 → IsHeld u n
-held_loaded t u m n word number held same told bare =
-    held_on t u m n held same (bare ∙ held.bare) (ap (λ (x : View). x.setting) told.after) (role_kept m.0 n.0 (ap (λ (x : View). x.role) told.after) held.unspent) told.seen
+held_loaded t u m n word number held same step bare =
+    held_on t u m n held same (bare ∙ held.bare) (ap (λ (x : View). x.setting) step.after) (role_kept m.0 n.0 (ap (λ (x : View). x.role) step.after) held.unspent) step.seen
 
 pub held_published : (t u : TableId) (m n : Me (Unit {0}) View) (word number left : ℕ) → IsHeld t m → u ≡ t → Published m.0 word number left n.0 → n.1 ≡ m.1 → IsHeld u n
-held_published t u m n word number left held same told bare =
-    held_on t u m n held same (bare ∙ held.bare) (ap (λ (x : View). x.setting) told.after) (role_kept m.0 n.0 (ap (λ (x : View). x.role) told.after) held.unspent) told.seen
+held_published t u m n word number left held same step bare =
+    held_on t u m n held same (bare ∙ held.bare) (ap (λ (x : View). x.setting) step.after) (role_kept m.0 n.0 (ap (λ (x : View). x.role) step.after) held.unspent) step.seen
 
 -- a view that keeps the run, the role and what is seen
 held_else : (t u : TableId) (m n : Me (Unit {0}) View) (w : View) → IsHeld t m → u ≡ t → n.1 ≡ m.1 → n.0 ≡ w → w.setting ≡ m.0.setting → IsUnspent w.role → IsSeen w.setting w.seen → IsHeld u n
@@ -43,7 +43,7 @@ held_else t u m n w held same bare is setting live seen =
     (subst (λ (x : View). IsSeen x.setting x.seen) (sym is) seen)
 
 pub held_drew : (t u : TableId) (m n : Me (Unit {0}) View) (number : ℕ) → IsHeld t m → u ≡ t → Drew m.0 number n.0 → n.1 ≡ m.1 → IsHeld u n
-held_drew t u m n number held same told bare = held_else t u m n (record m.0 { drawn = m.0.drawn ++ number ∷ [] }) held same bare told.after refl held.unspent held.seen
+held_drew t u m n number held same step bare = held_else t u m n (record m.0 { drawn = m.0.drawn ++ number ∷ [] }) held same bare step.after refl held.unspent held.seen
 
 pub held_anew : (t u : TableId) (m n : Me (Unit {0}) View) → IsHeld t m → u ≡ t → n.0 ≡ begun_anew m.0 → n.1 ≡ m.1 → IsHeld u n
 held_anew t u m n held same is bare = held_else t u m n (begun_anew m.0) held same bare is refl held.unspent held.seen
@@ -70,18 +70,18 @@ not_alone : (b : Bool) → b ≡ false → IsTrue b → ⊥
 not_alone b e h = cc
 
 pub knows_loaded : (b : BoardId) (h l : Holding) (word number : ℕ) → IsOf b h → IsOf b l → Loaded h.view word number l.view → Loads (knowledge_of h) word number (knowledge_of l)
-knows_loaded b h l word number own again told = record {
-  found = record { respects = told.found.respects; past = told.found.past; alone = λ alone. absurd (not_alone false refl alone) };
-  after = λ i. knowledge_of (record { table = table_kept b h l own again i; view = told.after i });
+knows_loaded b h l word number own again step = record {
+  found = record { respects = step.found.respects; past = step.found.past; alone = λ alone. absurd (not_alone false refl alone) };
+  after = λ i. knowledge_of (record { table = table_kept b h l own again i; view = step.after i });
 }
 
 pub knows_published : (b : BoardId) (h l : Holding) (word number left : ℕ) → IsOf b h → IsOf b l → Published h.view word number left l.view → Publishes (knowledge_of h) word number left (knowledge_of l)
-knows_published b h l word number left own again told = record {
-  found = record { respects = told.found.respects; past = told.found.past; alone = λ alone. absurd (not_alone false refl alone) };
+knows_published b h l word number left own again step = record {
+  found = record { respects = step.found.respects; past = step.found.past; alone = λ alone. absurd (not_alone false refl alone) };
   made = h.view.made + 1;
   least = omega arith;
   once = omega arith;
-  after = λ i. knowledge_of (record { table = table_kept b h l own again i; view = told.after i });
+  after = λ i. knowledge_of (record { table = table_kept b h l own again i; view = step.after i });
 }
 
 late_drew : (v : View) (number : ℕ) → 0 < late_of v → late_of (record v { drawn = v.drawn ++ number ∷ [] }) ≡ (if nat_lt number (nets_of v.setting) then late_of v else late_of v - 1)
@@ -93,12 +93,12 @@ late_drew v number h =
     late_one nets had has n e p = grind (arith, nat_tests)
 
 pub knows_drew : (b : BoardId) (h l : Holding) (number : ℕ) → IsOf b h → IsOf b l → 0 < late_of h.view → Drew h.view number l.view → Draws (knowledge_of h) number (knowledge_of l)
-knows_drew b h l number own again late told = record {
-  greater = told.greater;
+knows_drew b h l number own again late step = record {
+  greater = step.greater;
   after =
       let v = h.view in
       let next = record v { drawn = v.drawn ++ number ∷ [] } in
-      let first : knowledge_of l ≡ knowledge_of (record { table = h.table; view = next }) = λ i. knowledge_of (record { table = table_kept b h l own again i; view = told.after i }) in
+      let first : knowledge_of l ≡ knowledge_of (record { table = h.table; view = next }) = λ i. knowledge_of (record { table = table_kept b h l own again i; view = step.after i }) in
       let second : knowledge_of (record { table = h.table; view = next }) ≡ record (knowledge_of h) { drawn = v.drawn ++ number ∷ []; late = late_after (knowledge_of h) number } =
       ap (λ late. record (knowledge_of h) { drawn = v.drawn ++ number ∷ []; late = late }) (late_drew v number late) in
       first ∙ second;
@@ -137,14 +137,14 @@ not_late v h = omega (arith, h)
 
 -- ---- words that the first pass loads while none is out
 pub loads_same : (v w : View) (word number : ℕ) → IsAlone v → Loaded v word number w → w ≡ v
-loads_same v w word number alone told =
-    let e : set v.seen word number ≡ v.seen = rw (told.whole alone).exact (set-get_or v.seen word (quiet_number (word % 2))) in
-    told.after ∙ ap (λ (seen : List ℕ). record v { seen = seen }) e
+loads_same v w word number alone step =
+    let e : set v.seen word number ≡ v.seen = rw (step.whole alone).exact (set-get_or v.seen word (quiet_number (word % 2))) in
+    step.after ∙ ap (λ (seen : List ℕ). record v { seen = seen }) e
 
 pub loads_next : (v w : View) (word number : ℕ) (words : List ℕ) → IsAlone v → Loaded v word number w → word < length v.seen → words ≡ take word v.seen → words ++ number ∷ [] ≡ take (word + 1) v.seen
-loads_next v w word number words alone told h e =
+loads_next v w word number words alone step h e =
     let x = quiet_number (word % 2) in
-    let n : number ≡ get_or v.seen word x = (told.whole alone).exact in
+    let n : number ≡ get_or v.seen word x = (step.whole alone).exact in
     let m : take (word + 1) v.seen ≡ take word v.seen ++ get_or v.seen word x ∷ [] = take_more v.seen word x h in
     rw (e, n, m) refl
 

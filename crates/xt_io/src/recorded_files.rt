@@ -3,13 +3,13 @@ use crate::files::Files;
 use std::alloc::Global;
 
 /// Files with a record of the calls on them, as far as there is memory for it: the names that were opened, and of each
-/// read how many bytes it asked for, both in order.
+/// read how many bytes it was for, both in order.
 #[derive(Drop)]
 pub struct RecordedFiles<F: Files> {
     files: F,
     alloc: Global,
     pub opened: Vec<String>,
-    pub asked: Vec<usize>,
+    pub lengths: Vec<usize>,
 }
 
 impl<F: Files> RecordedFiles<F> {
@@ -19,7 +19,7 @@ impl<F: Files> RecordedFiles<F> {
             files,
             alloc,
             opened: Vec::new(alloc),
-            asked: Vec::new(alloc),
+            lengths: Vec::new(alloc),
         }
     }
 }
@@ -39,7 +39,7 @@ impl<F: Files> Files for RecordedFiles<F> {
     }
 
     fn read(&mut self, buffer: &mut [u8]) -> Result<usize, Failed> {
-        let _ = self.asked.push(buffer.len());
+        let _ = self.lengths.push(buffer.len());
         self.files.read(buffer)
     }
 }

@@ -34,17 +34,17 @@ pub spans_apart : (rules : Rules) (bytes : List ℕ) → AreApart 0 (tokens_of r
 spans_apart rules bytes = tokens_apart rules true bytes 0 0 1 0 (length bytes) (omega arith) (omega arith)
 
 -- the bytes that are taken are as many as their number takes
-take_taken : (i : ℕ) (xs : List ℕ) → take (length (take i xs)) xs ≡ take i xs
-take_taken zero xs = refl
-take_taken (suc i) [] = refl
-take_taken (suc i) (x ∷ xs) = ap (λ (ys : List ℕ). x ∷ ys) (take_taken i xs)
+take_again : (i : ℕ) (xs : List ℕ) → take (length (take i xs)) xs ≡ take i xs
+take_again zero xs = refl
+take_again (suc i) [] = refl
+take_again (suc i) (x ∷ xs) = ap (λ (ys : List ℕ). x ∷ ys) (take_again i xs)
 
 -- a piece's bytes are those of its span
 text_at : (whole more : List ℕ) (b from inner : ℕ) → drop from whole ≡ b ∷ more
     → b ∷ take inner more ≡ take (from + length (b ∷ take inner more) - from) (drop from whole)
 text_at whole more b from inner e =
     let n : from + length (b ∷ take inner more) - from ≡ length (take inner more) + 1 = omega arith in
-    rw (n, e, add-one) (ap (λ (ys : List ℕ). b ∷ ys) (sym (take_taken inner more)))
+    rw (n, e, add-one) (ap (λ (ys : List ℕ). b ∷ ys) (sym (take_again inner more)))
 
 texts_with : (kind : Option Kind) (p : PieceText) (ts : List TokenText) (whole : List ℕ) → p.text ≡ take (p.from + length p.text - p.from) (drop p.from whole)
     → All (IsTextOf whole) ts → All (IsTextOf whole) (with_kind kind p ts)

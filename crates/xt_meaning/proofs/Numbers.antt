@@ -21,7 +21,7 @@ use Rattle.xt_meaning.specs.Words.{bound_in, number_for, quiet_number, number_at
 use Rattle.xt_meaning.specs.Laws.{IsStep}
 use Rattle.xt_meaning.proofs.Growth.{AreWired}
 use Rattle.xt_meaning.proofs.Words.{words_from_quads, word_from_quads, quad_from_words, quads_of_words}
-use Rattle.xt_meaning.proofs.Steps.{NoFurtherAt, operator_no_further_at, bound_refl, respects_of_words, respects_apart, between_respects, between_fits}
+use Rattle.xt_meaning.proofs.Steps.{NoFurtherAt, operator_no_further_at, bound_refl, respects_of_words, respects_apart, respects_after, fits_after}
 
 -- ---- words of quads
 quad_side : (f : ℕ → ℤ) (n : ℕ) (e : Edge) (s : ℕ) → s < 4 → side_of (quads_of f n e) s ≡ f (word_number n e s)
@@ -202,12 +202,12 @@ module _ (way : Direction) (d : Parts) (f g : ℕ → ℤ) (ws : AreWired d) (r 
   pub words_respect_on : (word : ℕ) → RespectsAt way d word (g word)
   words_respect_on word =
       let before = respects_apart way d (quads_of f) (respects_of_words way d f r) in
-      let after = between_respects way d (quads_of f) (quads_of g) ws before step_by_words in
+      let after = respects_after way d (quads_of f) (quads_of g) ws before step_by_words in
       let P : ℤ → Type 0 = λ b. RespectsAt way d word b in
       subst P (words_of_quads g word) (after.each word)
 
   pub words_fit_on : AreNoFurther way g (onward d g)
   words_fit_on word =
-      let k = between_fits way d (quads_of f) (quads_of g) ws step_by_words in
+      let k = fits_after way d (quads_of f) (quads_of g) ws step_by_words in
       let P : ℤ → Type 0 = λ b. IsBoundNoFurther way (word % 2) b (onward d g word) in
       subst P (words_of_quads g word) (words_from_quads way (quads_of g) (operator d (quads_of g)) k word)

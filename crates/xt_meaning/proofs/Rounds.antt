@@ -87,8 +87,8 @@ pub move_is_step : (way : Direction) (d : Parts) (v : List Pair) (n : ℕ) (p : 
 move_is_step way d v n p fits h m = record { onward = move_onward way d v n p h m; no_further = move_behind way d v n p fits h m }
 
 -- ---- what words can hold
-between_in_range : (q r : Quad) → IsWithin bottom q → IsWithin q r → IsInRange r → IsInRange q
-between_in_range q r a b h = record {
+within_in_range : (q r : Quad) → IsWithin bottom q → IsWithin q r → IsInRange r → IsInRange q
+within_in_range q r a b h = record {
   tlo = record { low = no_lower _ _ _ h.tlo.low b.tlo; high = a.tlo };
   thi = record { low = a.thi; high = no_lower _ _ _ b.thi h.thi.high };
   slo = record { low = no_lower _ _ _ h.slo.low b.slo; high = a.slo };
@@ -102,7 +102,7 @@ pub step_in_range : (d : Parts) (v : List Pair) (n : ℕ) (e : Edge) → IsSound
 step_in_range d v n e s w =
     let ws = wired d s in
     let c = contained_trans (step d v) (step d w.top) (assigned w.top) (operator_mono d (assigned v) (assigned w.top) ws w.contained) (envelope_closed d w.top ws w.envelope.widest) in
-    between_in_range (step d v n e) (assigned w.top n e) (bottom_within_operator d (overlap_answers d.period (assigned v)) (assigned v) n e s) (c.each n e)
+    within_in_range (step d v n e) (assigned w.top n e) (bottom_within_operator d (overlap_answers d.period (assigned v)) (assigned v) n e s) (c.each n e)
     (windows_in_range d w.top w.envelope.windows n e)
 
 -- ---- a round

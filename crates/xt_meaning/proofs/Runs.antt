@@ -13,7 +13,7 @@ use Rattle.xt_meaning.specs.Barrier.{NoFurther, Respects, IsFittingStart}
 use Rattle.xt_meaning.specs.Laws.{IsStep}
 use Rattle.xt_meaning.proofs.Growth.{wired}
 use Rattle.xt_meaning.proofs.Monotone.{contained_trans}
-use Rattle.xt_meaning.proofs.Steps.{between_respects, between_fits, contained_narrow}
+use Rattle.xt_meaning.proofs.Steps.{respects_after, fits_after, contained_narrow}
 use Rattle.xt_meaning.proofs.Extremes.{fixpoint_from_closed}
 use Rattle.xt_meaning.proofs.Limits.{respecting_within}
 use Rattle.xt_meaning.specs.Measure.{room}
@@ -28,11 +28,11 @@ within_after Narrow d top before after s env r o c = contained_trans after befor
 pub step_fits : (way : Direction) (d : Parts) (before after : List Pair) → IsSound d → IsFittingStart way d before → IsWindows d after → IsStep way d (assigned before) (assigned after)
     → IsFittingStart way d after
 step_fits way d before after s start w t =
-    let r = between_respects way d (assigned before) (assigned after) (wired d s) start.respects t in
+    let r = respects_after way d (assigned before) (assigned after) (wired d s) start.respects t in
     record {
       windows = w;
       respects = r;
-      fits = between_fits way d (assigned before) (assigned after) (wired d s) t;
+      fits = fits_after way d (assigned before) (assigned after) (wired d s) t;
       within = record {
         top = start.within.top;
         envelope = start.within.envelope;

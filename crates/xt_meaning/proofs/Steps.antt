@@ -155,10 +155,10 @@ respects_step way d W ws r = record { each = λ v b. further_trans way (operator
 pub respects_behind : (way : Direction) (d : Parts) (W V : Assignment) → NoFurther way W V → RespectsAll way d V → RespectsAll way d W
 respects_behind way d W V h r = record { each = λ v b. further_trans way W V (assigned v) h (r.each v b) }
 
-pub between_respects : (way : Direction) (d : Parts) (before after : Assignment) → AreWired d → Respects way d before → IsStep way d before after → Respects way d after
-between_respects way d before after ws r s =
+pub respects_after : (way : Direction) (d : Parts) (before after : Assignment) → AreWired d → Respects way d before → IsStep way d before after → Respects way d after
+respects_after way d before after ws r s =
     respects_apart way d after (respects_behind way d after (operator d before) s.no_further (respects_step way d before ws (respects_together way d before r)))
 
-pub between_fits : (way : Direction) (d : Parts) (before after : Assignment) → AreWired d → IsStep way d before after → NoFurther way after (operator d after)
-between_fits way d before after ws s =
+pub fits_after : (way : Direction) (d : Parts) (before after : Assignment) → AreWired d → IsStep way d before after → NoFurther way after (operator d after)
+fits_after way d before after ws s =
     further_trans way after (operator d before) (operator d after) s.no_further (further_mono way d before after ws s.onward)

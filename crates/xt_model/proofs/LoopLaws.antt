@@ -1,4 +1,4 @@
--- Laws of loops: the told loop is a loop, and nets have one at most; from each place of a list of nets that leads
+-- Laws of loops: the first loop is a loop, and nets have one at most; from each place of a list of nets that leads
 -- back into itself a walk never ends.
 use Rattle.std.proofs.Common.{◌≡◌, ℕ, zero, suc, ◌+◌, ◌-◌, ◌<◌, ◌==◌, List, length, drop, get_or, if◌then◌else◌, refl, sym, ap, ◌∙◌, subst, arith, inl, inr}
 use Rattle.std.specs.List.{slice_get}
@@ -9,7 +9,7 @@ use Rattle.std.proofs.lemmas.Option.{same_Some, slice_get_within, get_or_from_sl
 use Rattle.xt_model.specs.declared.net.TimingArc.{TimingArc}
 use Rattle.xt_model.specs.declared.net.Net.{Net}
 use Rattle.xt_model.specs.Levels.{Reads, IsLoop}
-use Rattle.xt_model.specs.Loops.{IsInput, IsEndless, IsLeastEndless, GoesTo, IsWalkBack, IsToldLoop}
+use Rattle.xt_model.specs.Loops.{IsInput, IsEndless, IsLeastEndless, GoesTo, IsWalkBack, IsFirstLoop}
 
 -- the place after this one on a list of so many places, where `back` comes after the last
 abbrev next_place : ℕ → ℕ → ℕ → ℕ
@@ -57,9 +57,9 @@ endless_at nets path back within steps closes k h =
 goes_reads : (nets : List Net) (a b : ℕ) → GoesTo nets a b → Reads nets a b
 goes_reads nets a b g = input_reads nets a g.0 b g.1.input
 
--- the told loop is a loop
-pub told_is_loop : (nets : List Net) (loop : List ℕ) → IsToldLoop nets loop → IsLoop nets loop
-told_is_loop nets loop t =
+-- the first loop is a loop
+pub first_is_loop : (nets : List Net) (loop : List ℕ) → IsFirstLoop nets loop → IsLoop nets loop
+first_is_loop nets loop t =
     let walk = t.0 in
     let back = t.1 in
     let w = t.2 in
@@ -146,9 +146,9 @@ module _ (nets : List Net) where
         ]
       ]
 
-  -- nets have one told loop at most
-  pub told_is_one : (a b : List ℕ) → IsToldLoop nets a → IsToldLoop nets b → a ≡ b
-  told_is_one a b s t =
+  -- nets have one first loop at most
+  pub first_is_one : (a b : List ℕ) → IsFirstLoop nets a → IsFirstLoop nets b → a ≡ b
+  first_is_one a b s t =
       let walk : s.0 ≡ t.0 = walk_is_one s.0 t.0 s.1 t.1 s.2 t.2 in
       let back : s.1 ≡ t.1 = back_is_one s.0 s.1 t.1 s.2 (rw (← walk) at t.2) in
       s.3 ∙ (ap (λ k. drop k s.0) back ∙ (ap (λ (w : List ℕ). drop t.1 w) walk ∙ sym t.3))

@@ -10,7 +10,7 @@ use Rattle.std.proofs.lemmas.Option.{same_Some, slice_get_within, get_or_from_sl
 use Rattle.xt_model.specs.declared.net.TimingArc.{TimingArc}
 use Rattle.xt_model.specs.declared.net.Net.{Net}
 use Rattle.xt_model.specs.Levels.{greatest_of, level_from, AreLevels, Reads}
-use Rattle.xt_model.specs.Loops.{IsInput, IsEndless, IsFirstEndless, IsToldLoop}
+use Rattle.xt_model.specs.Loops.{IsInput, IsEndless, IsFirstEndless, IsFirstLoop}
 use Rattle.xt_model.specs.Limits.{most_nets}
 use Rattle.xt_model.specs.visits.Walk.{HaveLevels, IsWalk, zeros_in, last_of}
 use Rattle.xt_model.proofs.ListLaws.{element_at}
@@ -327,9 +327,9 @@ module _ (nets : List Net) (levels cursors places path : List ℕ) (w : IsWalk n
         not_endless c (omega arith) e;
   }
 
-  -- the end of the path waits for a net that stands on it: from there on the path is the told loop
+  -- the end of the path waits for a net that stands on it: from there on the path is the first loop
   pub walk_loops : (net : ℕ) → 0 < length path → IsInput nets (last_of path) (get_or cursors (last_of path) 0) net → get_or levels net 0 ≡ 0 → 0 < get_or places net 0
-      → IsToldLoop nets (drop (get_or places net 0 - 1) path)
+      → IsFirstLoop nets (drop (get_or places net 0 - 1) path)
   walk_loops net some input unknown on =
       let back = get_or places net 0 - 1 in
       let on_it : get_or places net 0 ≤ length path = w.on_path net on unknown in

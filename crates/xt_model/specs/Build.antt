@@ -7,7 +7,7 @@ use Rattle.xt_model.specs.Limits.{most_nets, most_couplings}
 use Rattle.xt_model.specs.Parts.{Parts}
 use Rattle.xt_model.specs.Sound.{IsSound}
 use Rattle.xt_model.specs.Levels.{AreLevels, IsOrderBy, IsPairCount, IsDepth, greatest_of, bound_of}
-use Rattle.xt_model.specs.Loops.{IsToldLoop}
+use Rattle.xt_model.specs.Loops.{IsFirstLoop}
 
 -- sound parts with the level of each net, the nets by level, the greatest level and the count of
 -- coupled pairs
@@ -25,7 +25,7 @@ abbrev pub IsRoundBound : List Net → ℕ → Type 0
 IsRoundBound nets bound =
     (pairs : ℕ) × (depth : ℕ) × IsPairCount nets pairs × IsDepth nets depth × (bound ≡ bound_of pairs depth)
 
--- the fault is true of the nets: a loop is the one that is told of them, and want of memory is always free
+-- the fault is true of the nets: a loop is the first of them, and want of memory is always free
 abbrev pub IsFaultOf : List Net → BuildFault → Type 0
-IsFaultOf nets (Loop ids) = IsToldLoop nets (map (λ n. n.0) ids)
+IsFaultOf nets (Loop ids) = IsFirstLoop nets (map (λ n. n.0) ids)
 IsFaultOf nets NoMemory = Unit {0}

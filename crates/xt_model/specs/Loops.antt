@@ -1,4 +1,4 @@
--- The loop that is told where arcs make one.
+-- The first loop where arcs make one.
 use Rattle.std.specs.Prelude.{◌≡◌, ℕ, ◌+◌, ◌-◌, ◌<◌, List, length, drop, Some}
 use Rattle.std.specs.List.{slice_get, slice_index}
 use Rattle.xt_model.specs.declared.net.TimingArc.{TimingArc}
@@ -38,6 +38,6 @@ pub record IsWalkBack (nets : List Net) (walk : List ℕ) (back : ℕ) : Type 0 
   pub once : (i j : ℕ) → i < j → j < length walk → slice_index walk i ≡ slice_index walk j → ⊥
   pub returns : GoesTo nets (slice_index walk (length walk - 1)) (slice_index walk back)
 
--- the loop that is told: the nets of this walk from place `back` on
-abbrev pub IsToldLoop : List Net → List ℕ → Type 0
-IsToldLoop nets loop = (walk : List ℕ) × (back : ℕ) × IsWalkBack nets walk back × (loop ≡ drop back walk)
+-- the first loop: the nets of this walk from place `back` on
+abbrev pub IsFirstLoop : List Net → List ℕ → Type 0
+IsFirstLoop nets loop = (walk : List ℕ) × (back : ℕ) × IsWalkBack nets walk back × (loop ≡ drop back walk)

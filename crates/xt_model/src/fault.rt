@@ -24,7 +24,7 @@ impl<T: Drop> From<AllocFailed<T>> for NoMemory {
 }
 
 /// Why parts make no design: their arcs make a loop, or memory was wanted and there was none. Each net
-/// of a loop has an arc from the next, and the last one from the first. Of several loops one is told: begin
+/// of a loop has an arc from the next, and the last one from the first. Of several loops the first is given: begin
 /// at the net of the least number from which one can go back along arcs without end, go back from each net
 /// along its first arc that allows this, and the way runs into that loop and round it.
 #[derive(Debug, Drop, Error)]

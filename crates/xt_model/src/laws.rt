@@ -4,7 +4,7 @@ ghost use Rattle.std.specs.Prelude.{◌≡◌, ℕ, List};
 ghost use Rattle.xt_model.specs.declared.net.Net.{Net};
 ghost use Rattle.xt_model.specs.declared.quad.Quad.{Quad};
 ghost use Rattle.xt_model.specs.Levels.{AreLevels, IsLoop, IsOrderBy, IsPairCount};
-ghost use Rattle.xt_model.specs.Loops.{IsToldLoop};
+ghost use Rattle.xt_model.specs.Loops.{IsFirstLoop};
 ghost use Rattle.xt_model.specs.Quads.{bottom, IsInRange, IsWithin, join_of, meet_of};
 
 /// Nets have one list of levels at most.
@@ -27,10 +27,10 @@ pub fn a_loop_excludes_levels()
     ensures { (nets : List Net) (levels path : List ℕ) → AreLevels nets levels → IsLoop nets path → ⊥ }
 {}
 
-/// The loop that is told of nets is a loop, and they have one at most.
-pub fn a_told_loop_is_unique()
-    ensures is_loop { (nets : List Net) (path : List ℕ) → IsToldLoop nets path → IsLoop nets path }
-    ensures unique { (nets : List Net) (a b : List ℕ) → IsToldLoop nets a → IsToldLoop nets b → a ≡ b }
+/// The first loop of nets is a loop, and they have one at most.
+pub fn a_first_loop_is_unique()
+    ensures is_loop { (nets : List Net) (path : List ℕ) → IsFirstLoop nets path → IsLoop nets path }
+    ensures unique { (nets : List Net) (a b : List ℕ) → IsFirstLoop nets a → IsFirstLoop nets b → a ≡ b }
 {}
 
 /// Containment is an order of windows, and a window that never switches is the least in range.

@@ -33,7 +33,7 @@ pub use edge::Edge;
 pub use fault::{BuildFault, LimitKind, NoMemory};
 pub use given::GivenPair;
 pub use laws::{
-    a_loop_excludes_levels, a_pair_count_is_unique, a_told_loop_is_unique, an_order_is_unique,
+    a_first_loop_is_unique, a_loop_excludes_levels, a_pair_count_is_unique, an_order_is_unique,
     joins_and_meets_are_bounds, levels_are_unique, within_is_an_order,
 };
 pub use miller::Miller;

@@ -137,8 +137,8 @@ exponent_takes (b ∷ bs) x e =
     (λ mark c.
     let chosen = cond_some (is_numeral s.1) s x c in
     let parts = and_parts _ _ chosen.0 in
-    let taken = signed_takes bs in
-    subst P chosen.1 (exponent_from s.0 s.1 (b ∷ bs) (some_digits s.1 parts.0) (b, taken.0, mark_from b mark, taken.1, ap (λ (t : List ℕ). b ∷ t) taken.2), all_digits s.1 parts.1))
+    let all_parts = signed_takes bs in
+    subst P chosen.1 (exponent_from s.0 s.1 (b ∷ bs) (some_digits s.1 parts.0) (b, all_parts.0, mark_from b mark, all_parts.1, ap (λ (t : List ℕ). b ∷ t) all_parts.2), all_digits s.1 parts.1))
     (λ mark c. absurd (none-some x c))
     e
 
@@ -163,18 +163,18 @@ numeral_takes text n e =
     let x = power.0 in
     let m : Numeral = record { negative = (signed_at text).0; whole = whole; fraction = f.0; exponent_negative = x.0; exponent = x.1 } in
     let chosen = cond_some (has_digit m) m n power.2 in
-    let f_taken = fraction_takes (digits_at rest).1 f fraction.1 in
-    let x_taken = exponent_takes f.1 x power.1 in
-    let joined : rest ≡ whole ++ (fraction_bytes f.0 ++ f.1) = rw (← f_taken.0) (sym (take-append-drop (prefix_len is_ascii_digit rest) rest)) in
+    let f_parts = fraction_takes (digits_at rest).1 f fraction.1 in
+    let x_parts = exponent_takes f.1 x power.1 in
+    let joined : rest ≡ whole ++ (fraction_bytes f.0 ++ f.1) = rw (← f_parts.0) (sym (take-append-drop (prefix_len is_ascii_digit rest) rest)) in
     subst (λ (k : Numeral). IsNumber text k) chosen.1 (record {
       sign = sign.0;
       power = f.1;
       written = sign.2 ∙ ap (λ (t : List ℕ). sign.0 ++ t) joined;
       is_sign = sign.1;
-      is_power = x_taken.0;
+      is_power = x_parts.0;
       whole_digits = front_digits rest;
-      fraction_digits = f_taken.1;
-      exponent_digits = x_taken.1;
+      fraction_digits = f_parts.1;
+      exponent_digits = x_parts.1;
       some_digit = has_some m chosen.0;
     })
 

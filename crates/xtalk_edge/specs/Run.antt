@@ -26,5 +26,5 @@ IsStatusOf given content status =
 -- the status of a run: that of the words that are given, if any are, which are those that are known to be
 pub record IsRunStatus (known : Option (Option (List Text))) (content : Contents) (status : ℕ) : Type 0 where
   pub given : Option (List Text)
-  pub told : IfSome known (λ words. given ≡ words)
+  pub as_known : IfSome known (λ words. given ≡ words)
   pub ended : IsStatusOf given content status

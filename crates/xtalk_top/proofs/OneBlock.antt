@@ -9,7 +9,7 @@ use Rattle.liberty_cells.specs.Library.{library_meant}
 use Rattle.verilog_net.specs.Reading.{netlist_of_text}
 use Rattle.spef_read.specs.Reading.{parasitics_of}
 use Rattle.link_rules.specs.Bare.{Inputs}
-use Rattle.link_rules.proofs.OneOutcome.{design_is_one, fault_is_one, linked_is_taken}
+use Rattle.link_rules.proofs.OneOutcome.{design_is_one, fault_is_one, linked_is_accepted}
 use Rattle.xtalk_top.specs.Words.{Text}
 use Rattle.xtalk_top.specs.Outcome.{Contents, Outcome, unread, most_bytes}
 use Rattle.xtalk_top.specs.Linking.{BlockMeans, FileAndText, HoldsText, LinkingMeans, SourceMeans, constraints_for, fault_of}
@@ -33,8 +33,8 @@ same_status (unlinked.Beyond what name value) (unlinked.Beyond other third numbe
 -- linking has one outcome: its first fault, or else the one design
 one_of_linking : (x : Inputs) (Leads : Parts → Outcome → Type 0) → ((d : Parts) → IsSound d → LeavesOne (Leads d)) → LeavesOne (λ o. LinkingMeans x (λ d. Leads d o) o)
 one_of_linking x Leads one o p (inl a) (inl b) = agree_as o p _ _ a.2 b.2 (same_status a.0 b.0 (fault_is_one x (fault_of a.0) (fault_of b.0) a.1 b.1))
-one_of_linking x Leads one o p (inl a) (inr b) = absurd (linked_is_taken x (fault_of a.0) b.0 a.1 b.1)
-one_of_linking x Leads one o p (inr a) (inl b) = absurd (linked_is_taken x (fault_of b.0) a.0 b.1 a.1)
+one_of_linking x Leads one o p (inl a) (inr b) = absurd (linked_is_accepted x (fault_of a.0) b.0 a.1 b.1)
+one_of_linking x Leads one o p (inr a) (inl b) = absurd (linked_is_accepted x (fault_of b.0) a.0 b.1 a.1)
 one_of_linking x Leads one o p (inr a) (inr b) = one a.0 a.2 o p a.3 (subst (λ d. Leads d p) (design_is_one x b.0 a.0 b.1 a.1) b.3)
 
 -- a file and its text, where what the values lead to leaves one outcome for each value that the file holds

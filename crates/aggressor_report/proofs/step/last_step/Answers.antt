@@ -9,7 +9,7 @@ use Rattle.aggressor_report.proofs.Backs.{arc_number_fits, step_found, none_more
 use Rattle.aggressor_report.proofs.step.last_step.Goals as goal
 
 pub loop-number-init : goal.loop-number-init
-loop-number-init c = λ net i b there less taken. absurd (omega arith)
+loop-number-init c = λ net i b there less arc_at. absurd (omega arith)
 
 pub passage_to-requires-clause-sound : goal.passage_to-requires-clause-sound
 passage_to-requires-clause-sound c =

@@ -10,7 +10,7 @@ use Rattle.link_rules.specs.Refusals.{instance_fault}
 use Rattle.link_pins.specs.Answers.{IsFound}
 use Rattle.design_link.specs.Sizes.{plain_nets, couplings_sum, sizes_fault}
 use Rattle.design_link.proofs.LinkLaws.{counts_kept}
-use Rattle.design_link.proofs.GatherLaws.{pins_taken, few_nets, sink_quantities, wires_stop, wires_count, sizes_stop, circuit_count, circuit_few, reads_stop, gathered}
+use Rattle.design_link.proofs.GatherLaws.{pins_accepted, few_nets, sink_quantities, wires_stop, wires_count, sizes_stop, circuit_count, circuit_few, reads_stop, gathered}
 use Rattle.design_link.proofs.gathering.gather_by.Goals as goal
 
 pub join-requires-clause-instances : goal.join-requires-clause-instances
@@ -36,7 +36,7 @@ check_sizes-requires c =
     let x : Inputs = record { library = c.args.cells.now; netlist = c.args.index.now; parasitics = c.args.parasitics.now; constraints = c.args.constraints.now } in
     let joined = c.in_ok-joined.ensures.1 in
     let instances = subst (λ (n : Netlist). instance_fault c.args.cells.now n ≡ None) c.netlist.ensures.value c.in_ok-check_instances.ensures in
-    let pins = pins_taken x c.requires.counts instances c.in_ok-joined.ensures.0 in
+    let pins = pins_accepted x c.requires.counts instances c.in_ok-joined.ensures.0 in
     wires_count x c.in_ok-joined.joined c.nets-nets.result.now c.nets-nets.ensures joined pins c.in_ok-wires.wires.items c.deref.result.now c.in_ok-wires.ensures.ok c.deref.ensures.value
 
 pub finish-requires : goal.finish-requires
@@ -47,7 +47,7 @@ check_reads-requires-clause-count c =
     let x : Inputs = record { library = c.args.cells.now; netlist = c.args.index.now; parasitics = c.args.parasitics.now; constraints = c.args.constraints.now } in
     let joined = c.in_ok-joined.ensures.1 in
     let instances = subst (λ (n : Netlist). instance_fault c.args.cells.now n ≡ None) c.netlist.ensures.value c.in_ok-check_instances.ensures in
-    let pins = pins_taken x c.requires.counts instances c.in_ok-joined.ensures.0 in
+    let pins = pins_accepted x c.requires.counts instances c.in_ok-joined.ensures.0 in
     let counted = c.in_ok-counts.ensures c.args.constraints.now joined in
     let none = subst (λ (l : Library). sizes_fault (couplings_sum c.deref.result.now) (sum_by coefficients_of (plain_nets c.nets-nets.result.now c.deref.result.now)) c.in_ok-counts.counts.arcs (length l.tables) c.in_ok-counts.counts.checks ≡ None) c.library.ensures c.in_ok-check_sizes.ensures in
     let circuit = c.in_ok-circuit.ensures c.args.constraints.now joined in
@@ -58,7 +58,7 @@ check_reads-requires-clause-few c =
     let x : Inputs = record { library = c.args.cells.now; netlist = c.args.index.now; parasitics = c.args.parasitics.now; constraints = c.args.constraints.now } in
     let joined = c.in_ok-joined.ensures.1 in
     let instances = subst (λ (n : Netlist). instance_fault c.args.cells.now n ≡ None) c.netlist.ensures.value c.in_ok-check_instances.ensures in
-    let pins = pins_taken x c.requires.counts instances c.in_ok-joined.ensures.0 in
+    let pins = pins_accepted x c.requires.counts instances c.in_ok-joined.ensures.0 in
     let counted = c.in_ok-counts.ensures c.args.constraints.now joined in
     let none = subst (λ (l : Library). sizes_fault (couplings_sum c.deref.result.now) (sum_by coefficients_of (plain_nets c.nets-nets.result.now c.deref.result.now)) c.in_ok-counts.counts.arcs (length l.tables) c.in_ok-counts.counts.checks ≡ None) c.library.ensures c.in_ok-check_sizes.ensures in
     let circuit = c.in_ok-circuit.ensures c.args.constraints.now joined in
@@ -69,7 +69,7 @@ returns-in_err-wires-clause-fault c =
     let x : Inputs = record { library = c.args.cells.now; netlist = c.args.index.now; parasitics = c.args.parasitics.now; constraints = c.args.constraints.now } in
     let joined = c.in_ok-joined.ensures.1 in
     let instances = subst (λ (n : Netlist). instance_fault c.args.cells.now n ≡ None) c.netlist.ensures.value c.in_ok-check_instances.ensures in
-    let pins = pins_taken x c.requires.counts instances c.in_ok-joined.ensures.0 in
+    let pins = pins_accepted x c.requires.counts instances c.in_ok-joined.ensures.0 in
     let h : Links x (Err c.in_err-wires.field-0.0) = wires_stop x c.in_ok-joined.joined c.nets-nets.result.now c.nets-nets.ensures joined pins c.in_err-wires.field-0.0 c.in_err-wires.ensures.fault in
     let p = err_from_is_err_and c.from_residual-in_err-wires.result c.from_residual-in_err-wires.ensures.1 in
     rw (p.1, p.2) h
@@ -79,7 +79,7 @@ returns-in_err-check_sizes-clause-fault c =
     let x : Inputs = record { library = c.args.cells.now; netlist = c.args.index.now; parasitics = c.args.parasitics.now; constraints = c.args.constraints.now } in
     let joined = c.in_ok-joined.ensures.1 in
     let instances = subst (λ (n : Netlist). instance_fault c.args.cells.now n ≡ None) c.netlist.ensures.value c.in_ok-check_instances.ensures in
-    let pins = pins_taken x c.requires.counts instances c.in_ok-joined.ensures.0 in
+    let pins = pins_accepted x c.requires.counts instances c.in_ok-joined.ensures.0 in
     let counted = c.in_ok-counts.ensures c.args.constraints.now joined in
     let found = subst (λ (l : Library). IsFound (sizes_fault (couplings_sum c.deref.result.now) (sum_by coefficients_of (plain_nets c.nets-nets.result.now c.deref.result.now)) c.in_ok-counts.counts.arcs (length l.tables) c.in_ok-counts.counts.checks) c.in_err-check_sizes.field-0.0)
     c.library.ensures c.in_err-check_sizes.ensures in
@@ -92,7 +92,7 @@ returns-in_err-check_reads-clause-fault c =
     let x : Inputs = record { library = c.args.cells.now; netlist = c.args.index.now; parasitics = c.args.parasitics.now; constraints = c.args.constraints.now } in
     let joined = c.in_ok-joined.ensures.1 in
     let instances = subst (λ (n : Netlist). instance_fault c.args.cells.now n ≡ None) c.netlist.ensures.value c.in_ok-check_instances.ensures in
-    let pins = pins_taken x c.requires.counts instances c.in_ok-joined.ensures.0 in
+    let pins = pins_accepted x c.requires.counts instances c.in_ok-joined.ensures.0 in
     let counted = c.in_ok-counts.ensures c.args.constraints.now joined in
     let none = subst (λ (l : Library). sizes_fault (couplings_sum c.deref.result.now) (sum_by coefficients_of (plain_nets c.nets-nets.result.now c.deref.result.now)) c.in_ok-counts.counts.arcs (length l.tables) c.in_ok-counts.counts.checks ≡ None) c.library.ensures c.in_ok-check_sizes.ensures in
     let circuit = c.in_ok-circuit.ensures c.args.constraints.now joined in
@@ -105,7 +105,7 @@ returns-clause-ok c =
     let x : Inputs = record { library = c.args.cells.now; netlist = c.args.index.now; parasitics = c.args.parasitics.now; constraints = c.args.constraints.now } in
     let joined = c.in_ok-joined.ensures.1 in
     let instances = subst (λ (n : Netlist). instance_fault c.args.cells.now n ≡ None) c.netlist.ensures.value c.in_ok-check_instances.ensures in
-    let pins = pins_taken x c.requires.counts instances c.in_ok-joined.ensures.0 in
+    let pins = pins_accepted x c.requires.counts instances c.in_ok-joined.ensures.0 in
     let counted = c.in_ok-counts.ensures c.args.constraints.now joined in
     let none = subst (λ (l : Library). sizes_fault (couplings_sum c.deref.result.now) (sum_by coefficients_of (plain_nets c.nets-nets.result.now c.deref.result.now)) c.in_ok-counts.counts.arcs (length l.tables) c.in_ok-counts.counts.checks ≡ None) c.library.ensures c.in_ok-check_sizes.ensures in
     let circuit = c.in_ok-circuit.ensures c.args.constraints.now joined in

@@ -35,7 +35,7 @@ design_of-requires-clause-counts c =
     let x : Inputs = record { library = c.args.library.now; netlist = c.args.netlist.now; parasitics = c.args.parasitics.now; constraints = c.args.constraints.now } in
     let g : Gathered = c.in_ok-circuit.field-0 in
     let is : IsGathered x g = c.in_ok-circuit.ensures.ok in
-    is.taken.pins.counts
+    is.accepted.pins.counts
 
 pub design_of-requires-clause-names : goal.design_of-requires-clause-names
 design_of-requires-clause-names c =
@@ -70,7 +70,7 @@ design_of-requires-in-None-clause-counts c =
     let x : Inputs = record { library = c.args.library.now; netlist = c.args.netlist.now; parasitics = c.args.parasitics.now; constraints = c.args.constraints.now } in
     let g : Gathered = c.in_ok-circuit.field-0 in
     let is : IsGathered x g = c.in_ok-circuit.ensures.ok in
-    is.taken.pins.counts
+    is.accepted.pins.counts
 
 pub design_of-requires-in-None-clause-names : goal.design_of-requires-in-None-clause-names
 design_of-requires-in-None-clause-names c =

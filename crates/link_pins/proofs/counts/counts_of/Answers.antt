@@ -8,7 +8,7 @@ use Rattle.link_pins.specs.Joined.{AreCounted}
 use Rattle.link_pins.specs.Seen.{connected_at}
 use Rattle.link_pins.proofs.DriverLaws.{paired_at}
 use Rattle.link_pins.proofs.OrderLaws.{next_boundary}
-use Rattle.link_pins.proofs.PinLaws.{nothing, element_at, parts_of, taken}
+use Rattle.link_pins.proofs.PinLaws.{nothing, element_at, parts_of, take_next}
 use Rattle.link_pins.proofs.PlaceLaws.{pin_inside}
 use Rattle.link_pins.proofs.StretchLaws.{entered_for}
 use Rattle.link_pins.proofs.counts.counts_of.Goals as goal
@@ -36,7 +36,7 @@ loop-k-preserved c =
     let y = paired_at (connected_at c.args.cells.now c.args.nets.now) c.args.pins.now cs c.loop-k.k p c.requires.pins at in
     let entered = entered_for c.args.cells.now c.args.nets.now c.args.pins.now c.requires.pins c.requires.placed c.args.sinks.now c.requires.places c.instances.from c.same_instance-to.result
     c.same_instance-to.ensures c.instances.invariant.boundary c.enter.new.self.at.items c.enter.ensures.entries c.loop-k.k p c.loop-k.auto.k c.loop-k-test.true at in
-    subst (λ (l : List Connected). AreCounted c.args.cells.now c.args.nets.now l c.add.new.self) (sym (taken c.loop-k.k cs y.0 y.1))
+    subst (λ (l : List Connected). AreCounted c.args.cells.now c.args.nets.now l c.add.new.self) (sym (take_next c.loop-k.k cs y.0 y.1))
     (c.in_ok-add.ensures c.args.nets.now (take c.loop-k.k cs) y.0 y.2 entered c.loop-k.invariant)
 
 pub clear-requires-clause-room : goal.clear-requires-clause-room

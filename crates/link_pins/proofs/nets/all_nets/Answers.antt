@@ -32,15 +32,15 @@ loop-net-preserved c =
     let row_there : slice_get c.loop-net.sinks.items net ≡ Some row =
     slice_get_read c.loop-net.sinks.items _ net row refl (omega (arith, lt, i.sinks.all)) c.index_mut-in-loop-net.ensures.value in
     let bit = bit_read (bits c.args.nets.now.nets) c.args.bits.now net b.0 _ c.requires.bits b.1 in
-    let said = c.net_pins.ensures in
+    let net_made = c.net_pins.ensures in
     let is : c.net_pins.result ≡ bare_pins c.args.cells.now c.args.nets.now c.args.constraints.now (net, b.0) =
     made_so c.args.cells.now c.args.nets.now c.args.constraints.now net b.0 c.net_pins.result
-    (said.name ∙ some_at _ _ b.0 b.1 c.in_ok-name.ensures)
-    (said.input ∙ ap (λ (x : BitAt). is_input_port x.role) bit)
-    (said.given b.0 bit)
-    (said.driver ∙ (ap (λ (x : Driver). x.end) c.replace-driver.ensures.value ∙ i.drivers.each net d (omega arith) driver_there b.0 b.1))
-    (said.sinks ∙ (ap (λ (x : NetSinks). x.sinks.items) c.replace-row.ensures.value ∙ i.sinks.each net row (omega arith) row_there b.0 b.1))
-    said.arcs in
+    (net_made.name ∙ some_at _ _ b.0 b.1 c.in_ok-name.ensures)
+    (net_made.input ∙ ap (λ (x : BitAt). is_input_port x.role) bit)
+    (net_made.given b.0 bit)
+    (net_made.driver ∙ (ap (λ (x : Driver). x.end) c.replace-driver.ensures.value ∙ i.drivers.each net d (omega arith) driver_there b.0 b.1))
+    (net_made.sinks ∙ (ap (λ (x : NetSinks). x.sinks.items) c.replace-row.ensures.value ∙ i.sinks.each net row (omega arith) row_there b.0 b.1))
+    net_made.arcs in
     record {
       made = made_more c.args.cells.now c.args.nets.now c.args.constraints.now net b.0 c.net_pins.result c.loop-net.made.items c.push.new.self.items b.1 is c.in_ok-push.ensures.items i.made;
       drivers = left_more Driver (HasDriver c.args.cells.now c.args.nets.now c.args.constraints.now) count net c.loop-net.drivers.items c.replace-driver.new.dest i.drivers;

@@ -4,13 +4,13 @@ use Rattle.std.proofs.lemmas.Option.{slice_get_read, slice_get_within, same_Some
 use Rattle.liberty_cells.specs.Pins.{PinParts}
 use Rattle.verilog_net.specs.declared.netlist.Instance.{Instance}
 use Rattle.verilog_net.specs.declared.netlist.Netlist.{Netlist}
-use Rattle.link_pins.proofs.PinLaws.{some_is, told_of, parts_of}
+use Rattle.link_pins.proofs.PinLaws.{some_is, of_some, parts_of}
 use Rattle.link_pins.proofs.sinks.end_of.Goals as goal
 
 pub pin-requires-clause-instance : goal.pin-requires-clause-instance
 pin-requires-clause-instance c =
     let k = some_is _ c.requires.there in
-    let short = told_of _ _ k.0 k.1 c.requires.short in
+    let short = of_some _ _ k.0 k.1 c.requires.short in
     let p = parts_of c.args.cells.now c.args.nets.now c.args.pin k.0 k.1 in
     let same : c.as_slice.result.now ≡ c.args.nets.now.instances = c.as_slice.ensures ∙ ap (λ (n : Netlist). n.instances) c.netlist.ensures.value in
     let read : slice_get c.as_slice.result.now c.args.pin.instance ≡ Some c.index-as_slice-pin.result =

@@ -6,7 +6,7 @@ use Rattle.std.proofs.lemmas.Option.{slice_get-get_or, slice_get_read, slice_get
 use Rattle.link_rules.specs.Pins.{Connected, pins}
 use Rattle.link_pins.specs.Rows.{ArePinSinks}
 use Rattle.link_pins.specs.Seen.{connected_at, HasShortNames}
-use Rattle.link_pins.proofs.PinLaws.{nothing, parts_of, told_to}
+use Rattle.link_pins.proofs.PinLaws.{nothing, parts_of, to_some}
 use Rattle.link_pins.proofs.DriverLaws.{paired_at, fine_at, same_length}
 use Rattle.link_pins.proofs.SinkLaws.{sink_added, place_is, places_more}
 use Rattle.link_pins.proofs.sinks.pin_sinks.Goals as goal
@@ -45,7 +45,7 @@ add-requires-clause-short c =
     let k = paired_at (connected_at c.args.cells.now c.args.nets.now) c.args.pins.now cs c.loop-pin.pin-index p c.requires.pins
     (slice_get-get_or c.args.pins.now c.loop-pin.pin-index nothing c.loop-pin-test.true) in
     let fine = fine_at c.args.cells.now c.args.nets.now c.requires.sound c.loop-pin.pin-index k.0 k.1 in
-    told_to _ HasShortNames k.0 k.2 (fine.owner, fine.name)
+    to_some _ HasShortNames k.0 k.2 (fine.owner, fine.name)
 
 pub loop-pin-preserved : goal.loop-pin-preserved
 loop-pin-preserved c =

@@ -8,7 +8,7 @@ use Rattle.link_pins.specs.Rows.{AreTimed}
 use Rattle.link_pins.specs.Seen.{connected_at, HasShortNames}
 use Rattle.link_pins.proofs.DriverLaws.{paired_at, fine_at}
 use Rattle.link_pins.proofs.OrderLaws.{next_boundary}
-use Rattle.link_pins.proofs.PinLaws.{nothing, element_at, parts_of, taken, told_to}
+use Rattle.link_pins.proofs.PinLaws.{nothing, element_at, parts_of, take_next, to_some}
 use Rattle.link_pins.proofs.PlaceLaws.{pin_inside}
 use Rattle.link_pins.proofs.StretchLaws.{entered_for}
 use Rattle.link_pins.proofs.timings.timings_of.Goals as goal
@@ -34,7 +34,7 @@ add-requires-clause-short c =
     let y = paired_at (connected_at c.args.cells.now c.args.nets.now) c.args.pins.now (pins c.args.cells.now c.args.nets.now) c.loop-k.k p c.requires.pins
     (slice_get-get_or c.args.pins.now c.loop-k.k nothing within) in
     let fine = fine_at c.args.cells.now c.args.nets.now c.requires.sound c.loop-k.k y.0 y.1 in
-    told_to _ HasShortNames y.0 y.2 (fine.owner, fine.name)
+    to_some _ HasShortNames y.0 y.2 (fine.owner, fine.name)
 
 pub add-requires-clause-net : goal.add-requires-clause-net
 add-requires-clause-net c =
@@ -54,7 +54,7 @@ loop-k-preserved c =
     let y = paired_at (connected_at c.args.cells.now c.args.nets.now) c.args.pins.now cs c.loop-k.k p c.requires.pins at in
     let entered = entered_for c.args.cells.now c.args.nets.now c.args.pins.now c.requires.pins c.requires.placed c.args.sinks.now c.requires.places c.instances.from c.same_instance-to.result
     c.same_instance-to.ensures c.instances.invariant.boundary c.enter.new.self.at.items c.enter.ensures.entries c.loop-k.k p c.loop-k.auto.k c.loop-k-test.true at in
-    subst (λ (l : List Connected). AreTimed c.args.cells.now c.args.nets.now l c.add.new.self.nets.items c.add.new.self.checks.items) (sym (taken c.loop-k.k cs y.0 y.1))
+    subst (λ (l : List Connected). AreTimed c.args.cells.now c.args.nets.now l c.add.new.self.nets.items c.add.new.self.checks.items) (sym (take_next c.loop-k.k cs y.0 y.1))
     (c.in_ok-add.ensures (take c.loop-k.k cs) y.0 y.2 entered c.loop-k.invariant)
 
 pub clear-requires-clause-room : goal.clear-requires-clause-room

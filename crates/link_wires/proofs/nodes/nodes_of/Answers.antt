@@ -4,7 +4,7 @@ use Rattle.std.specs.List.{All}
 use Rattle.std.proofs.lemmas.List.{append-nil}
 use Rattle.name_numbers.specs.Names.{with_name}
 use Rattle.xt_model.specs.Names.{IsName}
-use Rattle.link_rules.specs.Wires.{Capacitor, Between}
+use Rattle.link_rules.specs.Wires.{Capacitor, NamedResistor}
 use Rattle.link_index.proofs.FirstLaws.{no_items}
 use Rattle.link_wires.proofs.ListLaws.{all_left, all_right}
 use Rattle.link_wires.proofs.NodeLaws.{entering, both_nodes, fold_turn, fold_pair, names_rest, pair_rest, pair_second}
@@ -38,13 +38,13 @@ resistors-init c =
     record {
       value = ap (λ n. fold entering n (flat_map both_nodes c.resistors-resistors.result.now)) entered
           ∙ ap (λ l. fold entering (fold entering c.args.ends.now (map node_of c.args.wire.now.caps)) (flat_map both_nodes l)) c.resistors-resistors.ensures;
-      names = subst (λ (l : List Between). All IsName (flat_map both_nodes l)) (sym c.resistors-resistors.ensures)
+      names = subst (λ (l : List NamedResistor). All IsName (flat_map both_nodes l)) (sym c.resistors-resistors.ensures)
           (all_right IsName (map node_of c.args.wire.now.caps) (flat_map both_nodes c.args.wire.now.resistors) c.requires);
     }
 
 pub enter-requires-in-len1-up-resistors-2 : goal.enter-requires-in-len1-up-resistors-2
 enter-requires-in-len1-up-resistors-2 c =
-    subst (λ (k : Between). IsName k.b) (sym c.resistor.view_is)
+    subst (λ (k : NamedResistor). IsName k.b) (sym c.resistor.view_is)
     (pair_second c.resistors.resistors.now _ c.resistor-item.result c.in-len1-up-resistors.len_at_least c.resistor-item.is c.resistors.invariant.names)
 
 pub resistors-preserved : goal.resistors-preserved

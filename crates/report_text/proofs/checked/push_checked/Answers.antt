@@ -2,7 +2,7 @@ use Rattle.std.proofs.Common.{◌++◌, ap, ◌∙◌}
 use Rattle.text_lines.specs.Lines.{text_of}
 use Rattle.report_text.specs.Checks.{check_lines}
 use Rattle.report_text.specs.Paths.{worst_lines}
-use Rattle.report_text.proofs.Told.{checked_pieces}
+use Rattle.report_text.proofs.CheckLines.{checked_pieces}
 use Rattle.report_text.proofs.checked.push_checked.Goals as goal
 
 pub returns : goal.returns

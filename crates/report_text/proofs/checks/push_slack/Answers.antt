@@ -3,7 +3,7 @@ use Rattle.std.proofs.lemmas.Int.{to_z-of_z}
 use mir.Val.{SFits}
 use Rattle.xt_number.specs.Thousandths.{thousandths}
 use Rattle.text_lines.proofs.Pieces.{field_then, field_last}
-use Rattle.report_text.proofs.Told.{slacks_told}
+use Rattle.report_text.proofs.CheckLines.{slacks_line_is}
 use Rattle.report_text.proofs.checks.push_slack.Goals as goal
 
 pub returns : goal.returns
@@ -17,4 +17,4 @@ returns c =
     (field_then _ _ _ _ _ _ _ c.check_word.ensures c.in_ok-push_word-4.ensures
     (field_then _ _ _ _ _ _ _ (ap thousandths (to_z-of_z w64 s.greatest greatest)) c.in_ok-push_time.ensures
     (field_last _ _ _ _ _ (ap thousandths (to_z-of_z w64 s.least least)) c.in_ok-push_time-2.ensures)))))
-    ∙ ap (λ text. c.args.out.now.items ++ text) (sym (slacks_told c.args.name.now c.args.hold s c.if-slack.false))
+    ∙ ap (λ text. c.args.out.now.items ++ text) (sym (slacks_line_is c.args.name.now c.args.hold s c.if-slack.false))

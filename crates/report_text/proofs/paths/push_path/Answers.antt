@@ -3,7 +3,7 @@ use Rattle.std.proofs.lemmas.Int.{to_z-of_z}
 use mir.Val.{SFits}
 use Rattle.text_lines.specs.Lines.{line_text, text_of}
 use Rattle.report_text.specs.Paths.{worst_line, source_line, step_line, end_line}
-use Rattle.report_text.proofs.Told.{path_pieces}
+use Rattle.report_text.proofs.CheckLines.{path_pieces}
 use Rattle.report_text.proofs.paths.push_path.Goals as goal
 
 pub returns : goal.returns

@@ -4,7 +4,7 @@ use mir.Val.{SFits}
 use Rattle.xt_number.specs.Thousandths.{thousandths}
 use Rattle.text_lines.specs.Words.{check_word}
 use Rattle.text_lines.proofs.Pieces.{field_then, field_last}
-use Rattle.report_text.proofs.Told.{worst_told}
+use Rattle.report_text.proofs.CheckLines.{worst_line_is}
 use Rattle.report_text.proofs.paths.push_worst.Goals as goal
 
 pub returns : goal.returns
@@ -17,4 +17,4 @@ returns c =
     (field_then _ _ _ _ _ _ _ c.point_name.ensures c.in_ok-push_word-3.ensures
     (field_then _ _ _ _ _ _ _ c.edge_word.ensures c.in_ok-push_word-4.ensures
     (field_last _ _ _ _ _ (ap thousandths (to_z-of_z w64 s.greatest greatest)) c.in_ok-push_time.ensures))))
-    ∙ ap (λ text. c.args.out.now.items ++ text) (sym (worst_told d s _ c.point_of-point.ensures.there))
+    ∙ ap (λ text. c.args.out.now.items ++ text) (sym (worst_line_is d s _ c.point_of-point.ensures.there))

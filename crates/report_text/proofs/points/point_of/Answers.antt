@@ -1,4 +1,4 @@
-use Rattle.report_text.proofs.Told.{item_there, check_sound}
+use Rattle.report_text.proofs.CheckLines.{item_there, check_sound}
 use Rattle.report_text.proofs.points.point_of.Goals as goal
 
 pub returns : goal.returns

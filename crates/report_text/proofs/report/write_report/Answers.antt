@@ -8,6 +8,6 @@ returns c = record {
   checked = c.in_ok-checked.checked;
   is_pairs = search rules;
   is_depth = search rules;
-  is_checked = c.in_ok-checked.ensures.told;
+  is_checked = c.in_ok-checked.ensures.is_checked;
   written = search rules;
 }

@@ -5,7 +5,7 @@ use Rattle.xt_model.specs.Assign.{assigned}
 use Rattle.xt_model.specs.Quads.{IsLive}
 use Rattle.xt_model.specs.Sound.{HasSink}
 use Rattle.slack_report.specs.Points.{data_number}
-use Rattle.report_text.proofs.Told.{data_has_sink, data_within, data_switches, worst_from}
+use Rattle.report_text.proofs.CheckLines.{data_has_sink, data_within, data_switches, worst_from}
 use Rattle.report_text.proofs.worst.with_path.Goals as goal
 
 pub worst_path-requires : goal.worst_path-requires

@@ -1,7 +1,7 @@
 use Rattle.std.proofs.Common.{◌<◌, true, false, length, sym, subst}
 use Rattle.std.specs.List.{All}
 use Rattle.xt_model.specs.Assign.{assigned}
-use Rattle.report_text.proofs.Told.{all_within, all_of_design}
+use Rattle.report_text.proofs.CheckLines.{all_within, all_of_design}
 use Rattle.report_text.proofs.checked.Checked.of.Goals as goal
 
 pub returns-clause-named : goal.returns-clause-named

@@ -5,14 +5,14 @@ use Rattle.xt_meaning.specs.Lookup.{span_at}
 use Rattle.table_box.proofs.Places.{span_between}
 use Rattle.table_box.proofs.place.Place.among.Goals as goal
 
-pub between-requires-clause-low : goal.between-requires-clause-low
-between-requires-clause-low c =
+pub place_in_cell-requires-clause-low : goal.place_in_cell-requires-clause-low
+place_in_cell-requires-clause-low c =
     let h = c.if-is_between_lines.ensures refl in let r = c.requires.lines in
     let P : ℤ → Type 0 = λ y. get_or c.args.index.now (c.args.lines - 1) (pos 0) ≤ℤ y in
     subst P (sym (to_z-of_z c.ranges.x)) (r.reached (c.args.lines - 1) (omega (arith, h)))
 
-pub between-requires-clause-high : goal.between-requires-clause-high
-between-requires-clause-high c =
+pub place_in_cell-requires-clause-high : goal.place_in_cell-requires-clause-high
+place_in_cell-requires-clause-high c =
     let h = c.if-is_between_lines.ensures refl in let r = c.requires.lines in
     let b = r.beyond ((c.args.lines - 1) + 1) (omega (arith, h)) (omega (arith, h)) in
     let P : ℤ → Type 0 = λ y. y ≤ℤ get_or c.args.index.now ((c.args.lines - 1) + 1) (pos 0) in
@@ -21,6 +21,6 @@ between-requires-clause-high c =
 pub returns-then-is_between_lines : goal.returns-then-is_between_lines
 returns-then-is_between_lines c =
     let h = c.if-is_between_lines.ensures refl in
-    c.between.ensures
+    c.place_in_cell.ensures
     ∙ (ap (λ y. span_at c.args.index.now y (c.args.lines - 1)) (to_z-of_z c.ranges.x)
     ∙ sym (span_between _ _ _ c.requires.index c.requires.lines h.0 h.1))

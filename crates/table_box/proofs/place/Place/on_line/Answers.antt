@@ -13,14 +13,14 @@ several c = let not_one = c.if-index-eq1.false in let some = c.requires.index.so
 same_line : (c : goal.After-min) → to_z w64 (of_z w64 (get_or c.args.index.now c.args.line (pos 0))) ≡ get_or c.args.index.now c.args.line (pos 0)
 same_line c = to_z-of_z (number_word _ (c.requires.index.numbers c.args.line (pos 0) c.requires.line))
 
-pub between-requires-clause-low : goal.between-requires-clause-low
-between-requires-clause-low c =
+pub place_in_cell-requires-clause-low : goal.place_in_cell-requires-clause-low
+place_in_cell-requires-clause-low c =
     let e = c.min.ensures in let many = several c in
     let P : ℤ → Type 0 = λ y. get_or c.args.index.now c.min.result (pos 0) ≤ℤ y in
     subst P (sym (same_line c)) (rises c.args.index.now c.requires.index c.min.result c.args.line (omega arith) c.requires.line)
 
-pub between-requires-clause-high : goal.between-requires-clause-high
-between-requires-clause-high c =
+pub place_in_cell-requires-clause-high : goal.place_in_cell-requires-clause-high
+place_in_cell-requires-clause-high c =
     let e = c.min.ensures in let many = several c in let line = c.requires.line in
     let P : ℤ → Type 0 = λ y. y ≤ℤ get_or c.args.index.now (c.min.result + 1) (pos 0) in
     subst P (sym (same_line c)) (rises c.args.index.now c.requires.index c.args.line (c.min.result + 1) (omega arith) (omega arith))
@@ -30,6 +30,6 @@ returns c =
     let e = c.min.ensures in let not_one = c.if-index-eq1.false in let some = c.requires.index.some in let line = c.requires.line in
     let place : (c.min.result ≡ c.args.line) ⊎ ((c.min.result + 1 ≡ c.args.line) × (c.min.result + 2 ≡ length c.args.index.now)) =
     elim (cases_lt (length c.args.index.now - 2) c.args.line) [ inl p ↦ inr (omega arith, omega arith) | inr p ↦ inl (omega arith) ] in
-    c.between.ensures
+    c.place_in_cell.ensures
     ∙ (ap (λ y. span_at c.args.index.now y c.min.result) (to_z-of_z (number_word _ (c.requires.index.numbers c.args.line (pos 0) line)))
     ∙ sym (span_on_line c.args.index.now c.requires.index c.args.line line c.min.result (omega arith) place))

@@ -22,7 +22,7 @@ loop-word-preserved c =
     let first : View = c.args.first.view in
     let before : View = c.loop-word.first.view in
     let after : View = c.load.new.pass.view in
-    let told : Loaded first word number after = subst (λ (v : View). Loaded v word number after) c.loop-word.invariant.view c.load.ensures.loaded in
+    let step : Loaded first word number after = subst (λ (v : View). Loaded v word number after) c.loop-word.invariant.view c.load.ensures.loaded in
     let whole = subst (λ (h : Holding). length h.view.seen ≡ 8 * nets_of h.view.setting) c.first.view_is c.first.invariant.seen.count in
     let inside : word < length first.seen =
     let below = c.loop-word-test.true in
@@ -31,8 +31,8 @@ loop-word-preserved c =
     omega (arith, below, count, run, whole) in
     record {
       own = c.load.ensures.own;
-      view = loads_same first after word number c.requires.alone told;
-      words = c.in_ok-push.ensures.items ∙ loads_next first after word number c.loop-word.words.items c.requires.alone told inside c.loop-word.invariant.words;
+      view = loads_same first after word number c.requires.alone step;
+      words = c.in_ok-push.ensures.items ∙ loads_next first after word number c.loop-word.words.items c.requires.alone step inside c.loop-word.invariant.words;
     }
 
 pub returns : goal.returns

@@ -1,4 +1,4 @@
--- What is told of checks, piece by piece.
+-- The lines on checks, piece by piece.
 use Rattle.std.proofs.Common.{◌≡◌, ℕ, ◌<◌, Bool, true, false, not, List, [], ◌∷◌, ◌++◌, length, get_or, codes, append_assoc, append-nil, refl, sym, ap, subst, ◌∙◌, Option, Some, None, ℤ}
 use Rattle.std.specs.Prelude.{if◌then◌else◌, IfSome}
 use Rattle.std.specs.Option.{IsSomeAnd}
@@ -42,21 +42,21 @@ check_sound d read n x s same within is = subst (IsSoundCheck d) (sym (rw same a
 
 -- ---- lines
 
-pub idle_told : (name : List ℕ) (hold : Bool) (s : Slack) → s.idle ≡ true
+pub idle_line_is : (name : List ℕ) (hold : Bool) (s : Slack) → s.idle ≡ true
     → line_text (slack_line name hold s) ≡ codes "check" ++ 32 ∷ (name ++ 32 ∷ (edge_word s.edge ++ 32 ∷ (check_word hold ++ 32 ∷ (codes "idle" ++ 10 ∷ []))))
-idle_told name hold s idle = rw idle refl
+idle_line_is name hold s idle = rw idle refl
 
-pub slacks_told : (name : List ℕ) (hold : Bool) (s : Slack) → s.idle ≡ false
+pub slacks_line_is : (name : List ℕ) (hold : Bool) (s : Slack) → s.idle ≡ false
     → line_text (slack_line name hold s)
     ≡ codes "check" ++ 32 ∷ (name ++ 32 ∷ (edge_word s.edge ++ 32 ∷ (check_word hold ++ 32 ∷ (thousandths s.greatest ++ 32 ∷ (thousandths s.least ++ 10 ∷ [])))))
-slacks_told name hold s active = rw active refl
+slacks_line_is name hold s active = rw active refl
 
-pub check_told : (d : Parts) (s : Slack) (p : CheckPoint) (name : List ℕ) (hold : Bool) → slice_get d.checks s.point ≡ Some p → name ≡ point_name p → hold ≡ is_hold p → slack_line name hold s ≡ check_line d s
-check_told d s p name hold there e f = rw (there, e, f) refl
+pub check_line_is : (d : Parts) (s : Slack) (p : CheckPoint) (name : List ℕ) (hold : Bool) → slice_get d.checks s.point ≡ Some p → name ≡ point_name p → hold ≡ is_hold p → slack_line name hold s ≡ check_line d s
+check_line_is d s p name hold there e f = rw (there, e, f) refl
 
-pub worst_told : (d : Parts) (s : Slack) (p : CheckPoint) → slice_get d.checks s.point ≡ Some p
+pub worst_line_is : (d : Parts) (s : Slack) (p : CheckPoint) → slice_get d.checks s.point ≡ Some p
     → line_text (worst_line d s) ≡ codes "path" ++ 32 ∷ (check_word (is_hold p) ++ 32 ∷ (point_name p ++ 32 ∷ (edge_word s.edge ++ 32 ∷ (thousandths s.greatest ++ 10 ∷ []))))
-worst_told d s p there = rw there refl
+worst_line_is d s p there = rw there refl
 
 -- ---- the wire to a check
 
@@ -103,7 +103,7 @@ placed_within d W s at = slice_get_within d.checks s.point at.point at.there
 pub all_within : (d : Parts) (W : Assignment) (all : List Slack) → All (IsAtPoint d W) all → All (λ s. s.point < length d.checks) all
 all_within d W all placed = All-weaker (IsAtPoint d W) (λ s. s.point < length d.checks) (placed_within d W) all placed
 
--- ---- all that is told of a path is in the design
+-- ---- all that a path names is in the design
 
 steps_within : (late : Bool) (d : Parts) (W : Assignment) (n : ℕ) (e : Edge) (steps : List PathStep) (m : ℕ) (f : Edge) → Lead late d W n e steps m f → AllByRecursion (λ s. s.net.0 < length d.nets) steps
 steps_within late d W n e [] m f h = tt

@@ -17,14 +17,14 @@ use Rattle.sdc_forms.specs.Arranged.{GivenText, ArrangedText, arranged, words_fi
 
 -- what a command says: nothing, powers of ten for times and capacitances where it gives units, a clock, a number of
 -- times for ports, or a load
-pub data Said : Type 0 where
-  Nothing : Said
-  Units : Option ℤ → Option ℤ → Said
-  Clock : Option Text → Text → Option Text → WordText → Said
-  InputDelay : Text → WordText → Picked → WordText → Said
-  OutputDelay : Text → WordText → Picked → WordText → Said
-  InputTransition : Text → Picked → WordText → Said
-  Load : Text → WordText → Said
+pub data Statement : Type 0 where
+  Nothing : Statement
+  Units : Option ℤ → Option ℤ → Statement
+  Clock : Option Text → Text → Option Text → WordText → Statement
+  InputDelay : Text → WordText → Picked → WordText → Statement
+  OutputDelay : Text → WordText → Picked → WordText → Statement
+  InputTransition : Text → Picked → WordText → Statement
+  Load : Text → WordText → Statement
 
 -- ---- units
 
@@ -93,89 +93,89 @@ abbrev pub one_list : List WordText → Option WordText
 one_list (ports ∷ []) = Some ports
 one_list _ = None
 
-abbrev pub no_argument : List WordText → Option Said
+abbrev pub no_argument : List WordText → Option Statement
 no_argument [] = Some Nothing
 no_argument _ = None
 
 -- ---- what each command says; nothing where an option, an argument or a listed unit is missing, or there are too many
 
-unfoldable pub units_said : ArrangedText → Option Said
-units_said a = do
+unfoldable pub statement_of_units : ArrangedText → Option Statement
+statement_of_units a = do
   none ← no_argument a.arguments
   time ← power_if time_power (value_of options.Time a.given)
   cap ← power_if cap_power (value_of options.Capacitance a.given)
   Some (Units time cap)
 
-unfoldable pub clock_said : ArrangedText → Option Said
-clock_said a = do
+unfoldable pub statement_of_clock : ArrangedText → Option Statement
+statement_of_clock a = do
   period ← text_of_word (value_of options.Period a.given)
   source ← one_list a.arguments
   Some (Clock (text_of_word (value_of options.Name a.given)) period
       (text_of_word (value_of options.Waveform a.given)) source)
 
-unfoldable pub input_delay_said : ArrangedText → Option Said
-input_delay_said a = do
+unfoldable pub statement_of_input_delay : ArrangedText → Option Statement
+statement_of_input_delay a = do
   clock ← value_of options.Clock a.given
   x ← number_and_list a.arguments
   Some (InputDelay x.0 clock (picked_of a.given) x.1)
 
-unfoldable pub output_delay_said : ArrangedText → Option Said
-output_delay_said a = do
+unfoldable pub statement_of_output_delay : ArrangedText → Option Statement
+statement_of_output_delay a = do
   clock ← value_of options.Clock a.given
   x ← number_and_list a.arguments
   Some (OutputDelay x.0 clock (picked_of a.given) x.1)
 
-unfoldable pub transition_said : ArrangedText → Option Said
-transition_said a = do
+unfoldable pub statement_of_transition : ArrangedText → Option Statement
+statement_of_transition a = do
   x ← number_and_list a.arguments
   Some (InputTransition x.0 (picked_of a.given) x.1)
 
-unfoldable pub load_said : ArrangedText → Option Said
-load_said a = do
+unfoldable pub statement_of_load : ArrangedText → Option Statement
+statement_of_load a = do
   x ← number_and_list a.arguments
   Some (Load x.0 x.1)
 
-unfoldable pub said_by : CommandName → ArrangedText → Option Said
-said_by commands.SetUnits a = units_said a
-said_by commands.CreateClock a = clock_said a
-said_by commands.InputDelay a = input_delay_said a
-said_by commands.OutputDelay a = output_delay_said a
-said_by commands.InputTransition a = transition_said a
-said_by commands.Load a = load_said a
-said_by _ a = None
+unfoldable pub statement_of_arranged : CommandName → ArrangedText → Option Statement
+statement_of_arranged commands.SetUnits a = statement_of_units a
+statement_of_arranged commands.CreateClock a = statement_of_clock a
+statement_of_arranged commands.InputDelay a = statement_of_input_delay a
+statement_of_arranged commands.OutputDelay a = statement_of_output_delay a
+statement_of_arranged commands.InputTransition a = statement_of_transition a
+statement_of_arranged commands.Load a = statement_of_load a
+statement_of_arranged _ a = None
 
-abbrev pub or_refused : Option Said → Result Said Code
-or_refused (Some said) = Ok said
+abbrev pub or_refused : Option Statement → Result Statement Code
+or_refused (Some statement) = Ok statement
 or_refused None = Err C3
 
 -- what arranged words say: those that may not stand there are met first
-unfoldable pub whole_said : CommandName → ArrangedText → Result Said Code
-whole_said c a =
-    if words_fit c a then (if is_whole a then or_refused (said_by c a) else Err C3) else Err C1
+unfoldable pub whole_statement : CommandName → ArrangedText → Result Statement Code
+whole_statement c a =
+    if words_fit c a then (if is_whole a then or_refused (statement_of_arranged c a) else Err C3) else Err C1
 
 -- `set` says nothing: its variable is `sdc_version`, and one value stands behind it, which may be any word
-abbrev pub version_said : Option Text → List WordText → Result Said Code
-version_said None ws = Err C1
-version_said (Some variable) ws =
+abbrev pub statement_of_version : Option Text → List WordText → Result Statement Code
+statement_of_version None ws = Err C1
+statement_of_version (Some variable) ws =
     if bytes_eq variable (codes "sdc_version") then (if length ws == 1 then Ok Nothing else Err C3) else Err C2
 
-unfoldable pub set_said : List WordText → Result Said Code
-set_said [] = Err C3
-set_said (w ∷ ws) = version_said (text_in w) ws
+unfoldable pub statement_of_set : List WordText → Result Statement Code
+statement_of_set [] = Err C3
+statement_of_set (w ∷ ws) = statement_of_version (text_in w) ws
 
 -- what a command says; of ignored and of unknown ones the words are not looked at
-unfoldable pub said_as : CommandName → List WordText → Result Said Code
-said_as commands.Set ws = set_said ws
-said_as commands.Ignored ws = Ok Nothing
-said_as commands.Unknown ws = Err C2
-said_as c ws = whole_said c (arranged c ws)
+unfoldable pub statement_of_command : CommandName → List WordText → Result Statement Code
+statement_of_command commands.Set ws = statement_of_set ws
+statement_of_command commands.Ignored ws = Ok Nothing
+statement_of_command commands.Unknown ws = Err C2
+statement_of_command c ws = whole_statement c (arranged c ws)
 
-abbrev pub said_by_name : Option Text → List WordText → Result Said Code
-said_by_name None ws = Err C1
-said_by_name (Some name) ws = said_as (command_named name) ws
+abbrev pub statement_of_named : Option Text → List WordText → Result Statement Code
+statement_of_named None ws = Err C1
+statement_of_named (Some name) ws = statement_of_command (command_named name) ws
 
 -- what the words of a command say; its name is not in brackets
-unfoldable pub said_by_words : Option (List WordText) → Result Said Code
-said_by_words None = Err C1
-said_by_words (Some []) = Ok Nothing
-said_by_words (Some (w ∷ ws)) = said_by_name (text_in w) ws
+unfoldable pub statement_of_words : Option (List WordText) → Result Statement Code
+statement_of_words None = Err C1
+statement_of_words (Some []) = Ok Nothing
+statement_of_words (Some (w ∷ ws)) = statement_of_named (text_in w) ws

@@ -2,12 +2,14 @@
 
 ghost use Rattle.std.specs.Prelude.{◌≡◌, map, option_map, IfSome, IfOk};
 ghost use Rattle.sdc_words.specs.View.{word_text};
-ghost use Rattle.sdc_forms.specs.Said.{picked_of, text_of_word, power_if, number_and_list, one_list, said_by};
-ghost use Rattle.sdc_forms.specs.Said.{time_power, cap_power, units_said, clock_said, input_delay_said};
-ghost use Rattle.sdc_forms.specs.Said.{output_delay_said, transition_said, load_said, whole_said, version_said};
-ghost use Rattle.sdc_forms.specs.Said.{set_said, said_as, said_by_words};
+ghost use Rattle.sdc_forms.specs.Statement.{picked_of, text_of_word, power_if, number_and_list, one_list};
+ghost use Rattle.sdc_forms.specs.Statement.{statement_of_arranged, time_power, cap_power, statement_of_units};
+ghost use Rattle.sdc_forms.specs.Statement.{statement_of_clock, statement_of_input_delay, statement_of_output_delay};
+ghost use Rattle.sdc_forms.specs.Statement.{statement_of_transition, statement_of_load, whole_statement};
+ghost use Rattle.sdc_forms.specs.Statement.{statement_of_version, statement_of_set, statement_of_command};
+ghost use Rattle.sdc_forms.specs.Statement.{statement_of_words};
 ghost use Rattle.text_forms.specs.Stops.{Computes};
-ghost use Rattle.sdc_forms.specs.View.{said_text, IsPower, HasPowers};
+ghost use Rattle.sdc_forms.specs.View.{statement_text, IsPower, HasPowers};
 
 use crate::arranged::Arranged;
 use crate::command::CommandName;
@@ -22,7 +24,7 @@ use xt_model::{Code, Row};
 
 /// What a command says.
 #[derive(Clone, Copy)]
-pub enum Said<'a> {
+pub enum Statement<'a> {
     Nothing,
     /// The powers of ten of the units of time (in fs) and of capacitance (in aF), where they are given.
     Units(Option<i32>, Option<i32>),
@@ -116,9 +118,9 @@ fn one_list<'a>(words: &[Word<'a>]) -> Option<Word<'a>>
 }
 
 /// What `set_units` says.
-#[tactic(auto, unfolding(crate::specs::Said::units_said))]
-fn units_said<'a>(words: &Arranged<'a>) -> Option<Said<'a>>
-    ensures value { option_map said_text result ≡ units_said words.now }
+#[tactic(auto, unfolding(crate::specs::Statement::statement_of_units))]
+fn statement_of_units<'a>(words: &Arranged<'a>) -> Option<Statement<'a>>
+    ensures value { option_map statement_text result ≡ statement_of_units words.now }
     ensures powers { IfSome result HasPowers }
 {
     if !words.arguments().is_empty() {
@@ -126,85 +128,85 @@ fn units_said<'a>(words: &Arranged<'a>) -> Option<Said<'a>>
     }
     let time = time_if(words.value_of(OptionName::Time))?;
     let cap = cap_if(words.value_of(OptionName::Capacitance))?;
-    Some(Said::Units(time, cap))
+    Some(Statement::Units(time, cap))
 }
 
 /// What `create_clock` says.
-#[tactic(auto, unfolding(crate::specs::Said::clock_said))]
-fn clock_said<'a>(words: &Arranged<'a>) -> Option<Said<'a>>
-    ensures value { option_map said_text result ≡ clock_said words.now }
+#[tactic(auto, unfolding(crate::specs::Statement::statement_of_clock))]
+fn statement_of_clock<'a>(words: &Arranged<'a>) -> Option<Statement<'a>>
+    ensures value { option_map statement_text result ≡ statement_of_clock words.now }
     ensures powers { IfSome result HasPowers }
 {
     let period = text_of_word(words.value_of(OptionName::Period))?;
     let source = one_list(words.arguments())?;
     let name = text_of_word(words.value_of(OptionName::Name));
     let waveform = text_of_word(words.value_of(OptionName::Waveform));
-    Some(Said::Clock(name, period, waveform, source))
+    Some(Statement::Clock(name, period, waveform, source))
 }
 
 /// What `set_input_delay` says.
-#[tactic(auto, unfolding(crate::specs::Said::input_delay_said))]
-fn input_delay_said<'a>(words: &Arranged<'a>) -> Option<Said<'a>>
-    ensures value { option_map said_text result ≡ input_delay_said words.now }
+#[tactic(auto, unfolding(crate::specs::Statement::statement_of_input_delay))]
+fn statement_of_input_delay<'a>(words: &Arranged<'a>) -> Option<Statement<'a>>
+    ensures value { option_map statement_text result ≡ statement_of_input_delay words.now }
     ensures powers { IfSome result HasPowers }
 {
     let clock = words.value_of(OptionName::Clock)?;
     let (number, ports) = number_and_list(words.arguments())?;
-    Some(Said::InputDelay(number, clock, picked_of(words), ports))
+    Some(Statement::InputDelay(number, clock, picked_of(words), ports))
 }
 
 /// What `set_output_delay` says.
-#[tactic(auto, unfolding(crate::specs::Said::output_delay_said))]
-fn output_delay_said<'a>(words: &Arranged<'a>) -> Option<Said<'a>>
-    ensures value { option_map said_text result ≡ output_delay_said words.now }
+#[tactic(auto, unfolding(crate::specs::Statement::statement_of_output_delay))]
+fn statement_of_output_delay<'a>(words: &Arranged<'a>) -> Option<Statement<'a>>
+    ensures value { option_map statement_text result ≡ statement_of_output_delay words.now }
     ensures powers { IfSome result HasPowers }
 {
     let clock = words.value_of(OptionName::Clock)?;
     let (number, ports) = number_and_list(words.arguments())?;
-    Some(Said::OutputDelay(number, clock, picked_of(words), ports))
+    Some(Statement::OutputDelay(number, clock, picked_of(words), ports))
 }
 
 /// What `set_input_transition` says.
-#[tactic(auto, unfolding(crate::specs::Said::transition_said))]
-fn transition_said<'a>(words: &Arranged<'a>) -> Option<Said<'a>>
-    ensures value { option_map said_text result ≡ transition_said words.now }
+#[tactic(auto, unfolding(crate::specs::Statement::statement_of_transition))]
+fn statement_of_transition<'a>(words: &Arranged<'a>) -> Option<Statement<'a>>
+    ensures value { option_map statement_text result ≡ statement_of_transition words.now }
     ensures powers { IfSome result HasPowers }
 {
     let (number, ports) = number_and_list(words.arguments())?;
-    Some(Said::InputTransition(number, picked_of(words), ports))
+    Some(Statement::InputTransition(number, picked_of(words), ports))
 }
 
 /// What `set_load` says.
-#[tactic(auto, unfolding(crate::specs::Said::load_said))]
-fn load_said<'a>(words: &Arranged<'a>) -> Option<Said<'a>>
-    ensures value { option_map said_text result ≡ load_said words.now }
+#[tactic(auto, unfolding(crate::specs::Statement::statement_of_load))]
+fn statement_of_load<'a>(words: &Arranged<'a>) -> Option<Statement<'a>>
+    ensures value { option_map statement_text result ≡ statement_of_load words.now }
     ensures powers { IfSome result HasPowers }
 {
     let (number, ports) = number_and_list(words.arguments())?;
-    Some(Said::Load(number, ports))
+    Some(Statement::Load(number, ports))
 }
 
 /// What a command with options and arguments says.
-#[tactic(auto, unfolding(crate::specs::Said::said_by))]
-fn said_by<'a>(command: CommandName, words: &Arranged<'a>) -> Option<Said<'a>>
-    ensures value { option_map said_text result ≡ said_by command words.now }
+#[tactic(auto, unfolding(crate::specs::Statement::statement_of_arranged))]
+fn statement_of_arranged<'a>(command: CommandName, words: &Arranged<'a>) -> Option<Statement<'a>>
+    ensures value { option_map statement_text result ≡ statement_of_arranged command words.now }
     ensures powers { IfSome result HasPowers }
 {
     match command {
-        CommandName::SetUnits => units_said(words),
-        CommandName::CreateClock => clock_said(words),
-        CommandName::InputDelay => input_delay_said(words),
-        CommandName::OutputDelay => output_delay_said(words),
-        CommandName::InputTransition => transition_said(words),
-        CommandName::Load => load_said(words),
+        CommandName::SetUnits => statement_of_units(words),
+        CommandName::CreateClock => statement_of_clock(words),
+        CommandName::InputDelay => statement_of_input_delay(words),
+        CommandName::OutputDelay => statement_of_output_delay(words),
+        CommandName::InputTransition => statement_of_transition(words),
+        CommandName::Load => statement_of_load(words),
         _ => None,
     }
 }
 
 /// What arranged words say.
-#[tactic(auto, unfolding(crate::specs::Said::whole_said))]
-fn whole_said<'a>(command: CommandName, words: &Arranged<'a>) -> Result<Said<'a>, Stop>
-    ensures value { Computes said_text result (whole_said command words.now) }
+#[tactic(auto, unfolding(crate::specs::Statement::whole_statement))]
+fn whole_statement<'a>(command: CommandName, words: &Arranged<'a>) -> Result<Statement<'a>, Stop>
+    ensures value { Computes statement_text result (whole_statement command words.now) }
     ensures powers { IfOk result HasPowers }
 {
     if !words.words_fit(command) {
@@ -213,16 +215,19 @@ fn whole_said<'a>(command: CommandName, words: &Arranged<'a>) -> Result<Said<'a>
     if !words.is_whole() {
         return Err(Stop::Refused(Code::C3));
     }
-    match said_by(command, words) {
-        Some(said) => Ok(said),
+    match statement_of_arranged(command, words) {
+        Some(statement) => Ok(statement),
         None => Err(Stop::Refused(Code::C3)),
     }
 }
 
 /// What `set` says with this variable.
-fn version_said<'a>(variable: Option<&[u8]>, words: &[Word<'_>]) -> Result<Said<'a>, Stop>
-    ensures value { Computes said_text result
-        (version_said (option_map (λ t. t.now) variable.entry) (map word_text words.now)) }
+fn statement_of_version<'a>(
+    variable: Option<&[u8]>,
+    words: &[Word<'_>],
+) -> Result<Statement<'a>, Stop>
+    ensures value { Computes statement_text result
+        (statement_of_version (option_map (λ t. t.now) variable.entry) (map word_text words.now)) }
     ensures powers { IfOk result HasPowers }
 {
     let Some(variable) = variable else {
@@ -232,37 +237,41 @@ fn version_said<'a>(variable: Option<&[u8]>, words: &[Word<'_>]) -> Result<Said<
         return Err(Stop::Refused(Code::C2));
     }
     if words.len() == 1 {
-        Ok(Said::Nothing)
+        Ok(Statement::Nothing)
     } else {
         Err(Stop::Refused(Code::C3))
     }
 }
 
 /// What `set` says.
-#[tactic(auto, unfolding(crate::specs::Said::set_said))]
-fn set_said<'a>(words: &[Word<'_>]) -> Result<Said<'a>, Stop>
-    ensures value { Computes said_text result (set_said (map word_text words.now)) }
+#[tactic(auto, unfolding(crate::specs::Statement::statement_of_set))]
+fn statement_of_set<'a>(words: &[Word<'_>]) -> Result<Statement<'a>, Stop>
+    ensures value { Computes statement_text result (statement_of_set (map word_text words.now)) }
     ensures powers { IfOk result HasPowers }
 {
     match words {
         [] => Err(Stop::Refused(Code::C3)),
-        [variable, more @ ..] => version_said(text_in(*variable), more),
+        [variable, more @ ..] => statement_of_version(text_in(*variable), more),
     }
 }
 
 /// What a command says with these words behind its name.
-#[tactic(auto, unfolding(crate::specs::Said::said_as))]
-fn said_as<'a>(alloc: Global, command: CommandName, words: &[Word<'a>]) -> Result<Said<'a>, Stop>
-    ensures value { Computes said_text result (said_as command (map word_text words.now)) }
+#[tactic(auto, unfolding(crate::specs::Statement::statement_of_command))]
+fn statement_of_command<'a>(
+    alloc: Global,
+    command: CommandName,
+    words: &[Word<'a>],
+) -> Result<Statement<'a>, Stop>
+    ensures value { Computes statement_text result (statement_of_command command (map word_text words.now)) }
     ensures powers { IfOk result HasPowers }
 {
     match command {
-        CommandName::Set => set_said(words),
-        CommandName::Ignored => Ok(Said::Nothing),
+        CommandName::Set => statement_of_set(words),
+        CommandName::Ignored => Ok(Statement::Nothing),
         CommandName::Unknown => Err(Stop::Refused(Code::C2)),
         _ => {
             let arranged = Arranged::of(alloc, command, words)?;
-            whole_said(command, &arranged)
+            whole_statement(command, &arranged)
         }
     }
 }
@@ -272,19 +281,22 @@ fn said_as<'a>(alloc: Global, command: CommandName, words: &[Word<'a>]) -> Resul
 /// `C1` is that the words do not fit: brackets do not match, or a word may not stand where it does, which is looked at
 /// for the whole command first. `C2` is a command that is not known; `C3` an option or an argument that is unknown,
 /// missing or twice, or a unit that is not listed.
-#[tactic(auto, unfolding(crate::specs::Said::said_by_words))]
-pub fn said_by_words<'a>(alloc: Global, words: Option<&Row<Word<'a>>>) -> Result<Said<'a>, Stop>
-    ensures value { Computes said_text result
-        (said_by_words (option_map (λ r. map word_text r.now) words.entry)) }
+#[tactic(auto, unfolding(crate::specs::Statement::statement_of_words))]
+pub fn statement_of_words<'a>(
+    alloc: Global,
+    words: Option<&Row<Word<'a>>>,
+) -> Result<Statement<'a>, Stop>
+    ensures value { Computes statement_text result
+        (statement_of_words (option_map (λ r. map word_text r.now) words.entry)) }
     ensures powers { IfOk result HasPowers }
 {
     let Some(words) = words else {
         return Err(Stop::Refused(Code::C1));
     };
     match words.as_slice() {
-        [] => Ok(Said::Nothing),
+        [] => Ok(Statement::Nothing),
         [name, more @ ..] => match text_in(*name) {
-            Some(name) => said_as(alloc, CommandName::named(name), more),
+            Some(name) => statement_of_command(alloc, CommandName::named(name), more),
             None => Err(Stop::Refused(Code::C1)),
         },
     }

@@ -1,4 +1,4 @@
--- How a fault of a tree is told.
+-- Faults of wires: of their trees, and of what they may have at most.
 use Rattle.std.specs.Prelude.{◌≡◌, ℕ, ◌<◌, Bool, List, length, Option, Some, None, if◌then◌else◌}
 use Rattle.std.specs.List.{slice_get}
 use Rattle.name_numbers.specs.Names.{Text}
@@ -21,17 +21,17 @@ IsThere nodes (trees.NotReached k) = k < length nodes
 IsThere nodes _ = Unit {0}
 
 -- the fault of the tree of a net, by the names of the net and of the node
-abbrev pub IsToldFault : Text → List Text → TreeFault → LinkFault → Type 0
-IsToldFault net nodes trees.NotTree told = told ≡ faults.Refused (refusals.K5 net)
-IsToldFault net nodes (trees.NotReached k) told =
-    (node : Text) × (slice_get nodes k ≡ Some node) × (told ≡ faults.Refused (refusals.K6 net node))
-IsToldFault net nodes trees.NoMemory told = told ≡ faults.NoMemory
+abbrev pub IsLinkFaultOf : Text → List Text → TreeFault → LinkFault → Type 0
+IsLinkFaultOf net nodes trees.NotTree link_fault = link_fault ≡ faults.Refused (refusals.K5 net)
+IsLinkFaultOf net nodes (trees.NotReached k) link_fault =
+    (node : Text) × (slice_get nodes k ≡ Some node) × (link_fault ≡ faults.Refused (refusals.K6 net node))
+IsLinkFaultOf net nodes trees.NoMemory link_fault = link_fault ≡ faults.NoMemory
 
--- the fault of the tree of a net, as it is told; want of memory is always free
+-- the fault of the tree of a net, as one of linking; want of memory is always free
 abbrev pub IsTreeFault : TreeParts → Text → List Text → LinkFault → Type 0
 IsTreeFault t net nodes faults.NoMemory = Unit {0}
 IsTreeFault t net nodes (faults.Refused r) =
-    (fault : TreeFault) × IsFaultOf t fault × IsToldFault net nodes fault (faults.Refused r)
+    (fault : TreeFault) × IsFaultOf t fault × IsLinkFaultOf net nodes fault (faults.Refused r)
 IsTreeFault t net nodes (faults.Limit what name value) = ⊥
 
 -- the limit that a net passes: of its nodes, where its wire is listed, then of its load

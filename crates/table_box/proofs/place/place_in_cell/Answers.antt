@@ -1,7 +1,7 @@
 -- The differences are the exact ones, since all numbers of an index are small.
 use Rattle.std.proofs.Common.{◌+◌, arith, get_or, pos}
 use Rattle.table_box.proofs.Places.{difference_back, number_between, same_span}
-use Rattle.table_box.proofs.place.between.Goals as goal
+use Rattle.table_box.proofs.place.place_in_cell.Goals as goal
 
 pub returns : goal.returns
 returns c =
