@@ -357,7 +357,7 @@ const COUNTS: [(Pieces, Pieces, Pieces, &str); 11] = [
             (" u#(.A(a), .Y(n#)),", 2_499),
             (" v(.A(a), .Y(n)); endmodule", 1),
         ],
-        &[("*D_NET n 0 *RES 1 n n 1 *END", 1)],
+        &[("*D_NET n 0 *RES 1 v:Y v:Y 1 *END", 1)],
         "4 link: K5 n\n",
     ),
     // 5,000 instances of 1,024 checks.
