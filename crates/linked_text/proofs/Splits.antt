@@ -5,7 +5,7 @@ use Rattle.std.specs.List.{count_by, position_or_len}
 use Rattle.std.proofs.lemmas.Bool.{ltb-true, ltb-false, ne_eqb}
 use Rattle.std.proofs.lemmas.List.Splits.{slice_split_first, slice_split_none, length-slice_split}
 use Rattle.std.proofs.lemmas.List.Sums.{fails_before_first}
-use Rattle.linked_text.specs.Fields.{cut_at, fields_of, seven, nine}
+use Rattle.linked_text.specs.Fields.{cut_at, fields_of, three, four, five, seven, nine}
 use Rattle.linked_text.proofs.Options.{first_step, passed, some_is}
 
 abbrev is_space : ℕ → Bool
@@ -47,10 +47,57 @@ pub none_left : (now : List (List ℕ)) (more : Bool) (line : List ℕ) → left
 none_left now true line e = sym (ne_eqb (length now) 0 (λ z. omega (arith, z, count_left now true line e refl)))
 none_left now false line e = ap (λ (xs : List (List ℕ)). eqb (length xs) 0) e
 
-pub not_seven : {f1 f2 f3 f4 f5 f6 f7 : List ℕ} {xs x1 x2 x3 x4 x5 x6 x7 : List (List ℕ)} → xs ≡ f1 ∷ x1 → x1 ≡ f2 ∷ x2 → x2 ≡ f3 ∷ x3 → x3 ≡ f4 ∷ x4 → x4 ≡ f5 ∷ x5 → x5 ≡ f6 ∷ x6 → x6 ≡ f7 ∷ x7 → eqb (length x7) 0 ≡ false → seven xs ≡ None
-not_seven {x7 = []} e1 e2 e3 e4 e5 e6 e7 h = absurd cc
-not_seven {x7 = y ∷ ys} e1 e2 e3 e4 e5 e6 e7 h = rw (e1, e2, e3, e4, e5, e6, e7) refl
+-- ---- lines of fewer fields, and of more
 
-pub not_nine : {f1 f2 f3 f4 f5 f6 f7 f8 f9 : List ℕ} {xs x1 x2 x3 x4 x5 x6 x7 x8 x9 : List (List ℕ)} → xs ≡ f1 ∷ x1 → x1 ≡ f2 ∷ x2 → x2 ≡ f3 ∷ x3 → x3 ≡ f4 ∷ x4 → x4 ≡ f5 ∷ x5 → x5 ≡ f6 ∷ x6 → x6 ≡ f7 ∷ x7 → x7 ≡ f8 ∷ x8 → x8 ≡ f9 ∷ x9 → eqb (length x9) 0 ≡ false → nine xs ≡ None
-not_nine {x9 = []} e1 e2 e3 e4 e5 e6 e7 e8 e9 h = absurd cc
-not_nine {x9 = y ∷ ys} e1 e2 e3 e4 e5 e6 e7 e8 e9 h = rw (e1, e2, e3, e4, e5, e6, e7, e8, e9) refl
+pub few_three : (xs : List (List ℕ)) → length xs < 3 → three xs ≡ None
+few_three [] few = refl
+few_three (a ∷ []) few = refl
+few_three (a ∷ b ∷ []) few = refl
+few_three (a ∷ b ∷ c ∷ xs) few = absurd (omega (arith, few))
+
+pub few_four : (xs : List (List ℕ)) → length xs < 4 → four xs ≡ None
+few_four [] few = refl
+few_four (a ∷ []) few = refl
+few_four (a ∷ b ∷ []) few = refl
+few_four (a ∷ b ∷ c ∷ []) few = refl
+few_four (a ∷ b ∷ c ∷ d ∷ xs) few = absurd (omega (arith, few))
+
+pub few_five : (xs : List (List ℕ)) → length xs < 5 → five xs ≡ None
+few_five [] few = refl
+few_five (a ∷ []) few = refl
+few_five (a ∷ b ∷ []) few = refl
+few_five (a ∷ b ∷ c ∷ []) few = refl
+few_five (a ∷ b ∷ c ∷ d ∷ []) few = refl
+few_five (a ∷ b ∷ c ∷ d ∷ e ∷ xs) few = absurd (omega (arith, few))
+
+pub few_seven : (xs : List (List ℕ)) → length xs < 7 → seven xs ≡ None
+few_seven [] few = refl
+few_seven (a ∷ []) few = refl
+few_seven (a ∷ b ∷ []) few = refl
+few_seven (a ∷ b ∷ c ∷ []) few = refl
+few_seven (a ∷ b ∷ c ∷ d ∷ []) few = refl
+few_seven (a ∷ b ∷ c ∷ d ∷ e ∷ []) few = refl
+few_seven (a ∷ b ∷ c ∷ d ∷ e ∷ f ∷ []) few = refl
+few_seven (a ∷ b ∷ c ∷ d ∷ e ∷ f ∷ g ∷ xs) few = absurd (omega (arith, few))
+
+pub few_nine : (xs : List (List ℕ)) → length xs < 9 → nine xs ≡ None
+few_nine [] few = refl
+few_nine (a ∷ []) few = refl
+few_nine (a ∷ b ∷ []) few = refl
+few_nine (a ∷ b ∷ c ∷ []) few = refl
+few_nine (a ∷ b ∷ c ∷ d ∷ []) few = refl
+few_nine (a ∷ b ∷ c ∷ d ∷ e ∷ []) few = refl
+few_nine (a ∷ b ∷ c ∷ d ∷ e ∷ f ∷ []) few = refl
+few_nine (a ∷ b ∷ c ∷ d ∷ e ∷ f ∷ g ∷ []) few = refl
+few_nine (a ∷ b ∷ c ∷ d ∷ e ∷ f ∷ g ∷ h ∷ []) few = refl
+few_nine (a ∷ b ∷ c ∷ d ∷ e ∷ f ∷ g ∷ h ∷ i ∷ xs) few = absurd (omega (arith, few))
+
+pub not_seven : {f1 f2 f3 f4 f5 f6 f7 : List ℕ} {xs x3 x6 x7 : List (List ℕ)} → xs ≡ f1 ∷ f2 ∷ f3 ∷ x3 → x3 ≡ f4 ∷ f5 ∷ f6 ∷ x6 → x6 ≡ f7 ∷ x7
+    → eqb (length x7) 0 ≡ false → seven xs ≡ None
+not_seven {x7 = []} e1 e2 e3 h = absurd cc
+not_seven {x7 = y ∷ ys} e1 e2 e3 h = rw (e1, e2, e3) refl
+
+pub not_nine : {f1 f2 f3 f4 f5 f6 f7 f8 f9 : List ℕ} {xs x3 x6 x9 : List (List ℕ)} → xs ≡ f1 ∷ f2 ∷ f3 ∷ x3 → x3 ≡ f4 ∷ f5 ∷ f6 ∷ x6
+    → x6 ≡ f7 ∷ f8 ∷ f9 ∷ x9 → eqb (length x9) 0 ≡ false → nine xs ≡ None
+not_nine {x9 = []} e1 e2 e3 h = absurd cc
+not_nine {x9 = y ∷ ys} e1 e2 e3 h = rw (e1, e2, e3) refl

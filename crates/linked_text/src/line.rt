@@ -79,6 +79,17 @@ impl<'a> Fields<'a> {
         }
     }
 
+    /// The next three fields, or none where fewer are left.
+    #[inline(always)]
+    fn next_three(&mut self) -> Option<Three<'a>>
+        ensures { MatchOption result (length self.old < 3) (λ x. self.old ≡ x.0.now ∷ x.1.now ∷ x.2.now ∷ self.new) }
+    {
+        let first = self.next_field()?;
+        let second = self.next_field()?;
+        let third = self.next_field()?;
+        Some((first, second, third))
+    }
+
     /// Whether no field is left.
     pub fn is_done(&self) -> bool
         ensures { result ≡ (length self.now == 0) }
@@ -96,6 +107,8 @@ impl<'a> Fields<'a> {
         spaces(self.rest) + 1
     }
 }
+
+type Three<'a> = (&'a [u8], &'a [u8], &'a [u8]);
 
 type Seven<'a> = (
     &'a [u8],
@@ -145,27 +158,25 @@ pub fn two(line: &[u8]) -> Option<(&[u8], &[u8])>
 }
 
 /// The fields of a line of three.
-pub fn three(line: &[u8]) -> Option<(&[u8], &[u8], &[u8])>
+#[tactic(auto, using(crate::proofs::Splits::few_three))]
+pub fn three(line: &[u8]) -> Option<Three<'_>>
     ensures { Finds (λ x. (x.0.now, x.1.now, x.2.now)) result (three (fields_of line.now)) }
 {
     let mut fields = Fields::new(line);
-    let first = fields.next_field()?;
-    let second = fields.next_field()?;
-    let third = fields.next_field()?;
+    let found = fields.next_three()?;
     if !fields.is_done() {
         return None;
     }
-    Some((first, second, third))
+    Some(found)
 }
 
 /// The fields of a line of four.
+#[tactic(auto, using(crate::proofs::Splits::few_four))]
 pub fn four(line: &[u8]) -> Option<(&[u8], &[u8], &[u8], &[u8])>
     ensures { Finds (λ x. (x.0.now, x.1.now, x.2.now, x.3.now)) result (four (fields_of line.now)) }
 {
     let mut fields = Fields::new(line);
-    let first = fields.next_field()?;
-    let second = fields.next_field()?;
-    let third = fields.next_field()?;
+    let (first, second, third) = fields.next_three()?;
     let fourth = fields.next_field()?;
     if !fields.is_done() {
         return None;
@@ -174,13 +185,12 @@ pub fn four(line: &[u8]) -> Option<(&[u8], &[u8], &[u8], &[u8])>
 }
 
 /// The fields of a line of five.
+#[tactic(auto, using(crate::proofs::Splits::few_five))]
 pub fn five(line: &[u8]) -> Option<(&[u8], &[u8], &[u8], &[u8], &[u8])>
     ensures { Finds (λ x. (x.0.now, x.1.now, x.2.now, x.3.now, x.4.now)) result (five (fields_of line.now)) }
 {
     let mut fields = Fields::new(line);
-    let first = fields.next_field()?;
-    let second = fields.next_field()?;
-    let third = fields.next_field()?;
+    let (first, second, third) = fields.next_three()?;
     let fourth = fields.next_field()?;
     let fifth = fields.next_field()?;
     if !fields.is_done() {
@@ -190,17 +200,14 @@ pub fn five(line: &[u8]) -> Option<(&[u8], &[u8], &[u8], &[u8], &[u8])>
 }
 
 /// The fields of a line of seven.
+#[tactic(auto, using(crate::proofs::Splits::few_seven))]
 pub fn seven(line: &[u8]) -> Option<Seven<'_>>
     ensures { Finds (λ x. (x.0.now, x.1.now, x.2.now, x.3.now, x.4.now, x.5.now, x.6.now))
         result (seven (fields_of line.now)) }
 {
     let mut fields = Fields::new(line);
-    let first = fields.next_field()?;
-    let second = fields.next_field()?;
-    let third = fields.next_field()?;
-    let fourth = fields.next_field()?;
-    let fifth = fields.next_field()?;
-    let sixth = fields.next_field()?;
+    let (first, second, third) = fields.next_three()?;
+    let (fourth, fifth, sixth) = fields.next_three()?;
     let seventh = fields.next_field()?;
     if !fields.is_done() {
         return None;
@@ -209,20 +216,15 @@ pub fn seven(line: &[u8]) -> Option<Seven<'_>>
 }
 
 /// The fields of a line of nine.
+#[tactic(auto, using(crate::proofs::Splits::few_nine))]
 pub fn nine(line: &[u8]) -> Option<Nine<'_>>
     ensures { Finds (λ x. (x.0.now, x.1.now, x.2.now, x.3.now, x.4.now, x.5.now, x.6.now, x.7.now, x.8.now))
         result (nine (fields_of line.now)) }
 {
     let mut fields = Fields::new(line);
-    let first = fields.next_field()?;
-    let second = fields.next_field()?;
-    let third = fields.next_field()?;
-    let fourth = fields.next_field()?;
-    let fifth = fields.next_field()?;
-    let sixth = fields.next_field()?;
-    let seventh = fields.next_field()?;
-    let eighth = fields.next_field()?;
-    let ninth = fields.next_field()?;
+    let (first, second, third) = fields.next_three()?;
+    let (fourth, fifth, sixth) = fields.next_three()?;
+    let (seventh, eighth, ninth) = fields.next_three()?;
     if !fields.is_done() {
         return None;
     }

@@ -4,5 +4,5 @@ use Rattle.linked_text.proofs.line.seven.Goals as goal
 
 pub returns-then-not-is_done : goal.returns-then-not-is_done
 returns-then-not-is_done c =
-    not_seven (sym c.new-fields.ensures ∙ c.in_ok-first.ensures) c.in_ok-second.ensures c.in_ok-third.ensures c.in_ok-fourth.ensures c.in_ok-fifth.ensures c.in_ok-sixth.ensures c.in_ok-seventh.ensures
+    not_seven (sym c.new-fields.ensures ∙ c.in_ok-first.ensures) c.in_ok-fourth.ensures c.in_ok-seventh.ensures
     (sym c.is_done.ensures ∙ c.if-not-is_done.true)
