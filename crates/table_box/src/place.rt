@@ -8,7 +8,7 @@ use crate::lines::lines_up_to;
 
 /// Where a number lies on an axis: the numbers of the two grid lines beside it, how far it lies above the
 /// first and below the second, and how far they are apart, in the unit of the axis.
-#[derive(Clone, Copy, Debug)]
+#[derive(Clone, Copy)]
 pub(crate) struct Place {
     pub first: usize,
     pub second: usize,

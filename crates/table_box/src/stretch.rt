@@ -9,7 +9,7 @@ use crate::place::Place;
 /// The numbers from one to another on an axis, in its unit: the places of both ends, and the numbers of the grid lines
 /// above the one and below the other, from `first` to before `last`. A single number is both ends. They are inside a
 /// cell where both ends lie in it, and no line lies between them.
-#[derive(Clone, Copy, Debug)]
+#[derive(Clone, Copy)]
 pub(crate) struct Stretch {
     pub from: i64,
     pub to: i64,
