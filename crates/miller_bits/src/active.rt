@@ -91,7 +91,7 @@ fn ranges_meet(a_from: i64, a_to: i64, b_from: i64, b_to: i64, period: Option<i6
 
 /// A window, with whether its edge can switch, and from when and to when a transition of it can be under way: from the
 /// earliest time less half of the greatest slew, to the latest time and half of the greatest slew.
-#[derive(Clone, Copy, Debug)]
+#[derive(Clone, Copy)]
 pub(crate) struct Active {
     pub window: Quad,
     pub live: bool,
