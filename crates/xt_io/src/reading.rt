@@ -45,9 +45,9 @@ pub fn read_whole<F: Files>(alloc: Global, files: &mut F, name: &str) -> Result<
         if count > MOST_BYTES - bytes.len() {
             return Err(ReadFail::TooLong);
         }
-        if bytes.extend_from_slice(&piece[..count]).is_err() {
+        let Ok(()) = bytes.extend_from_slice(&piece[..count]) else {
             return Err(ReadFail::NoMemory);
-        }
+        };
     }
 }
 
