@@ -3,6 +3,7 @@ use Rattle.std.proofs.Common.{◌≡◌, ◌<◌, ◌∙◌, ap, refl, length, a
 use Rattle.std.proofs.lemmas.Option.{slice_get_within}
 use Rattle.xt_model.specs.declared.edge.Edge.TheVariants.{Rise, Fall}
 use Rattle.xt_meaning.specs.Wires.{load_of}
+use Rattle.xt_meaning.proofs.Starts.{bottom_in_range}
 use Rattle.miller_bits.specs.Victims.{victim_of}
 use Rattle.miller_bits.proofs.Sums.{found}
 use Rattle.net_eval.specs.Arcs.{load_in}
@@ -123,3 +124,58 @@ new-own_fall-requires-clause-words g c =
 
 pub new-own_fall-requires-clause-net : goal.new-own_fall-requires-clause-net
 new-own_fall-requires-clause-net g c = let e = c.self.inside in slice_get_within e.design.now.nets e.number.0 e.net.now c.self.invariant.there
+
+pub new-own_rise-requires-clause-net : goal.new-own_rise-requires-clause-net
+new-own_rise-requires-clause-net g c = let e = c.self.inside in slice_get_within e.design.now.nets e.number.0 e.net.now c.self.invariant.there
+
+pub of-pin-requires-clause-sink : goal.of-pin-requires-clause-sink
+of-pin-requires-clause-sink g c =
+    let e = c.self.inside in let s = scene_of e.overlaps e.design.now (g.V.Bounds.bound_of e.view.now) in
+    let some : 0 < length e.net.now.arcs = omega (arith, c.if-len-eq0.false, c.len.ensures) in
+    (ready_at _ s _ _ 0 _ c.self.invariant.arcs c.as_slice-arcs.ensures (rw c.as_slice-arcs.ensures some)).sound.sink
+
+pub of-pin-requires-clause-words : goal.of-pin-requires-clause-words
+of-pin-requires-clause-words g c =
+    let e = c.self.inside in let s = scene_of e.overlaps e.design.now (g.V.Bounds.bound_of e.view.now) in
+    let some : 0 < length e.net.now.arcs = omega (arith, c.if-len-eq0.false, c.len.ensures) in
+    (ready_at _ s _ _ 0 _ c.self.invariant.arcs c.as_slice-arcs.ensures (rw c.as_slice-arcs.ensures some)).words
+
+pub place_to-to_rise-requires : goal.place_to-to_rise-requires
+place_to-to_rise-requires g c =
+    let some : 0 < length c.self.inside.net.now.arcs = omega (arith, c.if-len-eq0.false, c.len.ensures) in rw c.as_slice-arcs.ensures some
+
+pub place_to-to_fall-requires : goal.place_to-to_fall-requires
+place_to-to_fall-requires g c =
+    let some : 0 < length c.self.inside.net.now.arcs = omega (arith, c.if-len-eq0.false, c.len.ensures) in rw c.as_slice-arcs.ensures some
+
+pub loop-arc-init : goal.loop-arc-init
+loop-arc-init g c = record {
+  pin = c.of-pin.ensures.pin;
+  rise_tables = c.of_arc-rise_tables.ensures.tables;
+  fall_tables = c.of_arc-fall_tables.ensures.tables;
+  rise = c.bottom-rise.ensures;
+  fall = c.bottom-fall.ensures;
+  rise_range = rw c.bottom-rise.ensures bottom_in_range;
+  fall_range = rw c.bottom-fall.ensures bottom_in_range;
+}
+
+pub move_to-requires-clause-pin : goal.move_to-requires-clause-pin
+move_to-requires-clause-pin g c = c.loop-arc.invariant.pin
+
+pub move_to-requires-clause-ready : goal.move_to-requires-clause-ready
+move_to-requires-clause-ready g c =
+    let e = c.self.inside in let s = scene_of e.overlaps e.design.now (g.V.Bounds.bound_of e.view.now) in
+    ready_at _ s _ _ c.loop-arc.arc-index _ c.self.invariant.arcs c.as_slice-arc-items.ensures c.loop-arc-test.true
+
+pub with_arc-rise-requires-clause-sound : goal.with_arc-rise-requires-clause-sound
+with_arc-rise-requires-clause-sound g c =
+    let e = c.self.inside in let s = scene_of e.overlaps e.design.now (g.V.Bounds.bound_of e.view.now) in
+    (ready_at _ s _ _ c.loop-arc.arc-index _ c.self.invariant.arcs c.as_slice-arc-items.ensures c.loop-arc-test.true).sound
+
+pub with_arc-fall-requires-clause-sound : goal.with_arc-fall-requires-clause-sound
+with_arc-fall-requires-clause-sound g c =
+    let e = c.self.inside in let s = scene_of e.overlaps e.design.now (g.V.Bounds.bound_of e.view.now) in
+    (ready_at _ s _ _ c.loop-arc.arc-index _ c.self.invariant.arcs c.as_slice-arc-items.ensures c.loop-arc-test.true).sound
+
+pub returns-clause-range : goal.returns-clause-range
+returns-clause-range g c = record { rise = c.loop-arc.invariant.rise_range; fall = c.loop-arc.invariant.fall_range }
