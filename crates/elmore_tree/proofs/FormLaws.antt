@@ -4,7 +4,7 @@ use Rattle.std.specs.Prelude.{ℤ, pos, ◌≤ℤ◌}
 use Rattle.std.specs.Int.RustNames.{unsigned_abs}
 use Rattle.std.specs.List.{sum_by, All, list_any}
 use Rattle.std.proofs.lemmas.Bool.{cases_lt, cases_Bool, or_left, or_right}
-use Rattle.std.proofs.lemmas.List.{get_or_read, map_more, get_or-map, get_or_past, length-map, ext_get_or}
+use Rattle.std.proofs.lemmas.List.{map_more, get_or-map, get_or_past, length-map, ext_get_or}
 use Rattle.std.proofs.lemmas.List.Sums.{sum_by-cons, count_by-le-length}
 use Rattle.std.proofs.lemmas.List.Folds.{list_any_at}
 use Rattle.std.proofs.lemmas.Int.{ints}
@@ -238,14 +238,6 @@ sink_there t items i sound e lt = rw e (sound.sinks i 0 (rw (← e) lt))
 
 pub sink_visited : (t : TreeParts) (steps : List Step) (items : List ℕ) (i : ℕ) → items ≡ t.sinks → i < length items → ((k : ℕ) → is_needed t k ≡ true → is_visited t steps k ≡ true) → is_visited t steps (get_or items i 0) ≡ true
 sink_visited t steps items i e lt reached = rw e (reached (get_or t.sinks i 0) (needed_sink t i (rw (← e) lt)))
-
-pub base_at : (t : TreeParts) (steps : List Step) (items caps bases : List ℕ) (i base : ℕ) → IsSoundTree t → items ≡ t.sinks → i < length items → length bases ≡ t.nodes → caps ≡ map unsigned_abs t.ground
-    → ((k : ℕ) → is_visited t steps k ≡ true → get_or bases k 0 ≡ elmore_sum t steps caps k) → ((k : ℕ) → is_needed t k ≡ true → is_visited t steps k ≡ true)
-    → base ≡ get_or bases (get_or items i 0) base → base ≡ base_of t (path_of steps) (get_or items i 0)
-base_at t steps items caps bases i base sound e lt count is_caps each reached is =
-    let there = sink_there t items i sound e lt in
-    let visited = sink_visited t steps items i e lt reached in
-    get_or_read bases (get_or items i 0) base (omega (arith, there, count)) is 0 ∙ (each (get_or items i 0) visited ∙ (ap (λ c. elmore_sum t steps c (get_or items i 0)) is_caps ∙ base_is t steps (get_or items i 0)))
 
 stored_cap : (z : ℤ) → pos 0 ≤ℤ z → z ≤ℤ pos (2 ^ 40) → to_z w64 (of_z w64 z) ≡ z
 stored_cap z a b = omega (arith, ints)

@@ -1,14 +1,14 @@
 //! The Elmore form of a wire whose resistors make a tree.
 
-ghost use Rattle.std.specs.Prelude.{◌≡◌, ℕ, ◌+◌, ◌*◌, ◌<◌, ◌≤◌, ◌^◌, true, ℤ, pos, ◌≤ℤ◌, length, map, IfOk};
+ghost use Rattle.std.specs.Prelude.{◌≡◌, ℕ, suc, ◌+◌, ◌*◌, ◌<◌, ◌≤◌, ◌^◌, true, ℤ, pos, ◌≤ℤ◌, length, map, IfOk};
 ghost use Rattle.std.specs.Prelude.{IfErr, OnOk, slice_index};
 ghost use Rattle.std.specs.Int.RustNames.{unsigned_abs};
 ghost use Rattle.std.specs.List.{All};
-ghost use Rattle.elmore_tree.specs.Trees.{ground_sum, is_needed};
+ghost use Rattle.elmore_tree.specs.Trees.{IsSoundTree, ground_sum, is_needed};
 ghost use Rattle.elmore_tree.specs.Sums.{base_of, sink_sums};
 ghost use Rattle.elmore_tree.specs.Walks.{is_visited, path_of};
 ghost use Rattle.elmore_tree.specs.Orders.{IsPreorderWalk, IsTapOrder, IsRowOf};
-ghost use Rattle.elmore_tree.specs.Gathering.{IsTreeWalk};
+ghost use Rattle.elmore_tree.specs.Gathering.{IsTreeWalk, elmore_sum};
 ghost use Rattle.elmore_tree.specs.Forms.{IsFormOf, IsAcceptedTree, IsFaultOf};
 
 use crate::fault::TreeFault;
@@ -79,6 +79,38 @@ fn sink_form(
     Ok(SinkForm::new(base as i128, coefs))
 }
 
+/// The sums of each sink, from the sums at all nodes and the order of the taps. The row has a place for each node that
+/// is reached.
+fn forms_by(
+    alloc: Global,
+    tree: &Tree,
+    sinks: &[u32],
+    steps: &[Step],
+    bases: &[u128],
+    order: &TapOrder,
+    row: &mut [u64],
+) -> Result<Vec<SinkForm>, AllocError>
+    requires sound { IsSoundTree tree.now }
+    requires sinks { sinks.now ≡ tree.now.sinks }
+    requires walk { IsPreorderWalk tree.now steps.now }
+    requires count { length bases.now ≡ tree.now.nodes }
+    requires bases { (k : ℕ) → is_visited tree.now steps.now k ≡ true
+        → slice_index bases.now k ≡ elmore_sum tree.now steps.now (map unsigned_abs tree.now.ground) k }
+    requires made { IsTapOrder tree.now steps.now order.now }
+    requires row { length row.old ≡ suc (length steps.now) }
+    requires reached { (k : ℕ) → is_needed tree.now k ≡ true → is_visited tree.now steps.now k ≡ true }
+    ensures { IfOk result (λ forms. forms.items ≡ map (sink_sums tree.now (path_of steps.now)) tree.now.sinks) }
+{
+    let mut forms = Vec::new(alloc);
+    for sink in sinks {
+        order.fill(tree, steps, *sink, row);
+        let base = bases[*sink as usize];
+        let form = sink_form(alloc, tree, steps, order, row, base, *sink)?;
+        forms.push(form)?;
+    }
+    Ok(forms)
+}
+
 /// The sums of each sink.
 fn sink_forms(alloc: Global, tree: &Tree, steps: &[Step]) -> Result<Vec<SinkForm>, AllocError>
     requires walk { IsPreorderWalk tree.now steps.now }
@@ -90,14 +122,7 @@ fn sink_forms(alloc: Global, tree: &Tree, steps: &[Step]) -> Result<Vec<SinkForm
     let bases = elmore_sums(alloc, tree, steps, caps)?;
     let order = TapOrder::new(alloc, tree, steps)?;
     let mut row = vec![in alloc; 0; steps.len() + 1]?;
-    let mut forms = Vec::new(alloc);
-    for sink in sinks {
-        order.fill(tree, steps, *sink, &mut row);
-        let base = bases[*sink as usize];
-        let form = sink_form(alloc, tree, steps, &order, &row, base, *sink)?;
-        forms.push(form)?;
-    }
-    Ok(forms)
+    forms_by(alloc, tree, sinks, steps, &bases, &order, &mut row)
 }
 
 /// The steps of a walk over a tree that reaches all that hangs at it, or why the wire is no such tree.
