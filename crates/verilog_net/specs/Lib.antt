@@ -1,5 +1,6 @@
 pub mod Sorts
 pub mod Forms
+pub mod Behind
 pub mod Names
 pub mod Nets
 pub mod Ports

@@ -8,6 +8,8 @@ ghost use Rattle.verilog_net.specs.Forms.{module_name_forms, header_forms, liste
 ghost use Rattle.verilog_net.specs.Forms.{left_bound_forms, right_bound_forms, declared_forms, opening_forms};
 ghost use Rattle.verilog_net.specs.Forms.{pins_forms, pin_forms, connection_forms, bit_given_forms};
 ghost use Rattle.verilog_net.specs.Forms.{connected_forms, closed_forms, forms_in, is_done};
+ghost use Rattle.verilog_net.specs.Behind.{behind_one, behind_two};
+ghost use Rattle.verilog_net.specs.declared.sort.Sort.TheVariants.{Name, LeftBracket};
 ghost use Rattle.text_forms.specs.Stops.{refusal_of, Reads};
 ghost use Rattle.verilog_net.specs.View.{item_text, whole_of, refusal_at, IsOther};
 
@@ -274,6 +276,43 @@ fn pin<'a>(terms: &mut Terms<'a, Sort>) -> Result<FormRead<'a>, Refused>
     Ok(done(Item::Nothing, paren.line, Context::Connection))
 }
 
+/// Behind the `[` of a bit to which a pin is connected.
+fn bit<'a>(
+    bus: Term<'a, Sort>,
+    bracket: Term<'a, Sort>,
+    terms: &mut Terms<'a, Sort>,
+) -> Result<FormRead<'a>, Refused>
+    ensures { Reads (λ r. (whole_of r, terms.new)) result
+        (behind_two Name LeftBracket connection_forms (token_of bus.entry) (token_of bracket.entry) terms.old) }
+{
+    let number = expect(Sort::Number, terms)?;
+    let last = any(terms)?;
+    match last.sort {
+        Sort::RightBracket => {
+            let item = Item::Bit(bus.text, number.text);
+            Ok(done(item, last.line, Context::BitGiven))
+        }
+        Sort::Colon => Ok(done(Item::Refused(Code::V3), last.line, Context::Done)),
+        _ => Err(refused(last)),
+    }
+}
+
+/// Behind a name to which a pin is connected.
+fn net_or_bit<'a>(
+    name: Term<'a, Sort>,
+    terms: &mut Terms<'a, Sort>,
+) -> Result<FormRead<'a>, Refused>
+    ensures { Reads (λ r. (whole_of r, terms.new)) result
+        (behind_one Name connection_forms (token_of name.entry) terms.old) }
+{
+    let second = any(terms)?;
+    match second.sort {
+        Sort::RightParen => Ok(done(Item::Net(name.text), second.line, Context::Connected)),
+        Sort::LeftBracket => bit(name, second, terms),
+        _ => Err(refused(second)),
+    }
+}
+
 /// Behind the `(` of a pin.
 fn connection<'a>(terms: &mut Terms<'a, Sort>) -> Result<FormRead<'a>, Refused>
     ensures { Reads (λ r. (whole_of r, terms.new)) result (first_form connection_forms terms.old) }
@@ -285,29 +324,7 @@ fn connection<'a>(terms: &mut Terms<'a, Sort>) -> Result<FormRead<'a>, Refused>
             let paren = expect(Sort::RightParen, terms)?;
             Ok(done(Item::Constant, paren.line, Context::Connected))
         }
-        Sort::Name => {
-            let second = any(terms)?;
-            match second.sort {
-                Sort::RightParen => Ok(done(
-                    Item::Net(first.text),
-                    second.line,
-                    Context::Connected,
-                )),
-                Sort::LeftBracket => {
-                    let number = expect(Sort::Number, terms)?;
-                    let last = any(terms)?;
-                    match last.sort {
-                        Sort::RightBracket => {
-                            let item = Item::Bit(first.text, number.text);
-                            Ok(done(item, last.line, Context::BitGiven))
-                        }
-                        Sort::Colon => Ok(done(Item::Refused(Code::V3), last.line, Context::Done)),
-                        _ => Err(refused(last)),
-                    }
-                }
-                _ => Err(refused(second)),
-            }
-        }
+        Sort::Name => net_or_bit(first, terms),
         Sort::LeftBrace => Ok(done(Item::Refused(Code::V3), first.line, Context::Done)),
         _ => Err(refused(first)),
     }

@@ -61,8 +61,12 @@ fn modules(alloc: Global, single: bool, bytes: &[u8]) -> Result<Vec<Netlist>, Te
         return Err(TextFault::from(refused));
     }
     let mut state = Progress::new(alloc, single);
-    read_all(alloc, &mut Terms::new(bytes, Rules::Verilog), &mut state)?;
-    Ok(state.into_ended())
+    let read = read_all(alloc, &mut Terms::new(bytes, Rules::Verilog), &mut state);
+    let ended = state.into_ended();
+    match read {
+        Ok(()) => Ok(ended),
+        Err(fault) => Err(fault),
+    }
 }
 
 /// The modules of a structural Verilog text, in its order, or its first refusal, at the line of the token that shows
