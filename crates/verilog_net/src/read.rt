@@ -62,6 +62,7 @@ fn modules(alloc: Global, single: bool, bytes: &[u8]) -> Result<Vec<Netlist>, Te
     }
     let mut state = Progress::new(alloc, single);
     let read = read_all(alloc, &mut Terms::new(bytes, Rules::Verilog), &mut state);
+    // What is left of the state is dropped here alone, whatever was read.
     let ended = state.into_ended();
     match read {
         Ok(()) => Ok(ended),
