@@ -9,7 +9,7 @@ ghost use Rattle.verilog_net.specs.Forms.{left_bound_forms, right_bound_forms, d
 ghost use Rattle.verilog_net.specs.Forms.{pins_forms, pin_forms, connection_forms, bit_given_forms};
 ghost use Rattle.verilog_net.specs.Forms.{connected_forms, closed_forms, forms_in, is_done};
 ghost use Rattle.verilog_net.specs.Behind.{behind_one, behind_two};
-ghost use Rattle.verilog_net.specs.declared.sort.Sort.TheVariants.{Name, LeftBracket};
+ghost use Rattle.verilog_net.specs.declared.sort.Sort.TheVariants.{Name, LeftBracket, RightParen, Comma};
 ghost use Rattle.text_forms.specs.Stops.{refusal_of, Reads};
 ghost use Rattle.verilog_net.specs.View.{item_text, whole_of, refusal_at, IsOther};
 
@@ -122,6 +122,38 @@ fn module_name<'a>(terms: &mut Terms<'a, Sort>) -> Result<FormRead<'a>, Refused>
     Ok(done(Item::ModuleName(name.text), name.line, Context::Header))
 }
 
+/// A name of the header, behind the `(` or the `,` before it.
+fn header_name<'a>(
+    mark: Term<'a, Sort>,
+    terms: &mut Terms<'a, Sort>,
+) -> Result<FormRead<'a>, Refused>
+    ensures { Reads (λ r. (whole_of r, terms.new)) result
+        (behind_one Comma listed_forms (token_of mark.entry) terms.old) }
+{
+    let name = any(terms)?;
+    match name.sort {
+        Sort::Name => Ok(done(Item::Listed(name.text), name.line, Context::Listed)),
+        Sort::Direction => Ok(done(Item::Refused(Code::V3), name.line, Context::Done)),
+        _ => Err(refused(name)),
+    }
+}
+
+/// Behind the `)` of the header.
+fn header_end<'a>(
+    paren: Term<'a, Sort>,
+    terms: &mut Terms<'a, Sort>,
+) -> Result<FormRead<'a>, Refused>
+    ensures { Reads (λ r. (whole_of r, terms.new)) result
+        (behind_one RightParen listed_forms (token_of paren.entry) terms.old) }
+{
+    let second = any(terms)?;
+    match second.sort {
+        Sort::Semicolon => Ok(done(Item::Nothing, second.line, Context::Body)),
+        Sort::Direction => Ok(done(Item::Refused(Code::V3), second.line, Context::Done)),
+        _ => Err(refused(second)),
+    }
+}
+
 /// Behind the name of a module.
 fn header<'a>(terms: &mut Terms<'a, Sort>) -> Result<FormRead<'a>, Refused>
     ensures { Reads (λ r. (whole_of r, terms.new)) result (first_form header_forms terms.old) }
@@ -129,14 +161,7 @@ fn header<'a>(terms: &mut Terms<'a, Sort>) -> Result<FormRead<'a>, Refused>
     let first = any(terms)?;
     match first.sort {
         Sort::Semicolon => Ok(done(Item::Nothing, first.line, Context::Body)),
-        Sort::LeftParen => {
-            let second = any(terms)?;
-            match second.sort {
-                Sort::Name => Ok(done(Item::Listed(second.text), second.line, Context::Listed)),
-                Sort::Direction => Ok(done(Item::Refused(Code::V3), second.line, Context::Done)),
-                _ => Err(refused(second)),
-            }
-        }
+        Sort::LeftParen => header_name(first, terms),
         Sort::Direction => Ok(done(Item::Refused(Code::V3), first.line, Context::Done)),
         _ => Err(refused(first)),
     }
@@ -148,22 +173,8 @@ fn listed<'a>(terms: &mut Terms<'a, Sort>) -> Result<FormRead<'a>, Refused>
 {
     let first = any(terms)?;
     match first.sort {
-        Sort::Comma => {
-            let second = any(terms)?;
-            match second.sort {
-                Sort::Name => Ok(done(Item::Listed(second.text), second.line, Context::Listed)),
-                Sort::Direction => Ok(done(Item::Refused(Code::V3), second.line, Context::Done)),
-                _ => Err(refused(second)),
-            }
-        }
-        Sort::RightParen => {
-            let second = any(terms)?;
-            match second.sort {
-                Sort::Semicolon => Ok(done(Item::Nothing, second.line, Context::Body)),
-                Sort::Direction => Ok(done(Item::Refused(Code::V3), second.line, Context::Done)),
-                _ => Err(refused(second)),
-            }
-        }
+        Sort::Comma => header_name(first, terms),
+        Sort::RightParen => header_end(first, terms),
         Sort::Direction => Ok(done(Item::Refused(Code::V3), first.line, Context::Done)),
         _ => Err(refused(first)),
     }
@@ -338,6 +349,27 @@ fn bit_given<'a>(terms: &mut Terms<'a, Sort>) -> Result<FormRead<'a>, Refused>
     Ok(done(Item::Nothing, paren.line, Context::Connected))
 }
 
+/// Behind the `,` of a pin.
+fn further_pin<'a>(
+    comma: Term<'a, Sort>,
+    terms: &mut Terms<'a, Sort>,
+) -> Result<FormRead<'a>, Refused>
+    ensures { Reads (λ r. (whole_of r, terms.new)) result
+        (behind_one Comma connected_forms (token_of comma.entry) terms.old) }
+{
+    let second = any(terms)?;
+    match second.sort {
+        Sort::Dot => {
+            let name = expect(Sort::Name, terms)?;
+            Ok(done(Item::Pin(name.text), name.line, Context::Pin))
+        }
+        Sort::Name | Sort::Constant | Sort::LeftBrace => {
+            Ok(done(Item::Refused(Code::V3), second.line, Context::Done))
+        }
+        _ => Err(refused(second)),
+    }
+}
+
 /// Behind the `)` of a pin.
 fn connected<'a>(terms: &mut Terms<'a, Sort>) -> Result<FormRead<'a>, Refused>
     ensures { Reads (λ r. (whole_of r, terms.new)) result (first_form connected_forms terms.old) }
@@ -345,19 +377,7 @@ fn connected<'a>(terms: &mut Terms<'a, Sort>) -> Result<FormRead<'a>, Refused>
     let first = any(terms)?;
     match first.sort {
         Sort::RightParen => Ok(done(Item::InstanceEnds, first.line, Context::Closed)),
-        Sort::Comma => {
-            let second = any(terms)?;
-            match second.sort {
-                Sort::Dot => {
-                    let name = expect(Sort::Name, terms)?;
-                    Ok(done(Item::Pin(name.text), name.line, Context::Pin))
-                }
-                Sort::Name | Sort::Constant | Sort::LeftBrace => {
-                    Ok(done(Item::Refused(Code::V3), second.line, Context::Done))
-                }
-                _ => Err(refused(second)),
-            }
-        }
+        Sort::Comma => further_pin(first, terms),
         _ => Err(refused(first)),
     }
 }
