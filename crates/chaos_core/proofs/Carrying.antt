@@ -17,7 +17,7 @@ use Rattle.xt_meaning.proofs.Steps.{bound_refl}
 use Rattle.xt_meaning.proofs.Numbers.{past_numbers}
 use Rattle.net_eval.specs.ReadLists.{AreReadLists}
 use Rattle.chaos_core.specs.declared.setting.Setting.{Setting}
-use Rattle.chaos_core.specs.Boards.{nets_of}
+use Rattle.chaos_core.specs.Boards.{nets_of, Knowledge}
 use Rattle.chaos_core.specs.Tasks.{Task, idle, loading, publishing, done}
 use Rattle.chaos_core.specs.Steps.{Fits}
 use Rattle.chaos_core.specs.Runs.{IsDone, HasPassed}
@@ -63,6 +63,30 @@ picks_gone a lists order before (suc n) p q are o h gone =
     let one = gone_on a lists order before m.state are o so_far h.2.pick h.2.picked.inside in
     subst (HasGone a lists order before) (sym h.2.state) one
 
+-- ---- all words
+-- where the words of every net are at or past what the operator makes of the words before, all words are
+pub all_words : (k l : Knowledge) → length l.seen ≡ 8 * nets_of k.setting → ((net : ℕ) → net < nets_of k.setting → HasPassed k l net 8)
+    → AreNoFurther k.setting.way (onward k.setting.design (bounds_in k.seen)) (bounds_in l.seen)
+all_words k l count passed word =
+    let a = k.setting in
+    let d = a.design in
+    let f = bounds_in k.seen in
+    let W = quads_of f in
+    let net = word / 8 in
+    elim (cases_lt net (nets_of a)) [
+      | inl p ↦
+          let i = word % 8 in
+          let h = passed net p i (omega arith) in
+          let e : 8 * net + i ≡ word = omega arith in
+          let par : i % 2 ≡ word % 2 = omega arith in
+          subst (λ s. IsBoundNoFurther a.way s (onward d f word) (bounds_in l.seen word)) par
+          (subst (λ w. IsBoundNoFurther a.way (i % 2) (onward d f w) (bounds_in l.seen w)) e h)
+      | inr p ↦
+          let none : onward d f word ≡ words_of (assigned []) word = ap (λ (q : Quad). side_of q (word % 4)) (past_bottom d (overlap_answers d.period W) W net (edge_of (word / 4 % 2)) p) in
+          let past : bounds_in l.seen word ≡ words_of (assigned []) word = past_numbers l.seen word (omega (arith, count, p)) in
+          subst (λ b. IsBoundNoFurther a.way (word % 2) (onward d f word) b) (none ∙ sym past) (bound_refl a.way (word % 2) (onward d f word))
+    ]
+
 -- ---- the end
 done_each : (tasks : List Task) → All IsDone tasks → (w : ℕ) → IsDone (get_or tasks w done)
 done_each [] all w = tt
@@ -89,25 +113,7 @@ module _ (a : Setting) (lists : List (List NetId)) (order : List ℕ) (before no
       ]
 
   pub all_passed : AreNoFurther a.way (onward a.design (bounds_in before.words)) (bounds_in now.words)
-  all_passed word =
-      let d = a.design in
-      let f = bounds_in before.words in
-      let W = quads_of f in
-      let net = word / 8 in
-      elim (cases_lt net (nets_of a)) [
-        | inl p ↦
-            let i = word % 8 in
-            let h = net_passed net p i (omega arith) in
-            let e : 8 * net + i ≡ word = omega arith in
-            let par : i % 2 ≡ word % 2 = omega arith in
-            subst (λ s. IsBoundNoFurther a.way s (onward d f word) (bounds_in now.words word)) par
-            (subst (λ w. IsBoundNoFurther a.way (i % 2) (onward d f w) (bounds_in now.words w)) e h)
-        | inr p ↦
-            let none : onward d f word ≡ words_of (assigned []) word = ap (λ (q : Quad). side_of q (word % 4)) (past_bottom d (overlap_answers d.period W) W net (edge_of (word / 4 % 2)) p) in
-            let c = gone.good.words.seen.count in
-            let past : bounds_in now.words word ≡ words_of (assigned []) word = past_numbers now.words word (omega (arith, c, p)) in
-            subst (λ b. IsBoundNoFurther a.way (word % 2) (onward d f word) b) (none ∙ sym past) (bound_refl a.way (word % 2) (onward d f word))
-      ]
+  all_passed = all_words (known_in a before) (known_in a now) gone.good.words.seen.count net_passed
 
 pub round_carries : (a : Setting) (lists : List (List NetId)) (order : List ℕ) (workers : ℕ) (p q : Pause) → 0 < workers → AreReadLists a.design lists → IsOrder a.design.nets order → AreKept a p.words
     → IsRound a lists order workers p q → HasCarried a p.words q.words

@@ -11,13 +11,13 @@ pub mod Kept
 mod Numbered
 mod Actions
 mod Passing
-mod Carrying
+pub mod Carrying
 mod Picks
 mod Countdown
-mod Starting
+pub mod Starting
 mod Turns
 mod Workers
-mod Chained
-mod Settling
+pub mod Chained
+pub mod Settling
 mod OnlyWorker
 mod LookLaws

@@ -4,6 +4,7 @@
 
 mod alone;
 mod board;
+mod gate;
 mod laws;
 mod loaded;
 mod look;
@@ -18,7 +19,9 @@ mod words;
 mod worker;
 
 pub use board::Board;
+pub use gate::{Gate, MeetGate, OpenGate};
 pub use laws::{rounds_carry, schedules_keep};
+pub use loaded::bound_of;
 pub use memory::MemoryBoard;
 pub use run::run_worker;
 pub use schedule::run_schedule;
