@@ -4,7 +4,7 @@ ghost use Rattle.std.specs.Prelude.{◌≡◌, ◌+◌, ◌*◌, ◌%◌, ◌<�
 ghost use Rattle.xt_model.specs.Limits.{most_workers};
 ghost use Rattle.xt_meaning.specs.Barrier.{IsFittingStart};
 ghost use Rattle.xt_meaning.specs.Words.{MovesDown, MovesUp};
-ghost use Rattle.chaos_core.specs.Boards.{nets_of, CanPublish};
+ghost use Rattle.chaos_core.specs.Boards.{nets_of, CanPublish, IsSeen};
 ghost use Rattle.window_words.specs.Views.{first_view, begun_anew, with_one_out, sent_out, with_both};
 ghost use Rattle.window_words.specs.Boards.{knowledge_of, late_of, IsAlone, IsFirst, IsOf, IsSplitOff};
 ghost use Rattle.window_words.specs.Steps.{Loaded, Published, Drew};
@@ -51,6 +51,18 @@ impl Model for Pass {
     ghost view = { λ p. record { table = p.seat.table_id; view = p.seat.me.0 } };
 
     ghost invariant = { λ p. IsHeld p.seat.table_id p.seat.me };
+}
+
+impl Pass {
+    ghost use Rattle.chaos_core.specs.Boards.{IsSeen};
+
+    /// A law, the clause of a call that does nothing: what a pass has seen crosses no barrier and is at or past the
+    /// start, which fits.
+    pub fn respects(&self)
+        ensures { IsSeen self.now.view.setting self.now.view.seen }
+    {
+        let _seat = &self.seat;
+    }
 }
 
 impl SharedBoard {
@@ -164,7 +176,7 @@ impl SharedBoard {
         Pass { seat }
     }
 
-    /// Takes a pass back: the first then knows what both knew.
+    /// Takes a pass back: the first then knows what both knew. What each has seen crosses no barrier.
     pub fn join(&self, first: &mut Pass, other: Pass)
         requires own { IsOf self.now first.old }
         requires first { IsFirst first.old }
@@ -172,6 +184,8 @@ impl SharedBoard {
         requires other { IsSplitOff other }
         ensures own { IsOf self.now first.new }
         ensures view { first.new.view ≡ with_both first.old.view other.view }
+        ensures seen { IsSeen first.old.view.setting first.old.view.seen }
+        ensures seen_other { IsSeen other.view.setting other.view.seen }
     {
         let Pass { seat } = other;
         self.table
