@@ -1,0 +1,6 @@
+mod Drawn
+mod Taken
+mod Parts
+mod Carried
+mod Looked
+mod Turned

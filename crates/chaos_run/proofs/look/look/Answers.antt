@@ -1,0 +1,36 @@
+use Rattle.std.proofs.Common.{refl, subst, ◌∙◌, arith}
+use Rattle.net_eval.proofs.Steady.{steady_all}
+use Rattle.chaos_core.specs.declared.setting.Setting.{Setting}
+use Rattle.chaos_core.specs.Memories.{AreKept}
+use Rattle.chaos_core.proofs.Starting.{kept_fits}
+use Rattle.chaos_core.proofs.Settling.{closed_from, steady_from, fits_under}
+use Rattle.window_words.specs.declared.view.View.{View}
+use Rattle.chaos_run.proofs.look.look.Goals as goal
+
+pub closed_by-requires-clause-within : goal.closed_by-requires-clause-within
+closed_by-requires-clause-within g c = λ _ _.
+    let a = c.args.board.now.setting in
+    let v : View = c.args.first.now.view in
+    let base = kept_fits v.setting v.seen c.load_all.new.windows c.load_all.ensures.kept c.load_all.ensures.numbers c.load_all.ensures.range in
+    (fits_under a v.setting c.args.design.now a.way c.load_all.new.windows c.requires.own.setting c.requires.design refl base).within
+
+pub returns-clause-fits : goal.returns-clause-fits
+returns-clause-fits g c =
+    let a = c.args.board.now.setting in
+    let v : View = c.args.first.now.view in
+    let base = kept_fits v.setting v.seen c.load_all.new.windows c.load_all.ensures.kept c.load_all.ensures.numbers c.load_all.ensures.range in
+    fits_under a v.setting c.args.design.now a.way c.load_all.new.windows c.requires.own.setting c.requires.design refl base
+
+pub returns-clause-kept : goal.returns-clause-kept
+returns-clause-kept g c = subst (λ (a : Setting). AreKept a c.args.first.now.view.seen) c.requires.own.setting c.load_all.ensures.kept
+
+pub returns-clause-closed : goal.returns-clause-closed
+returns-clause-closed g c =
+    let d = c.args.design.now in
+    let words = c.args.first.now.view.seen in
+    let v = c.load_all.new.windows in
+    let range = c.load_all.ensures.range in
+    let is = c.load_all.ensures.numbers in (
+      λ t. closed_from d words v range is (steady_all d v (c.load_all.ensures.count ∙ c.requires.count) (λ n h. c.closed_by.ensures.0 t n (omega arith) (rw c.nets.ensures.value h))),
+      λ k. c.closed_by.ensures.1 (λ n low high. record { fixed = λ e. steady_from d words v range is k n e }),
+    )

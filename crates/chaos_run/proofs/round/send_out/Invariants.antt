@@ -1,0 +1,17 @@
+use Rattle.std.proofs.Common.{◌≡◌, ◌+◌, length}
+use Rattle.std.specs.List.{All}
+use Rattle.window_words.specs.Boards.{IsOf}
+use Rattle.chaos_run.specs.Rounds.{with_out, IsSent, AreRoomy}
+use Rattle.chaos_run.proofs.round.send_out.Given as goal
+
+abbrev pub invariant-passes : goal.invariant-passes
+invariant-passes g l = record {
+  own : IsOf l.run.board.now l.first;
+  view : l.first.view ≡ with_out l.initial.first.view (length l.workers.seated.items);
+  count : length l.workers.idle.items + length l.workers.seated.items ≡ length l.initial.workers.idle.items;
+  sent : All (IsSent l.run.lists.now l.initial.first) l.workers.seated.items;
+  roomy : AreRoomy l.run.lists.now l.workers;
+}
+
+abbrev pub decreases-passes : goal.decreases-passes
+decreases-passes g l = length l.workers.idle.items

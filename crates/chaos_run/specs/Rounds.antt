@@ -1,0 +1,75 @@
+-- Rounds of workers in threads of their own, on one board.
+use Rattle.std.specs.Prelude.{◌≡◌, ℕ, ◌+◌, ◌≤◌, List, [], length, vec_capacity}
+use Rattle.std.specs.List.{All}
+use Rattle.xt_model.specs.declared.direction.Direction.{Direction}
+use Rattle.xt_model.specs.declared.net.NetId.{NetId}
+use Rattle.xt_model.specs.Parts.{Parts}
+use Rattle.xt_model.specs.Levels.{IsOrder}
+use Rattle.net_eval.specs.ReadLists.{AreReadLists}
+use Rattle.chaos_core.specs.Runs.{Ran}
+use Rattle.chaos_core.specs.Memories.{AreKept}
+use Rattle.chaos_core.specs.Rounds.{HasRoom}
+use Rattle.window_words.specs.declared.view.View.{View}
+use Rattle.window_words.specs.Views.{times, sent_out}
+use Rattle.window_words.specs.Rule.{once_below}
+use Rattle.window_words.specs.Boards.{BoardId, Holding, IsOf, knowledge_of}
+use Rattle.chaos_run.specs.declared.workers.SeatedWorker.{SeatedWorker}
+use Rattle.chaos_run.specs.declared.workers.Workers.{Workers}
+
+-- a board whose words are of this design and run this way, and the design's read lists
+pub record IsRun (board : BoardId) (d : Parts) (lists : List (List NetId)) (direction : Direction) : Type 0 where
+  pub design : board.setting.design ≡ d
+  pub way : board.setting.way ≡ direction
+  pub whole : AreReadLists d lists
+
+-- there is room for the passes of all workers, and each idle one has room for the words of the longest read list
+pub record AreRoomy (lists : List (List NetId)) (workers : Workers) : Type 0 where
+  pub all : length workers.idle.items + length workers.seated.items ≤ vec_capacity workers.idle
+  pub passes : length workers.idle.items + length workers.seated.items ≤ vec_capacity workers.seated
+  pub rooms : All (HasRoom lists) workers.idle.items
+
+-- between two rounds no worker has a pass
+pub record AreIdle (lists : List (List NetId)) (workers : Workers) : Type 0 where
+  pub roomy : AreRoomy lists workers
+  pub none : workers.seated.items ≡ []
+
+-- v with so many more passes out
+abbrev pub with_out : View → ℕ → View
+with_out v count = record v { out = v.out + count; split = v.split + count }
+
+-- a pass that the first can send out
+abbrev pub sent_of : Holding → Holding
+sent_of first = record { table = first.table; view = sent_out first.view }
+
+-- a worker with a pass that was just split off
+pub record IsSent (lists : List (List NetId)) (first : Holding) (w : SeatedWorker) : Type 0 where
+  pub pass : w.seated.pass ≡ sent_of first
+  pub room : HasRoom lists w.worker
+
+-- a worker with a pass of a board, by which nothing was drawn
+pub record IsReady (board : BoardId) (lists : List (List NetId)) (w : SeatedWorker) : Type 0 where
+  pub own : IsOf board w.seated.pass
+  pub fresh : w.seated.pass.view.drawn ≡ []
+  pub room : HasRoom lists w.worker
+
+-- from v to w a worker drew and worked until it was done
+pub record HasRun (board : BoardId) (d : Parts) (lists : List (List NetId)) (v w : SeatedWorker) : Type 0 where
+  pub own : IsOf board w.seated.pass
+  pub ran : (order : List ℕ) → IsOrder d.nets order
+      → Ran order (knowledge_of v.seated.pass) (knowledge_of w.seated.pass)
+  pub room : HasRoom lists w.worker
+
+-- a worker with a pass that was sent out by the first, and by which it ran
+pub record IsBack (board : BoardId) (d : Parts) (lists : List (List NetId)) (first : Holding) (w : SeatedWorker)
+    : Type 0 where
+  pub own : IsOf board w.seated.pass
+  pub ran : (order : List ℕ) → IsOrder d.nets order
+      → Ran order (knowledge_of (sent_of first)) (knowledge_of w.seated.pass)
+  pub room : HasRoom lists w.worker
+
+-- what the first pass knows while none is out, once it has loaded a word: what it has seen is what the words hold, so
+-- it is no further than what the operator makes of it; and the drawn numbers are those below some number, each once
+pub record IsRested (v : View) : Type 0 where
+  pub kept : AreKept v.setting v.seen
+  pub next : ℕ
+  pub drawn : (x : ℕ) → times x v.drawn ≡ once_below next x

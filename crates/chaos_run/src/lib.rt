@@ -1,0 +1,11 @@
+//! Whole runs of workers in threads of their own, over words that they share.
+#![tactic(auto)]
+
+mod both;
+mod look;
+mod round;
+mod settling;
+mod workers;
+
+pub use both::{Both, run_both};
+pub use settling::settle;

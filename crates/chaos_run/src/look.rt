@@ -1,0 +1,171 @@
+//! A look at all words of a board: the windows that stand in them, and whether the operator gives these back.
+
+ghost use Rattle.std.specs.Prelude.{◌≡◌, ◌↔◌, ℕ, ◌+◌, ◌*◌, ◌<◌, ◌≤◌, length, IsTrue};
+ghost use Rattle.std.specs.List.{All};
+ghost use Rattle.std.specs.Thread.{IsSync};
+ghost use Rattle.xt_model.specs.declared.edge.Edge.{Edge};
+ghost use Rattle.xt_model.specs.Limits.{most_nets};
+ghost use Rattle.xt_model.specs.Quads.{IsBound, IsInRange, IsPairInRange, quad_at};
+ghost use Rattle.xt_model.specs.Assign.{quads_of};
+ghost use Rattle.xt_meaning.specs.Barrier.{IsFittingStart, IsWithinEnvelope};
+ghost use Rattle.xt_meaning.specs.Words.{bounds_in, numbers_of};
+ghost use Rattle.net_eval.specs.Closing.{IsSteadyAt};
+ghost use Rattle.chaos_core.specs.Boards.{nets_of};
+ghost use Rattle.chaos_core.specs.Memories.{AreKept};
+ghost use Rattle.chaos_core.specs.Rounds.{AreClosed};
+ghost use Rattle.window_words.specs.Boards.{IsAlone, IsOf};
+ghost use Rattle.chaos_run.specs.Rounds.{IsRested};
+ghost use Rattle.chaos_run.specs.Looks.{quad_from};
+
+use chaos_core::bound_of;
+use net_eval::closed_part;
+use std::thread::{Threads, join};
+use window_words::{Pass, SharedBoard};
+use xt_model::{Design, Pair, Quad, Windows};
+
+/// The bound in a word.
+fn load_bound(board: &SharedBoard, first: &mut Pass, word: usize) -> i64
+    requires own { IsOf board.now first.old }
+    requires alone { IsAlone first.old.view }
+    requires word { word < 8 * nets_of first.old.view.setting }
+    ensures own { IsOf board.now first.new }
+    ensures view { first.new.view ≡ first.old.view }
+    ensures bound { result ≡ bounds_in first.old.view.seen word }
+    ensures range { IsBound result }
+    ensures rested { IsRested first.old.view }
+{
+    bound_of(board.load(first, word))
+}
+
+/// The window whose four words begin at a word.
+fn load_quad(board: &SharedBoard, first: &mut Pass, from: usize) -> Quad
+    requires own { IsOf board.now first.old }
+    requires alone { IsAlone first.old.view }
+    requires words { from + 4 ≤ 8 * nets_of first.old.view.setting }
+    ensures own { IsOf board.now first.new }
+    ensures view { first.new.view ≡ first.old.view }
+    ensures quad { result ≡ quad_from (bounds_in first.old.view.seen) from }
+    ensures range { IsInRange result }
+    ensures rested { IsRested first.old.view }
+{
+    Quad {
+        tlo: load_bound(board, first, from),
+        thi: load_bound(board, first, from + 1),
+        slo: load_bound(board, first, from + 2),
+        shi: load_bound(board, first, from + 3),
+    }
+}
+
+/// The windows of a net.
+fn load_pair(board: &SharedBoard, first: &mut Pass, net: usize) -> Pair
+    requires own { IsOf board.now first.old }
+    requires alone { IsAlone first.old.view }
+    requires few { nets_of first.old.view.setting ≤ most_nets }
+    requires net { net < nets_of first.old.view.setting }
+    ensures own { IsOf board.now first.new }
+    ensures view { first.new.view ≡ first.old.view }
+    ensures pair { (e : Edge) → quad_at result e ≡ quads_of (bounds_in first.old.view.seen) net e }
+    ensures range { IsPairInRange result }
+    ensures rested { IsRested first.old.view }
+{
+    Pair {
+        rise: load_quad(board, first, 8 * net),
+        fall: load_quad(board, first, 8 * net + 4),
+    }
+}
+
+/// Gives each net the windows that stand in its words.
+fn load_all(board: &SharedBoard, first: &mut Pass, windows: &mut Windows)
+    requires own { IsOf board.now first.old }
+    requires alone { IsAlone first.old.view }
+    requires count { length windows.old ≡ nets_of first.old.view.setting }
+    ensures own { IsOf board.now first.new }
+    ensures view { first.new.view ≡ first.old.view }
+    ensures count { length windows.new ≡ length windows.old }
+    ensures numbers { numbers_of windows.new ≡ first.old.view.seen }
+    ensures range { All IsPairInRange windows.new }
+    ensures kept { AreKept first.old.view.setting first.old.view.seen }
+    ensures rested { 0 < nets_of first.old.view.setting → IsRested first.old.view }
+{
+    // What the first has seen, where there is no word to load.
+    first.respects();
+    for net in 0..windows.pairs().len() {
+        let pair = load_pair(board, first, net);
+        windows.set(net, pair);
+    }
+}
+
+/// So many shares of a count, of `shares` in all.
+fn part(count: u32, some: u32, shares: u32) -> u32
+    requires some { some ≤ shares }
+    requires shares { 0 < shares }
+    ensures { result ≤ count }
+{
+    (u64::from(count) * u64::from(some) / u64::from(shares)) as u32
+}
+
+/// Whether the operator gives the windows back at each net from number `from` to before number `to`. Each of so many
+/// threads decides it of a share of the nets.
+fn closed_by<R: Threads + Sync>(
+    rt: &R,
+    design: &Design,
+    windows: &Windows,
+    from: u32,
+    to: u32,
+    shares: u32,
+) -> bool
+    requires count { length windows.now ≡ length design.now.nets }
+    requires within { IsWithinEnvelope design.now windows.now }
+    requires order { from ≤ to }
+    requires end { to ≤ length design.now.nets }
+    ensures { IsTrue result ↔ ((n : ℕ) → from ≤ n → n < to → IsSteadyAt design.now windows.now n) }
+{
+    if shares <= 1 {
+        return closed_part(design, windows, from, to);
+    }
+    let some = shares / 2;
+    let rest = shares - some;
+    let middle = from + part(to - from, some, shares);
+    let (left, right) = join(
+        rt,
+        move || -> bool
+            requires { IsSync R.row × (length windows.now ≡ length design.now.nets)
+                × IsWithinEnvelope design.now windows.now × (from ≤ middle) × (middle ≤ length design.now.nets) }
+            ensures { IsTrue result ↔ ((n : ℕ) → from ≤ n → n < middle
+                → IsSteadyAt design.entry.now windows.entry.now n) }
+        { closed_by(rt, design, windows, from, middle, some) },
+        move || -> bool
+            requires { IsSync R.row × (length windows.now ≡ length design.now.nets)
+                × IsWithinEnvelope design.now windows.now × (middle ≤ to) × (to ≤ length design.now.nets) }
+            ensures { IsTrue result ↔ ((n : ℕ) → middle ≤ n → n < to
+                → IsSteadyAt design.entry.now windows.entry.now n) }
+        { closed_by(rt, design, windows, middle, to, rest) },
+    );
+    left && right
+}
+
+/// Loads each word by the first pass into the windows, and decides whether the words are closed, by so many threads.
+/// Takes no memory.
+pub(crate) fn look<R: Threads + Sync>(
+    rt: &R,
+    board: &SharedBoard,
+    first: &mut Pass,
+    design: &Design,
+    windows: &mut Windows,
+    shares: u32,
+) -> bool
+    requires own { IsOf board.now first.old }
+    requires alone { IsAlone first.old.view }
+    requires design { board.now.setting.design ≡ design.now }
+    requires count { length windows.old ≡ length design.now.nets }
+    ensures own { IsOf board.now first.new }
+    ensures view { first.new.view ≡ first.old.view }
+    ensures numbers { numbers_of windows.new ≡ first.old.view.seen }
+    ensures fits { IsFittingStart board.now.setting.way design.now windows.new }
+    ensures kept { AreKept board.now.setting first.old.view.seen }
+    ensures rested { 0 < length design.now.nets → IsRested first.old.view }
+    ensures closed { IsTrue result ↔ AreClosed design.now first.old.view.seen }
+{
+    load_all(board, first, windows);
+    closed_by(rt, design, windows, 0, design.nets().len() as u32, shares)
+}

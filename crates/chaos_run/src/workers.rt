@@ -1,0 +1,50 @@
+//! What a run is over, and its workers.
+
+ghost use Rattle.std.specs.Prelude.{◌≡◌, ◌≤◌, length, IfOk};
+ghost use Rattle.xt_model.specs.Limits.{most_workers};
+ghost use Rattle.chaos_run.specs.Rounds.{AreIdle};
+
+use chaos_core::Worker;
+use net_eval::ReadLists;
+use std::alloc::Global;
+use window_words::{Seated, SharedBoard};
+use xt_model::{Design, Direction, NoMemory};
+
+/// What the workers of a run work on, and the gate that each of them passes before it draws.
+#[derive(Drop)]
+pub(crate) struct Run<'a, G> {
+    pub(crate) board: &'a SharedBoard,
+    pub(crate) design: &'a Design,
+    pub(crate) lists: &'a ReadLists,
+    pub(crate) direction: Direction,
+    pub(crate) gate: &'a G,
+}
+
+/// A worker at the board, by a pass of its own.
+#[derive(Drop)]
+pub(crate) struct SeatedWorker<'a> {
+    pub(crate) seated: Seated<'a>,
+    pub(crate) worker: Worker,
+}
+
+/// The workers of a run, with room for the passes of all. Between two rounds all are idle.
+#[derive(Drop)]
+pub(crate) struct Workers<'a> {
+    pub(crate) idle: Vec<Worker>,
+    pub(crate) seated: Vec<SeatedWorker<'a>>,
+}
+
+impl<'a> Workers<'a> {
+    /// So many idle workers. No round takes memory after this.
+    pub(crate) fn new(alloc: Global, lists: &ReadLists, count: u32) -> Result<Workers<'a>, NoMemory>
+        ensures idle { IfOk result (λ workers. AreIdle lists.now workers) }
+        ensures count { IfOk result (λ workers. length workers.idle.items ≡ count) }
+    {
+        let seated = Vec::with_capacity(alloc, count as usize)?;
+        let mut idle = Vec::with_capacity(alloc, count as usize)?;
+        for _number in 0..count {
+            idle.push(Worker::new(alloc, lists)?)?;
+        }
+        Ok(Workers { idle, seated })
+    }
+}
