@@ -79,7 +79,7 @@ one_outcome words content known = go (job_of words) (job_rises words) (job_count
     go None rising counts known o p a b = agree_as o p _ _ a b refl
     go (Some (Solve job)) rising counts known o p a b = one_of_text job.file job.miller job.kind content rising known o p a b
     go (Some (Replay job)) rising counts known o p a b = one_of_text job.file job.miller All content rising known o p a b
-    go (Some (Gen job)) rising counts known o p a b = one_of_gen job counts o p a b
+    go (Some (Gen job)) rising counts known o p a b = one_of_gen job counts.0 o p a b
     go (Some (Report job)) rising counts known o p a b =
         one_of_block job.files content (λ d. DesignMeans job.kind (counted_by job.miller d)) known (λ d s. one_of_design job.kind (counted_by job.miller d) (counted_sound job.miller d rising s)) o p a b
     go (Some (Link job)) rising counts known o p a b =

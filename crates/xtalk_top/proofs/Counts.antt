@@ -37,11 +37,11 @@ job_counts (word ∷ rest) = by_name (command_named word)
   where
     by_items : (name : CommandName) (items : Option (List Item)) → IfSome (option_and_then (λ is. Some (job_for name (value_of is))) items) HasCount
     by_items name None = tt
-    by_items command.Report (Some items) = tt
+    by_items command.Report (Some items) = given_workers (value_of items (codes "workers"))
     by_items command.Link (Some items) = tt
-    by_items command.Solve (Some items) = tt
+    by_items command.Solve (Some items) = given_workers (value_of items (codes "workers"))
     by_items command.Replay (Some items) = given_workers (value_of items (codes "workers"))
-    by_items command.Gen (Some items) = given_counts (value_of items (codes "nets"))
+    by_items command.Gen (Some items) = (given_counts (value_of items (codes "nets")), given_workers (value_of items (codes "workers")))
 
     by_name : (name : Option CommandName) → IfSome (option_and_then (λ n. option_and_then (λ is. Some (job_for n (value_of is))) (given_of (form_of_command n) rest)) name) HasCount
     by_name None = tt

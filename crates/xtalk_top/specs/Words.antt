@@ -104,6 +104,16 @@ text_or_empty text = unwrap_or text []
 abbrev pub number_or_one : Option Text → ℕ
 number_or_one text = unwrap_or (option_and_then (number_of 32) text) 1
 
+-- so many workers can make a run
+pub record IsWorkerCount (workers : ℕ) : Type 0 where
+  pub some : 1 ≤ workers
+  pub most : workers ≤ most_workers
+
+-- the count of workers, where it is one that a run can have; no other is of the form
+abbrev pub workers_or_one : Option Text → ℕ
+workers_or_one text =
+    if nat_le 1 (number_or_one text) && nat_le (number_or_one text) most_workers then number_or_one text else 1
+
 -- the report that is given, or the whole one
 abbrev pub kind_or_all : Option Text → ReportKind
 kind_or_all None = All
@@ -127,7 +137,7 @@ block_files given = record {
 abbrev pub report_job : (Text → Option Text) → ReportJob
 report_job given = record {
   files = block_files given;
-  workers = number_or_one (given (codes "workers"));
+  workers = workers_or_one (given (codes "workers"));
   kind = kind_or_all (given (codes "kind"));
   miller = miller_or_none (given (codes "miller"));
 }
@@ -140,7 +150,7 @@ link_job given = record { files = block_files given; miller = miller_or_none (gi
 abbrev pub solve_job : (Text → Option Text) → SolveJob
 solve_job given = record {
   file = text_or_empty (given (codes "file"));
-  workers = number_or_one (given (codes "workers"));
+  workers = workers_or_one (given (codes "workers"));
   kind = kind_or_all (given (codes "kind"));
   miller = miller_or_none (given (codes "miller"));
 }
@@ -148,16 +158,6 @@ solve_job given = record {
 -- the number that is given, or zero
 abbrev pub number_or_zero : Option Text → ℕ
 number_or_zero text = unwrap_or (option_and_then (number_of 64) text) 0
-
--- so many workers can make a run
-pub record IsWorkerCount (workers : ℕ) : Type 0 where
-  pub some : 1 ≤ workers
-  pub most : workers ≤ most_workers
-
--- the count of workers, where it is one that a run can have; no other is of the form
-abbrev pub workers_or_one : Option Text → ℕ
-workers_or_one text =
-    if nat_le 1 (number_or_one text) && nat_le (number_or_one text) most_workers then number_or_one text else 1
 
 -- a linked text to solve by so many workers in the order of this number, with its own Miller numbers unless others are
 -- given
@@ -179,7 +179,7 @@ abbrev pub gen_job : (Text → Option Text) → GenJob
 gen_job given = record {
   number = number_or_zero (given (codes "number"));
   nets = count_or_one (given (codes "nets"));
-  workers = number_or_one (given (codes "workers"));
+  workers = workers_or_one (given (codes "workers"));
 }
 
 abbrev pub job_for : CommandName → (Text → Option Text) → Job
@@ -199,8 +199,8 @@ job_of (word ∷ rest) = do
 
 -- a run can have the count of workers of the job, and a design be generated for its count of nets, where it says one
 abbrev pub HasCount : Job → Type 0
-HasCount (Report job) = Unit {0}
-HasCount (Solve job) = Unit {0}
+HasCount (Report job) = IsWorkerCount job.workers
+HasCount (Solve job) = IsWorkerCount job.workers
 HasCount (Replay job) = IsWorkerCount job.workers
 HasCount (Link job) = Unit {0}
-HasCount (Gen job) = IsCount job.nets
+HasCount (Gen job) = IsCount job.nets × IsWorkerCount job.workers

@@ -7,27 +7,31 @@ ghost use Rattle.xtalk_top.specs.Words.{IsWorkerCount};
 ghost use Rattle.xtalk_top.specs.Outcome.{DesignMeans, prints};
 ghost use Rattle.xtalk_top.specs.Call.{IsStop};
 
-use crate::fixpoints::Picks;
+use crate::fixpoints::Runs;
 use crate::refusal::Stop;
 use crate::solution::solved;
+use chaos_core::Gate;
 use report_text::{ReportKind, write_report};
 use std::alloc::Global;
+use std::thread::Threads;
 use xt_model::{Design, NoMemory};
 
-/// The report of a design: of its least and its greatest windows, found by runs of these picks.
-pub fn report(
+/// The report of a design: of its least and its greatest windows.
+pub fn report<R: Threads + Sync, G: Gate>(
+    rt: &R,
     alloc: Global,
+    gate: &G,
     design: &Design,
     kind: ReportKind,
-    picks: Picks,
+    runs: Runs,
 ) -> Result<Vec<u8>, Stop>
     requires sound { IsSound design.now }
     requires levelled { AreLevelled design.now.nets }
-    requires workers { IsWorkerCount picks.workers }
+    requires workers { IsWorkerCount runs.workers }
     ensures ok { IfOk result (λ text. DesignMeans kind design.now (prints text.items)) }
     ensures stop { IfErr result (IsStop (DesignMeans kind design.now) (λ _. ⊥)) }
 {
-    let found = solved(alloc, design, picks)?;
+    let found = solved(rt, alloc, gate, design, runs)?;
     match write_report(alloc, design, &found.low, &found.high, kind) {
         Ok(text) => Ok(text),
         Err(NoMemory) => Err(Stop::NoMemory),

@@ -1,29 +1,26 @@
 ghost use Rattle.std.specs.Prelude.{IfOk};
-ghost use Rattle.xt_model.specs.declared.direction.Direction.TheVariants.{Narrow, Widen};
+ghost use Rattle.xt_model.specs.declared.direction.Direction.TheVariants.{Narrow};
 ghost use Rattle.xt_meaning.specs.Barrier.{IsFittingStart};
 ghost use Rattle.xt_meaning.specs.Fixpoint.{IsLeastFixpoint, IsGreatestFixpoint};
 ghost use Rattle.net_eval.specs.ReadLists.{AreReadLists};
 ghost use Rattle.xtalk_top.specs.Words.{IsWorkerCount};
 
-use chaos_core::settle_picked;
+use chaos_core::{Gate, settle_picked};
+use chaos_run::run_both;
 use envelope::quiet;
 use net_eval::{ReadLists, read_lists};
 use std::alloc::Global;
+use std::thread::Threads;
 use xt_model::{Design, Direction, NoMemory, Windows};
 
-/// Which worker makes a step when: how many workers a run has, from 1 to 64, and the number from which its source picks
-/// them.
+/// How a design is solved, by so many workers, from 1 to 64. Where a number is given for their picks, they take turns
+/// on this thread, as a source that starts at the number picks them. Otherwise several run in threads of their own and
+/// pass a gate in each round; one alone runs in this thread and passes none.
 #[derive(Debug, Clone, Copy)]
-pub struct Picks {
+pub struct Runs {
     pub workers: u32,
-    pub number: u64,
+    pub picks: Option<u64>,
 }
-
-/// One worker, which is the one that any number picks.
-pub const ONE_WORKER: Picks = Picks {
-    workers: 1,
-    number: 0,
-};
 
 /// The least and the greatest windows of a design.
 #[derive(Debug, Drop)]
@@ -32,47 +29,51 @@ pub struct Fixpoints {
     pub high: Windows,
 }
 
-/// Runs twice, each time by these picks from their number on: wider from windows in which nothing switches, and
-/// narrower from `top`, the envelope.
-pub fn least_and_greatest(
+// The windows in which runs in threads end.
+fn in_threads<R: Threads + Sync, G: Gate>(
+    rt: &R,
     alloc: Global,
+    gate: &G,
     design: &Design,
-    top: Windows,
-    picks: Picks,
+    lists: &ReadLists,
+    top: &Windows,
+    workers: u32,
 ) -> Result<Fixpoints, NoMemory>
-    requires start { IsFittingStart Narrow design.now top }
-    requires workers { IsWorkerCount picks.workers }
+    requires top { IsFittingStart Narrow design.now top.now }
+    requires lists { AreReadLists design.now lists.now }
+    requires workers { IsWorkerCount workers }
     ensures least { IfOk result (λ found. IsLeastFixpoint design.now found.low) }
     ensures greatest { IfOk result (λ found. IsGreatestFixpoint design.now found.high) }
 {
-    let lists = read_lists(alloc, design)?;
-    let bottom = quiet(alloc, design)?;
-    both_runs(alloc, design, &lists, &bottom, &top, picks)
+    let found = run_both(rt, alloc, design, lists, top, workers, gate)?;
+    Ok(Fixpoints {
+        low: found.low,
+        high: found.high,
+    })
 }
 
-// What a run makes of each of two starts: wider from `bottom`, and narrower from `top`.
-fn both_runs(
+// The windows in which picked runs end.
+fn by_picks(
     alloc: Global,
     design: &Design,
     lists: &ReadLists,
-    bottom: &Windows,
     top: &Windows,
-    picks: Picks,
+    workers: u32,
+    number: u64,
 ) -> Result<Fixpoints, NoMemory>
-    requires lists { AreReadLists design.now lists.now }
-    requires bottom { IsFittingStart Widen design.now bottom.now }
     requires top { IsFittingStart Narrow design.now top.now }
-    requires workers { IsWorkerCount picks.workers }
+    requires lists { AreReadLists design.now lists.now }
+    requires workers { IsWorkerCount workers }
     ensures least { IfOk result (λ found. IsLeastFixpoint design.now found.low) }
     ensures greatest { IfOk result (λ found. IsGreatestFixpoint design.now found.high) }
 {
-    let Picks { workers, number } = picks;
+    let bottom = quiet(alloc, design)?;
     let low = settle_picked(
         alloc,
         design,
         lists,
         Direction::Widen,
-        bottom,
+        &bottom,
         workers,
         number,
     )?;
@@ -89,4 +90,26 @@ fn both_runs(
         low: low.windows,
         high: high.windows,
     })
+}
+
+/// Runs twice: wider from windows in which nothing switches, and narrower from `top`, the envelope.
+pub fn least_and_greatest<R: Threads + Sync, G: Gate>(
+    rt: &R,
+    alloc: Global,
+    gate: &G,
+    design: &Design,
+    top: &Windows,
+    runs: Runs,
+) -> Result<Fixpoints, NoMemory>
+    requires start { IsFittingStart Narrow design.now top.now }
+    requires workers { IsWorkerCount runs.workers }
+    ensures least { IfOk result (λ found. IsLeastFixpoint design.now found.low) }
+    ensures greatest { IfOk result (λ found. IsGreatestFixpoint design.now found.high) }
+{
+    let lists = read_lists(alloc, design)?;
+    let Runs { workers, picks } = runs;
+    match picks {
+        Some(number) => by_picks(alloc, design, &lists, top, workers, number),
+        None => in_threads(rt, alloc, gate, design, &lists, top, workers),
+    }
 }

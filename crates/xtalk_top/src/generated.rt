@@ -4,46 +4,64 @@ ghost use Rattle.std.specs.Prelude.{IfOk, IfErr};
 ghost use Rattle.xt_model.specs.Levels.{AreLevelled};
 ghost use Rattle.xt_model.specs.Sound.{IsSound};
 ghost use Rattle.design_gen.specs.Laws.{IsCount};
+ghost use Rattle.xtalk_top.specs.Words.{IsWorkerCount};
 ghost use Rattle.xtalk_top.specs.Outcome.{prints};
 ghost use Rattle.xtalk_top.specs.Call.{IsStop};
 ghost use Rattle.xtalk_top.specs.Gen.{GenMeans, SummaryMeans};
 
-use crate::fixpoints::ONE_WORKER;
+use crate::fixpoints::Runs;
 use crate::refusal::Stop;
 use crate::solution::solved;
 use crate::words::GenJob;
+use chaos_core::Gate;
 use design_gen::generate;
 use report_text::write_summary;
 use std::alloc::Global;
+use std::thread::Threads;
 use xt_model::{Design, NoMemory};
 
 /// The summary of a design: of its least and its greatest windows.
-fn summary(alloc: Global, design: &Design) -> Result<Vec<u8>, Stop>
+fn summary<R: Threads + Sync, G: Gate>(
+    rt: &R,
+    alloc: Global,
+    gate: &G,
+    design: &Design,
+    runs: Runs,
+) -> Result<Vec<u8>, Stop>
     requires sound { IsSound design.now }
     requires levelled { AreLevelled design.now.nets }
+    requires workers { IsWorkerCount runs.workers }
     ensures ok { IfOk result (λ text. SummaryMeans design.now (prints text.items)) }
     ensures stop { IfErr result (IsStop (SummaryMeans design.now) (λ _. ⊥)) }
 {
-    let found = solved(alloc, design, ONE_WORKER)?;
+    let found = solved(rt, alloc, gate, design, runs)?;
     match write_summary(alloc, design, &found.low, &found.high) {
         Ok(text) => Ok(text),
         Err(NoMemory) => Err(Stop::NoMemory),
     }
 }
 
-/// The summary of the generated design of the job's number and count of nets.
-pub fn summary_of_generated(alloc: Global, job: GenJob) -> Result<Vec<u8>, Stop>
-    requires { IsCount job.nets }
+/// The summary of the generated design of the job's number and count of nets, solved by the job's workers.
+pub fn summary_of_generated<R: Threads + Sync, G: Gate>(
+    rt: &R,
+    alloc: Global,
+    gate: &G,
+    job: GenJob,
+) -> Result<Vec<u8>, Stop>
+    requires nets { IsCount job.nets }
+    requires workers { IsWorkerCount job.workers }
     ensures ok { IfOk result (λ text. GenMeans job (prints text.items)) }
     ensures stop { IfErr result (IsStop (GenMeans job) (λ _. ⊥)) }
 {
     let GenJob {
         number,
         nets,
-        workers: _,
+        workers,
     } = job;
+    let picks = None;
+    let runs = Runs { workers, picks };
     match generate(alloc, number, nets) {
-        Ok(design) => summary(alloc, &design),
+        Ok(design) => summary(rt, alloc, gate, &design, runs),
         Err(NoMemory) => Err(Stop::NoMemory),
     }
 }

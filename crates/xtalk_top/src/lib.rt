@@ -21,7 +21,7 @@ mod top;
 mod words;
 
 pub use file_name::FileName;
-pub use top::xtalk;
+pub use top::{xtalk, xtalk_gated};
 pub use words::{
     BlockFiles, GenJob, Job, LinkJob, ReplayJob, ReportJob, SolveJob, WordsFault, parse_words,
 };

@@ -8,17 +8,25 @@ ghost use Rattle.xtalk_top.specs.Call.{HasFault, IsStop, status_of};
 ghost use Rattle.xtalk_top.specs.declared.refusal.Failure.TheVariants.{NoText};
 ghost use Rattle.xtalk_top.specs.Replay.{ReplayMeans};
 
-use crate::fixpoints::Picks;
+use crate::fixpoints::Runs;
 use crate::refusal::Stop;
 use crate::text_report::report_of_text;
 use crate::words::ReplayJob;
+use chaos_core::Gate;
 use report_text::ReportKind;
 use std::alloc::Global;
+use std::thread::Threads;
 use xt_io::Files;
 
 /// The whole report of the design whose linked text the job's file holds, by the job's Miller numbers where it has any,
 /// solved by the job's workers in the order of its number.
-pub fn replay<F: Files>(alloc: Global, files: &mut F, job: ReplayJob) -> Result<Vec<u8>, Stop>
+pub fn replay<R: Threads + Sync, F: Files, G: Gate>(
+    rt: &R,
+    alloc: Global,
+    gate: &G,
+    files: &mut F,
+    job: ReplayJob,
+) -> Result<Vec<u8>, Stop>
     requires { IsWorkerCount job.workers }
     ensures ok { IfOk result (λ text. ReplayMeans job (F.content files.old) (prints text.items)) }
     ensures stop { IfErr result (IsStop (ReplayMeans job (F.content files.old))
@@ -33,9 +41,7 @@ pub fn replay<F: Files>(alloc: Global, files: &mut F, job: ReplayJob) -> Result<
         workers,
         miller,
     } = job;
-    let picks = Picks {
-        workers,
-        number: order,
-    };
-    report_of_text(alloc, files, file, miller, ReportKind::All, picks)
+    let picks = Some(order);
+    let runs = Runs { workers, picks };
+    report_of_text(rt, alloc, gate, files, file, miller, ReportKind::All, runs)
 }

@@ -2,6 +2,7 @@
 
 ghost use Rattle.std.specs.Prelude.{◌≢◌, IfOk, IfErr};
 ghost use Rattle.xt_io.specs.Outside.{KeepsCounts};
+ghost use Rattle.xtalk_top.specs.Words.{IsWorkerCount};
 ghost use Rattle.xtalk_top.specs.Outcome.{prints};
 ghost use Rattle.xtalk_top.specs.Call.{HasFault, IsStop, status_of};
 ghost use Rattle.xtalk_top.specs.declared.refusal.Failure.TheVariants.{NoText};
@@ -10,18 +11,24 @@ ghost use Rattle.xtalk_top.specs.Report.{ReportMeans};
 use crate::block::read_block;
 use crate::counted::counted_by;
 use crate::design_report::report;
-use crate::fixpoints::ONE_WORKER;
+use crate::fixpoints::Runs;
 use crate::refusal::Stop;
 use crate::words::ReportJob;
+use chaos_core::Gate;
 use std::alloc::Global;
+use std::thread::Threads;
 use xt_io::Files;
 
-/// The report of the design that the four files of the job's block make, by the job's Miller numbers where it has any.
-pub fn report_of_block<F: Files>(
+/// The report of the design that the four files of the job's block make, by the job's Miller numbers where it has any,
+/// solved by the job's workers.
+pub fn report_of_block<R: Threads + Sync, F: Files, G: Gate>(
+    rt: &R,
     alloc: Global,
+    gate: &G,
     files: &mut F,
     job: ReportJob,
 ) -> Result<Vec<u8>, Stop>
+    requires { IsWorkerCount job.workers }
     ensures ok { IfOk result (λ text. ReportMeans job (F.content files.old) (prints text.items)) }
     ensures stop { IfErr result (IsStop (ReportMeans job (F.content files.old))
         (HasFault (F.faults files.old) (F.faults files.new))) }
@@ -31,11 +38,13 @@ pub fn report_of_block<F: Files>(
 {
     let ReportJob {
         files: block,
-        workers: _,
+        workers,
         kind,
         miller,
     } = job;
     let design = read_block(alloc, files, block)?;
     let design = counted_by(design, miller);
-    report(alloc, &design, kind, ONE_WORKER)
+    let picks = None;
+    let runs = Runs { workers, picks };
+    report(rt, alloc, gate, &design, kind, runs)
 }

@@ -10,17 +10,25 @@ ghost use Rattle.xtalk_top.specs.Words.{IsWorkerCount};
 ghost use Rattle.xtalk_top.specs.Outcome.{AreBounds, KeepsLimits, SolvedMeans};
 ghost use Rattle.xtalk_top.specs.Call.{IsStop};
 
-use crate::fixpoints::{Fixpoints, Picks, least_and_greatest};
+use crate::fixpoints::{Fixpoints, Runs, least_and_greatest};
 use crate::refusal::{DesignRefusal, PassedLimit, Refusal, Stop};
+use chaos_core::Gate;
 use envelope::{EnvelopeFault, What, envelope};
 use std::alloc::Global;
+use std::thread::Threads;
 use xt_model::{Design, Name, NetId};
 
-/// The least and the greatest windows of a design, found by runs of these picks.
-pub fn solved(alloc: Global, design: &Design, picks: Picks) -> Result<Fixpoints, Stop>
+/// The least and the greatest windows of a design.
+pub fn solved<R: Threads + Sync, G: Gate>(
+    rt: &R,
+    alloc: Global,
+    gate: &G,
+    design: &Design,
+    runs: Runs,
+) -> Result<Fixpoints, Stop>
     requires sound { IsSound design.now }
     requires levelled { AreLevelled design.now.nets }
-    requires workers { IsWorkerCount picks.workers }
+    requires workers { IsWorkerCount runs.workers }
     ensures least { IfOk result (λ found. IsLeastFixpoint design.now found.low) }
     ensures greatest { IfOk result (λ found. IsGreatestFixpoint design.now found.high) }
     ensures low_within { IfOk result (λ found. IsWithinEnvelope design.now found.low) }
@@ -36,7 +44,7 @@ pub fn solved(alloc: Global, design: &Design, picks: Picks) -> Result<Fixpoints,
         }
         Err(EnvelopeFault::NoMemory) => return Err(Stop::NoMemory),
     };
-    match least_and_greatest(alloc, design, top, picks) {
+    match least_and_greatest(rt, alloc, gate, design, &top, runs) {
         Ok(found) => Ok(found),
         Err(_) => Err(Stop::NoMemory),
     }

@@ -2,20 +2,31 @@
 
 ghost use Rattle.std.specs.Prelude.{◌≢◌, IfOk, IfErr};
 ghost use Rattle.xt_io.specs.Outside.{KeepsCounts};
+ghost use Rattle.xtalk_top.specs.Words.{IsWorkerCount};
 ghost use Rattle.xtalk_top.specs.Outcome.{prints};
 ghost use Rattle.xtalk_top.specs.Call.{HasFault, IsStop, status_of};
 ghost use Rattle.xtalk_top.specs.declared.refusal.Failure.TheVariants.{NoText};
 ghost use Rattle.xtalk_top.specs.Solve.{SolveMeans};
 
-use crate::fixpoints::ONE_WORKER;
+use crate::fixpoints::Runs;
 use crate::refusal::Stop;
 use crate::text_report::report_of_text;
 use crate::words::SolveJob;
+use chaos_core::Gate;
 use std::alloc::Global;
+use std::thread::Threads;
 use xt_io::Files;
 
-/// The report of the design whose linked text the job's file holds, by the job's Miller numbers where it has any.
-pub fn solve<F: Files>(alloc: Global, files: &mut F, job: SolveJob) -> Result<Vec<u8>, Stop>
+/// The report of the design whose linked text the job's file holds, by the job's Miller numbers where it has any,
+/// solved by the job's workers.
+pub fn solve<R: Threads + Sync, F: Files, G: Gate>(
+    rt: &R,
+    alloc: Global,
+    gate: &G,
+    files: &mut F,
+    job: SolveJob,
+) -> Result<Vec<u8>, Stop>
+    requires { IsWorkerCount job.workers }
     ensures ok { IfOk result (λ text. SolveMeans job (F.content files.old) (prints text.items)) }
     ensures stop { IfErr result (IsStop (SolveMeans job (F.content files.old))
         (HasFault (F.faults files.old) (F.faults files.new))) }
@@ -25,9 +36,11 @@ pub fn solve<F: Files>(alloc: Global, files: &mut F, job: SolveJob) -> Result<Ve
 {
     let SolveJob {
         file,
-        workers: _,
+        workers,
         kind,
         miller,
     } = job;
-    report_of_text(alloc, files, file, miller, kind, ONE_WORKER)
+    let picks = None;
+    let runs = Runs { workers, picks };
+    report_of_text(rt, alloc, gate, files, file, miller, kind, runs)
 }

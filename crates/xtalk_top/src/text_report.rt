@@ -10,25 +10,28 @@ ghost use Rattle.xtalk_top.specs.declared.refusal.Failure.TheVariants.{NoText};
 use crate::counted::counted_by;
 use crate::design_report::report;
 use crate::file_name::FileName;
-use crate::fixpoints::Picks;
+use crate::fixpoints::Runs;
 use crate::input::{read_design, read_file};
 use crate::refusal::Stop;
+use chaos_core::Gate;
 use report_text::ReportKind;
 use std::alloc::Global;
+use std::thread::Threads;
 use xt_io::Files;
 use xt_model::Miller;
 
-/// The report of the design whose linked text the file holds, by these Miller numbers where there are any, solved by
-/// runs of these picks.
-pub fn report_of_text<F: Files>(
+/// The report of the design whose linked text the file holds, by these Miller numbers where there are any.
+pub fn report_of_text<R: Threads + Sync, F: Files, G: Gate>(
+    rt: &R,
     alloc: Global,
+    gate: &G,
     files: &mut F,
     file: FileName,
     miller: Option<Miller>,
     kind: ReportKind,
-    picks: Picks,
+    runs: Runs,
 ) -> Result<Vec<u8>, Stop>
-    requires { IsWorkerCount picks.workers }
+    requires { IsWorkerCount runs.workers }
     ensures ok { IfOk result (λ text. TextReportMeans file miller kind (F.content files.old) (prints text.items)) }
     ensures stop { IfErr result (IsStop (TextReportMeans file miller kind (F.content files.old))
         (HasFault (F.faults files.old) (F.faults files.new))) }
@@ -39,5 +42,5 @@ pub fn report_of_text<F: Files>(
     let (file, bytes) = read_file(alloc, files, file)?;
     let design = read_design(alloc, file, bytes)?;
     let design = counted_by(design, miller);
-    report(alloc, &design, kind, picks)
+    report(rt, alloc, gate, &design, kind, runs)
 }

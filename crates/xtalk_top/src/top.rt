@@ -17,6 +17,7 @@ use crate::replay::replay;
 use crate::report::report_of_block;
 use crate::solve::solve;
 use crate::words::{Job, WordsFault, parse_words};
+use chaos_core::{Gate, OpenGate};
 use std::alloc::Global;
 use std::thread::Threads;
 use xt_io::{Files, Sink, write_whole};
@@ -62,7 +63,51 @@ pub fn xtalk<R: Threads + Sync, F: Files, O: Sink, E: Sink>(
         → HasFault (F.faults files.old) (F.faults files.new) file → ⊥)
         → (Rose (O.faults out.old) (O.faults out.new) → ⊥) → (result ≡ 0) ⊎ (result ≡ 8) }
 {
-    match text_of(alloc, words, files) {
+    xtalk_gated(rt, alloc, &OpenGate, words, files, out, err)
+}
+
+/// The same with a gate that each of several workers passes in every round before it draws. One worker alone passes
+/// none, nor do those of `replay`. What is written does not depend on the gate.
+pub fn xtalk_gated<R: Threads + Sync, F: Files, O: Sink, E: Sink, G: Gate>(
+    rt: &R,
+    alloc: Global,
+    gate: &G,
+    words: &[String],
+    files: &mut F,
+    out: &mut O,
+    err: &mut E,
+) -> u8
+    // 0: the text that the words and the files mean was written, and nothing else.
+    ensures printed { result ≡ 0 → (text : Text) × Means (bytes_of words.now) (F.content files.old) (prints text)
+        × (O.written out.new ≡ appended (O.written out.old) text) × (err.new ≡ err.old) }
+
+    // Any other status has one failure as its cause, and the line of that failure on err.
+    ensures failed { result ≢ 0 → (failure : Failure) × (result ≡ status_of failure)
+        × IsFailure (Means (bytes_of words.now) (F.content files.old))
+        (HasFault (F.faults files.old) (F.faults files.new))
+        (IsCutOff (O.written out.old) (O.written out.new) (O.faults out.old) (O.faults out.new)) failure
+        × WritesLine (E.written err.old) (E.written err.new) (E.faults err.old) (E.faults err.new) (line_of failure) }
+
+    // All else stays as it was: out, but for a text (0) and for a first part of one, behind which a write came to a
+    // fault (7); its count of faults, but for 7; the counts of all files, but for a read fault (6).
+    ensures kept { (result ≢ 0 → result ≢ 7 → out.new ≡ out.old)
+        × (result ≢ 7 → O.faults out.new ≡ O.faults out.old)
+        × (result ≢ 6 → KeepsCounts (F.faults files.old) (F.faults files.new)) }
+
+    // A refusal that the words and the files mean comes, unless memory runs out or a read fault came before it.
+    ensures refused { (why : Refusal) → Means (bytes_of words.now) (F.content files.old) (refuses why)
+        → AreKnown (bytes_of words.now) (F.content files.old)
+        → (result ≡ status_of (NoText (Refused why))) ⊎ ((result ≡ 8) ⊎ ((result ≡ 6)
+        × (file : Text) × Means (bytes_of words.now) (F.content files.old) (unread file)
+        × HasFault (F.faults files.old) (F.faults files.new) file)) }
+
+    // Where they mean no refusal, and neither a file nor out had a fault, the text comes, unless memory runs out.
+    ensures complete { ((why : Refusal) → Means (bytes_of words.now) (F.content files.old) (refuses why) → ⊥)
+        → ((file : Text) → Means (bytes_of words.now) (F.content files.old) (unread file)
+        → HasFault (F.faults files.old) (F.faults files.new) file → ⊥)
+        → (Rose (O.faults out.old) (O.faults out.new) → ⊥) → (result ≡ 0) ⊎ (result ≡ 8) }
+{
+    match text_of(rt, alloc, gate, words, files) {
         Ok(text) => match write_whole(out, &text) {
             Ok(()) => 0,
             Err(_) => refuse(err, &Failure::Unwritten),
@@ -72,7 +117,13 @@ pub fn xtalk<R: Threads + Sync, F: Files, O: Sink, E: Sink>(
 }
 
 // The text that the words and the files mean.
-fn text_of<F: Files>(alloc: Global, words: &[String], files: &mut F) -> Result<Vec<u8>, Stop>
+fn text_of<R: Threads + Sync, F: Files, G: Gate>(
+    rt: &R,
+    alloc: Global,
+    gate: &G,
+    words: &[String],
+    files: &mut F,
+) -> Result<Vec<u8>, Stop>
     ensures ok { IfOk result (λ text. Means (bytes_of words.now) (F.content files.old) (prints text.items)) }
     ensures stop { IfErr result (IsStop (Means (bytes_of words.now) (F.content files.old))
         (HasFault (F.faults files.old) (F.faults files.new))) }
@@ -81,15 +132,21 @@ fn text_of<F: Files>(alloc: Global, words: &[String], files: &mut F) -> Result<V
         → KeepsCounts (F.faults files.old) (F.faults files.new)) }
 {
     match parse_words(alloc, words) {
-        Ok(job) => job_text(alloc, files, job),
+        Ok(job) => job_text(rt, alloc, gate, files, job),
         Err(WordsFault::Bad) => Err(Stop::Refused(Refusal::Words)),
         Err(WordsFault::NoMemory) => Err(Stop::NoMemory),
     }
 }
 
 // The text that a job and the files mean.
-fn job_text<F: Files>(alloc: Global, files: &mut F, job: Job) -> Result<Vec<u8>, Stop>
-    requires { HasCount job }
+fn job_text<R: Threads + Sync, F: Files, G: Gate>(
+    rt: &R,
+    alloc: Global,
+    gate: &G,
+    files: &mut F,
+    job: Job,
+) -> Result<Vec<u8>, Stop>
+    requires count { HasCount job }
     ensures ok { IfOk result (λ text. JobMeans job (F.content files.old) (prints text.items)) }
     ensures stop { IfErr result (IsStop (JobMeans job (F.content files.old))
         (HasFault (F.faults files.old) (F.faults files.new))) }
@@ -98,10 +155,10 @@ fn job_text<F: Files>(alloc: Global, files: &mut F, job: Job) -> Result<Vec<u8>,
         → KeepsCounts (F.faults files.old) (F.faults files.new)) }
 {
     match job {
-        Job::Report(job) => report_of_block(alloc, files, job),
-        Job::Solve(job) => solve(alloc, files, job),
-        Job::Replay(job) => replay(alloc, files, job),
+        Job::Report(job) => report_of_block(rt, alloc, gate, files, job),
+        Job::Solve(job) => solve(rt, alloc, gate, files, job),
+        Job::Replay(job) => replay(rt, alloc, gate, files, job),
         Job::Link(job) => text_of_block(alloc, files, job),
-        Job::Gen(job) => summary_of_generated(alloc, job),
+        Job::Gen(job) => summary_of_generated(rt, alloc, gate, job),
     }
 }

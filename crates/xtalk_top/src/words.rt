@@ -298,7 +298,7 @@ fn report_job(alloc: Global, matches: &ArgMatches) -> Result<ReportJob, AllocErr
 {
     Ok(ReportJob {
         files: block_files(alloc, matches)?,
-        workers: number_or_one(matches.get_str("workers")),
+        workers: workers_or_one(matches.get_str("workers")),
         kind: kind_or_all(matches.get_str("kind")),
         miller: miller_or_none(matches.get_str("miller")),
     })
@@ -318,7 +318,7 @@ fn solve_job(alloc: Global, matches: &ArgMatches) -> Result<SolveJob, AllocError
 {
     Ok(SolveJob {
         file: file_name(alloc, matches.get_str("file"))?,
-        workers: number_or_one(matches.get_str("workers")),
+        workers: workers_or_one(matches.get_str("workers")),
         kind: kind_or_all(matches.get_str("kind")),
         miller: miller_or_none(matches.get_str("miller")),
     })
@@ -341,7 +341,7 @@ fn gen_job(matches: &ArgMatches) -> GenJob
     GenJob {
         number: number_or_zero(matches.get_str("number")),
         nets: count_or_one(matches.get_str("nets")),
-        workers: number_or_one(matches.get_str("workers")),
+        workers: workers_or_one(matches.get_str("workers")),
     }
 }
 

@@ -3,7 +3,7 @@ use Rattle.report_text.specs.Report.{IsReport}
 use Rattle.xtalk_top.proofs.design_report.report.Goals as goal
 
 pub write_report-requires : goal.write_report-requires
-write_report-requires c =
+write_report-requires g c =
     let found = c.in_ok-found.ensures in
     record {
       low_count = found.least.fixpoint.windows.count;
@@ -14,7 +14,7 @@ write_report-requires c =
     }
 
 pub returns-in-Ok-clause-ok : goal.returns-in-Ok-clause-ok
-returns-in-Ok-clause-ok c =
+returns-in-Ok-clause-ok g c =
     let report : IsReport c.args.kind c.args.design.now c.in-Ok.text.items = record {
       low = c.in_ok-found.found.low;
       high = c.in_ok-found.found.high;

@@ -3,7 +3,7 @@ use Rattle.report_text.specs.Summary.{IsSummary}
 use Rattle.xtalk_top.proofs.generated.summary.Goals as goal
 
 pub returns-in-Ok-clause-ok : goal.returns-in-Ok-clause-ok
-returns-in-Ok-clause-ok c =
+returns-in-Ok-clause-ok g c =
     let written = c.in-Ok.ensures in
     let summary : IsSummary c.args.design.now c.in-Ok.text.items = record {
       pairs = written.0;

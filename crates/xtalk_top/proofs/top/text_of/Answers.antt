@@ -8,8 +8,8 @@ use Rattle.xtalk_top.specs.Call.{JobMeans, Means, HasFault}
 use Rattle.xtalk_top.proofs.Lifts.{job_means, lift_stop}
 use Rattle.xtalk_top.proofs.top.text_of.Goals as goal
 
-pub job_text-requires : goal.job_text-requires
-job_text-requires g c =
+pub job_text-requires-clause-count : goal.job_text-requires-clause-count
+job_text-requires-clause-count g c = λ _ _.
     let P : Option Job → Type 0 = λ j. IfSome j HasCount in
     subst P c.in-Ok.ensures.parsed (job_counts (bytes_of c.args.words.now))
 

@@ -1,7 +1,7 @@
 use Rattle.xtalk_top.specs.Words.{bytes_of}
 use Rattle.xtalk_top.specs.Call.{Means, HasFault}
 use Rattle.xtalk_top.proofs.Agreement.{one_outcome, refused, not_both, completed}
-use Rattle.xtalk_top.proofs.top.xtalk.Goals as goal
+use Rattle.xtalk_top.proofs.top.xtalk_gated.Goals as goal
 
 pub returns-in-Ok-write_whole-clause-refused : goal.returns-in-Ok-write_whole-clause-refused
 returns-in-Ok-write_whole-clause-refused g c = λ why meant known.
