@@ -4,7 +4,7 @@ use linked_text::{LinkedFault, has_numbered_lines, read_linked, write_linked};
 use std::alloc::{AllocError, Global};
 use std::process::Abort;
 use std::test::Fail;
-use xt_model::Name;
+use xt_model::{Design, Name};
 
 /// The name and a space before it, or nothing.
 fn with_space(alloc: Global, name: &Option<Name>) -> Result<String, AllocError> {
@@ -15,29 +15,38 @@ fn with_space(alloc: Global, name: &Option<Name>) -> Result<String, AllocError> 
     format!(in alloc; " {name}")
 }
 
-/// `read` where a text is read, and written again as it stands; else its code and its line, or the limit that it
-/// passes, the value, and the net where it has a name.
+/// `read` where a design is written again as the text that it was read from.
+fn written_again(alloc: Global, design: &Design, text: &str) -> Result<String, Fail> {
+    let written = write_linked(alloc, design)?;
+    let is_same = written.as_slice() == text.as_bytes();
+    let words = if is_same { "read" } else { "another text" };
+    Ok(String::from_str(alloc, words)?)
+}
+
+/// The code of a refusal and its line, or the limit that is passed, the value, and the net where it has a name.
+fn fault_in_words(alloc: Global, fault: &LinkedFault) -> Result<String, Fail> {
+    match fault {
+        LinkedFault::Refused { line, code } => {
+            let code = code.text();
+            Ok(format!(in alloc; "{code} {line}")?)
+        }
+        LinkedFault::Limit { what, name, value } => {
+            let name = with_space(alloc, name)?;
+            let name = name.as_str();
+            Ok(format!(in alloc; "{what:?} {value}{name}")?)
+        }
+        LinkedFault::NoMemory => Err(Fail::from("out of memory")),
+    }
+}
+
+/// What becomes of a text.
 fn answer(alloc: Global, text: &str) -> Result<String, Fail> {
     if !has_numbered_lines(text.as_bytes()) {
         return Err(Fail::from("too many lines"));
     }
     match read_linked(alloc, text.as_bytes()) {
-        Ok(design) => {
-            let written = write_linked(alloc, &design)?;
-            let is_same = written.as_slice() == text.as_bytes();
-            let words = if is_same { "read" } else { "another text" };
-            Ok(String::from_str(alloc, words)?)
-        }
-        Err(LinkedFault::Refused { line, code }) => {
-            let code = code.text();
-            Ok(format!(in alloc; "{code} {line}")?)
-        }
-        Err(LinkedFault::Limit { what, name, value }) => {
-            let name = with_space(alloc, &name)?;
-            let name = name.as_str();
-            Ok(format!(in alloc; "{what:?} {value}{name}")?)
-        }
-        Err(LinkedFault::NoMemory) => Err(Fail::from("out of memory")),
+        Ok(design) => written_again(alloc, &design, text),
+        Err(fault) => fault_in_words(alloc, &fault),
     }
 }
 

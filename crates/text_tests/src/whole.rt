@@ -6,30 +6,27 @@ use std::alloc::Global;
 use std::process::Abort;
 use std::test::Fail;
 
-/// Texts and what becomes of them.
-const WHOLE: [(&str, &str); 13] = [
-    (EMPTY, "read"),
-    (ONE, "read"),
-    (CROSS, "read"),
-    (EACH_KIND, "read"),
-    ("", "X1 1"),
-    ("\n", "X1 1"),
-    ("xtalk-design 1", "X1 1"),
-    ("xtalk-design 1\n", "X1 2"),
-    ("xtalk-design 1\ncounts 262144 262144 1048576\n", "X1 3"),
-    ("xtalk-design 1\ncounts 0 0 0\nperiod none\nend", "X1 4"),
-    ("xtalk-design 1\ncounts 0 0 0\nperiod none\nend\nx", "X1 5"),
-    ("xtalk-design 1\ncounts 0 0 0\nperiod none\nend\n\n", "X1 5"),
-    (
-        "xtalk-design 2\ncounts 0 0 0\nperiod none\nmiller 0 4 9\nend\n",
-        "read",
-    ),
-];
+/// What becomes of texts, in which `⏎` is a line end.
+const WHOLE: &str = "\
+X1 1 |
+X1 1 | ⏎
+X1 1 | xtalk-design 1
+X1 2 | xtalk-design 1⏎
+X1 3 | xtalk-design 1⏎counts 262144 262144 1048576⏎
+X1 4 | xtalk-design 1⏎counts 0 0 0⏎period none⏎end
+X1 5 | xtalk-design 1⏎counts 0 0 0⏎period none⏎end⏎x
+X1 5 | xtalk-design 1⏎counts 0 0 0⏎period none⏎end⏎⏎
+read | xtalk-design 2⏎counts 0 0 0⏎period none⏎miller 0 4 9⏎end⏎";
 
 #[test]
 fn texts_are_read_or_refused(rt: HostRuntime) -> Result<(), Fail> {
-    for (text, want) in &WHOLE {
-        compare(&rt, rt.alloc(), text, text, want)?;
+    for text in [EMPTY, ONE, CROSS, EACH_KIND] {
+        compare(&rt, rt.alloc(), text, text, "read")?;
+    }
+    for row in WHOLE.split('\n') {
+        let (want, text) = row.split_once('|').unwrap_or((row, ""));
+        let text = text.trim().replace(rt.alloc(), '⏎', "\n")?;
+        compare(&rt, rt.alloc(), text.as_str(), row, want.trim())?;
     }
     Ok(())
 }
