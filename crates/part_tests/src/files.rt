@@ -1,5 +1,7 @@
 //! Files and sinks: in memory, over the system, and with faults.
 
+ghost use Rattle.std.specs.Prelude.{◌≤◌};
+
 use std::alloc::{AllocError, Global};
 use std::fs::File;
 use std::io::{ErrorKind, Read, Write};
@@ -28,41 +30,80 @@ fn two_files(alloc: Global, length: usize, fail: &[u64]) -> Result<MemoryFiles, 
     Ok(files)
 }
 
+/// Whether bytes are the first so many of the sample.
+fn is_sample(alloc: Global, bytes: &[u8], length: usize) -> Result<bool, AllocError> {
+    let want = sample(alloc, length)?;
+    Ok(bytes == want.as_slice())
+}
+
+/// Whether `a` has so many bytes of the sample.
+fn reads_sample(alloc: Global, files: &mut MemoryFiles, length: usize) -> Result<bool, Fail> {
+    let bytes = read_whole(alloc, files, "a")?;
+    Ok(is_sample(alloc, &bytes, length)?)
+}
+
+/// Whether a file of so many bytes is read whole, and a name without a file is a fault.
+fn is_read_whole(alloc: Global, length: usize) -> Result<bool, Fail> {
+    let mut files = two_files(alloc, length, &[])?;
+    let is_whole = reads_sample(alloc, &mut files, length)?;
+    let other = read_whole(alloc, &mut files, "b").err();
+    Ok(is_whole && other == Some(ReadFail::Fault))
+}
+
 #[test]
 fn reads_whole_files(rt: HostRuntime) -> Result<(), Fail> {
-    let alloc = rt.alloc();
     for length in [0, 5, 65_536, 200_000] {
-        let mut files = two_files(alloc, length, &[])?;
-        let bytes = read_whole(alloc, &mut files, "a")?;
-        assert_eq!(rt; bytes.as_slice(), sample(alloc, length)?.as_slice());
-        assert_eq!(rt;
-            read_whole(alloc, &mut files, "b").err(),
-            Some(ReadFail::Fault)
-        );
+        assert!(rt; is_read_whole(rt.alloc(), length)?, "{length}");
     }
     Ok(())
+}
+
+/// Whether `a` is a fault, and is read whole then.
+fn is_read_again(alloc: Global, files: &mut MemoryFiles) -> Result<bool, Fail> {
+    let first = read_whole(alloc, files, "a").err();
+    let is_whole = reads_sample(alloc, files, 5)?;
+    Ok(is_whole && first == Some(ReadFail::Fault))
+}
+
+/// The same of a file of five bytes where the call of this number fails.
+fn fails_once(alloc: Global, number: u64) -> Result<bool, Fail> {
+    let mut files = two_files(alloc, 5, &[number])?;
+    is_read_again(alloc, &mut files)
 }
 
 // A file of five bytes is opened and read twice, the second time to see its end.
 #[test]
 fn answers_faults(rt: HostRuntime) -> Result<(), Fail> {
-    let alloc = rt.alloc();
     for number in 0..3 {
-        let mut files = two_files(alloc, 5, &[number])?;
-        assert_eq!(rt;
-            read_whole(alloc, &mut files, "a").err(),
-            Some(ReadFail::Fault),
-            "{number}"
-        );
-        assert_eq!(rt; read_whole(alloc, &mut files, "a")?.len(), 5);
+        assert!(rt; fails_once(rt.alloc(), number)?, "{number}");
     }
     Ok(())
 }
 
+/// Whether of 25 bytes so many are written, and a failure is told where these are not all.
+fn writes_sample(alloc: Global, sink: &mut MemorySink, written: usize) -> Result<bool, Fail> {
+    let bytes = sample(alloc, 25)?;
+    let is_whole = write_whole(sink, &bytes).is_ok();
+    Ok(is_whole == (written == 25) && is_sample(alloc, sink.bytes(), written)?)
+}
+
+/// The same where the call of this number fails, with the most bytes that a call takes, and the room.
+fn are_written(
+    alloc: Global,
+    most: usize,
+    number: u64,
+    room: usize,
+    written: usize,
+) -> Result<bool, Fail>
+    requires { 1 ≤ most }
+{
+    let fail = Vec::from_slice(alloc, &[number])?;
+    let mut sink = MemorySink::new(alloc, fail, most, room)?;
+    writes_sample(alloc, &mut sink, written)
+}
+
 #[test]
 fn writes_pieces(rt: HostRuntime) -> Result<(), Fail> {
-    let alloc = rt.alloc();
-    let bytes = sample(alloc, 25)?;
     for (most, number, room, written) in [
         (1, 25, 100, 25),
         (10, 3, 100, 25),
@@ -72,55 +113,58 @@ fn writes_pieces(rt: HostRuntime) -> Result<(), Fail> {
         (10, 0, 100, 0),
         (10, 9, 7, 7),
     ] {
-        let fail = Vec::from_slice(alloc, &[number])?;
-        let mut sink = MemorySink::new(alloc, fail, most, room)?;
-        let answer = write_whole(&mut sink, &bytes);
-        assert_eq!(rt; answer.is_ok(), written == 25, "{most} {number} {room}");
-        assert_eq!(rt; sink.bytes(), sample(alloc, written)?.as_slice());
+        let is_wanted = are_written(rt.alloc(), most, number, room, written)?;
+        assert!(rt; is_wanted, "{most} {number} {room}");
     }
     Ok(())
 }
 
-// One file is opened, once, and each read asks for a whole buffer.
+/// Whether one file is opened, once, and each read asks for a whole buffer.
+fn opens_once(alloc: Global) -> Result<bool, Fail> {
+    let mut files = RecordedFiles::new(alloc, two_files(alloc, 200_000, &[])?);
+    let bytes = read_whole(alloc, &mut files, "a")?;
+    Ok(
+        bytes.len() == 200_000
+            && files.opened.len() == 1
+            && files.opened[0].as_str() == "a"
+            && files.lengths.as_slice() == [65_536; 5].as_slice(),
+    )
+}
+
 #[test]
 fn makes_no_other_calls(rt: HostRuntime) -> Result<(), Fail> {
-    let alloc = rt.alloc();
-    let mut files = RecordedFiles::new(alloc, two_files(alloc, 200_000, &[])?);
-    assert_eq!(rt; read_whole(alloc, &mut files, "a")?.len(), 200_000);
-    assert_eq!(rt; files.opened.len(), 1);
-    assert_eq!(rt; files.opened[0].as_str(), "a");
-    assert_eq!(rt; files.lengths.as_slice(), [65_536; 5].as_slice());
+    assert!(rt; opens_once(rt.alloc())?);
     Ok(())
 }
+
+/// Whether a file of the system of several buffers is read whole.
+fn is_read_back(rt: HostRuntime, name: &str) -> Result<bool, Fail> {
+    let sample = sample(rt.alloc(), 200_000)?;
+    fs::write(&rt, name, sample.as_slice())?;
+    let bytes = read_whole(rt.alloc(), &mut HostFiles::new(rt), name)?;
+    fs::remove_file(&rt, name)?;
+    Ok(bytes.as_slice() == sample.as_slice())
+}
+
+/// Whether reading a file of the system is a fault.
+fn is_fault(rt: HostRuntime, name: &str) -> bool {
+    read_whole(rt.alloc(), &mut HostFiles::new(rt), name).err() == Some(ReadFail::Fault)
+}
+
+/// Names that cannot be opened, and a folder.
+const UNREADABLE: [&str; 4] = ["/proc/self", "/proc/self/none", "/proc/self/\0", ""];
 
 // A file of several buffers; names that cannot be opened, a folder, and a name of too many bytes.
 #[test]
 fn reads_real_files(rt: HostRuntime) -> Result<(), Fail> {
     let alloc = rt.alloc();
-    let mut files = HostFiles::new(rt);
-    let sample = sample(alloc, 200_000)?;
     let name = format!(in alloc; "/tmp/xt_io-{}", process::id(rt.process()))?;
-    fs::write(&rt, name.as_str(), sample.as_slice())?;
-    let bytes = read_whole(alloc, &mut files, name.as_str())?;
-    fs::remove_file(&rt, name.as_str())?;
-    assert!(rt; bytes.as_slice() == sample.as_slice());
-    let mut long = String::new(alloc);
-    for _ in 0..4096 {
-        long.push('x')?;
+    assert!(rt; is_read_back(rt, name.as_str())?);
+    for name in UNREADABLE {
+        assert!(rt; is_fault(rt, name), "{name:?}");
     }
-    for name in [
-        "/proc/self",
-        "/proc/self/none",
-        "/proc/self/\0",
-        "",
-        long.as_str(),
-    ] {
-        assert_eq!(rt;
-            read_whole(alloc, &mut files, name).err(),
-            Some(ReadFail::Fault),
-            "{name:?}"
-        );
-    }
+    let long: Vec<u8> = vec![in alloc; b'x'; 4096]?;
+    assert!(rt; is_fault(rt, str::from_utf8(&long).unwrap_or("")));
     Ok(())
 }
 
@@ -223,9 +267,31 @@ impl Directory for Trickles {
     }
 }
 
+/// What is read of a file of 1,000 bytes that comes a byte at a time.
+fn read_trickle(alloc: Global, name: &str, fail: Option<usize>) -> Result<Vec<u8>, ReadFail> {
+    let mut files = DirectoryFiles::new(Trickles {
+        alloc,
+        length: 1000,
+        fail,
+    });
+    read_whole(alloc, &mut files, name)
+}
+
+/// The fault of reading it, if there is one; else its bytes are those of the sample.
+fn fault_of_trickle(
+    alloc: Global,
+    name: &str,
+    fail: Option<usize>,
+) -> Result<Option<ReadFail>, Fail> {
+    match read_trickle(alloc, name, fail) {
+        Ok(bytes) if is_sample(alloc, &bytes, 1000)? => Ok(None),
+        Ok(_) => Err(Fail::from("other bytes")),
+        Err(fault) => Ok(Some(fault)),
+    }
+}
+
 #[test]
 fn reads_byte_by_byte(rt: HostRuntime) -> Result<(), Fail> {
-    let alloc = rt.alloc();
     for (name, fail, fault) in [
         ("a", None, None),
         ("a", Some(0), Some(ReadFail::Fault)),
@@ -233,47 +299,53 @@ fn reads_byte_by_byte(rt: HostRuntime) -> Result<(), Fail> {
         ("a", Some(1000), Some(ReadFail::Fault)),
         ("b", None, Some(ReadFail::Fault)),
     ] {
-        let mut files = DirectoryFiles::new(Trickles {
-            alloc,
-            length: 1000,
-            fail,
-        });
-        match read_whole(alloc, &mut files, name) {
-            Ok(bytes) => {
-                assert_eq!(rt; fault, None);
-                assert_eq!(rt; bytes.as_slice(), sample(alloc, 1000)?.as_slice());
-            }
-            Err(fail) => assert_eq!(rt; Some(fail), fault),
-        }
+        assert_eq!(rt; fault_of_trickle(rt.alloc(), name, fail)?, fault);
     }
     Ok(())
 }
 
+/// Whether so many of 1,000 bytes are written to a stream of this length that takes a byte at a time, and a failure is
+/// told where these are not all.
+fn are_trickled(
+    alloc: Global,
+    length: usize,
+    fail: Option<usize>,
+    written: usize,
+) -> Result<bool, Fail> {
+    let bytes = sample(alloc, 1000)?;
+    let mut sink = HostStream::new(Trickle {
+        at: 0,
+        length,
+        fail,
+        bytes: Vec::new(alloc),
+    });
+    let is_whole = write_whole(&mut sink, &bytes).is_ok();
+    let stream = sink.into_stream();
+    Ok(is_whole == (written == 1000) && is_sample(alloc, &stream.bytes, written)?)
+}
+
+/// Whether a list of bytes takes 1,000 of them.
+fn are_listed(alloc: Global) -> Result<bool, Fail> {
+    let bytes = sample(alloc, 1000)?;
+    let mut sink = HostStream::new(Vec::new(alloc));
+    let is_whole = write_whole(&mut sink, &bytes).is_ok();
+    Ok(is_whole && sink.into_stream().as_slice() == bytes.as_slice())
+}
+
 #[test]
 fn writes_byte_by_byte(rt: HostRuntime) -> Result<(), Fail> {
-    let alloc = rt.alloc();
-    let bytes = sample(alloc, 1000)?;
     for (length, fail, written) in [
         (1000, None, 1000),
         (1000, Some(400), 400),
         (400, None, 400),
         (1000, Some(0), 0),
     ] {
-        let mut sink = HostStream::new(Trickle {
-            at: 0,
-            length,
-            fail,
-            bytes: Vec::new(alloc),
-        });
-        assert_eq!(rt; write_whole(&mut sink, &bytes).is_ok(), written == 1000);
-        assert_eq!(rt;
-            sink.into_stream().bytes.as_slice(),
-            sample(alloc, written)?.as_slice()
+        assert!(rt;
+            are_trickled(rt.alloc(), length, fail, written)?,
+            "{length} {written}"
         );
     }
-    let mut sink = HostStream::new(Vec::new(alloc));
-    assert_eq!(rt; write_whole(&mut sink, &bytes), Ok(()));
-    assert_eq!(rt; sink.into_stream().as_slice(), bytes.as_slice());
+    assert!(rt; are_listed(rt.alloc())?);
     Ok(())
 }
 

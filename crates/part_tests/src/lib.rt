@@ -7,6 +7,8 @@ mod files;
 #[cfg(test)]
 mod overlap;
 #[cfg(test)]
+mod rows;
+#[cfg(test)]
 mod sound;
 #[cfg(test)]
 mod tables;

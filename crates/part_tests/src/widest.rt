@@ -2,7 +2,8 @@
 
 ghost use Rattle.std.specs.Prelude.{◌≤◌};
 
-use envelope::{EnvelopeFault, What, envelope, quiet};
+use crate::rows::{field, number};
+use envelope::{envelope, quiet};
 use sound_parts::is_sound;
 use std::alloc::{AllocError, Global};
 use std::process::Abort;
@@ -11,13 +12,6 @@ use xt_model::{
     Coupling, Design, DesignParts, Edge, GivenPair, Miller, Name, Net, NetId, Pair, Quad, Row,
     SinkPin, Table, TimingArc,
 };
-
-const MOST_TIME: i64 = 1 << 46;
-
-const MOST_SLEW: i64 = 1 << 40;
-
-/// The base of a sink behind a wire with a delay of 1 fs.
-const ONE_FS: i128 = 1_000_000;
 
 const QUIET: Pair = Pair {
     rise: Quad::BOTTOM,
@@ -132,55 +126,84 @@ fn design(
     Ok(Design::from_parts(alloc, parts)?)
 }
 
-fn limit(what: What, value: i64) -> Option<EnvelopeFault> {
-    Some(EnvelopeFault::Limit {
-        net: NetId(0),
-        what,
-        value: i128::from(value),
-    })
+/// The design of one source with these windows and a sink behind a wire.
+fn one_source(rt: &impl Abort, alloc: Global, given: Pair, base: i128) -> Result<Design, Fail> {
+    let mut nets = Vec::new(alloc);
+    nets.push(source(alloc, b'a', given, base)?)?;
+    design(rt, alloc, Vec::new(alloc), nets)
+}
+
+/// The latest time and the greatest slew of a source that rises, the base of its sink, and the limit that is passed
+/// behind its wire. A wire with a delay of 1 fs has the base 1,000,000.
+const LIMITS: &str = "\
+70368744177664 0 0 | none
+70368744177664 0 1000000 | Limit { net: NetId(0), what: Time, value: 70368744177665 }
+0 1099511627776 0 | none
+0 1099511627776 1000000 | Limit { net: NetId(0), what: Slew, value: 1099511627778 }
+";
+
+/// The limit that a design passes, or that these are its widest windows.
+fn widest_in_words(alloc: Global, design: &Design, given: Pair) -> Result<String, AllocError> {
+    match envelope(alloc, design) {
+        Ok(top) if top.pairs() == [given].as_slice() => format!(in alloc; "none"),
+        Ok(_) => format!(in alloc; "other windows"),
+        Err(fault) => format!(in alloc; "{fault:?}"),
+    }
+}
+
+/// Whether in the quiet windows of a design of one net nothing switches.
+fn is_quiet(alloc: Global, design: &Design) -> Result<bool, Fail> {
+    let windows = quiet(alloc, design)?;
+    Ok(windows.pairs() == [QUIET].as_slice())
+}
+
+/// The limit that a design of one source passes, where nothing switches in its quiet windows.
+fn limit_in_words(alloc: Global, design: &Design, given: Pair) -> Result<String, Fail> {
+    if !is_quiet(alloc, design)? {
+        return Err(Fail::from("quiet windows switch"));
+    }
+    Ok(widest_in_words(alloc, design, given)?)
+}
+
+/// The limit that the source of a row passes.
+fn limit_of(rt: &impl Abort, alloc: Global, source: &str) -> Result<String, Fail> {
+    let time = i64::try_from(number(source, 0)).unwrap_or(-1);
+    let slew = i64::try_from(number(source, 1)).unwrap_or(-1);
+    let given = rises(time, time, slew);
+    let design = one_source(rt, alloc, given, number(source, 2))?;
+    limit_in_words(alloc, &design, given)
 }
 
 #[test]
 fn limits_hold_behind_the_wire(rt: HostRuntime) -> Result<(), Fail> {
-    let alloc = rt.alloc();
-    for (given, base, fault) in [
-        (rises(MOST_TIME, MOST_TIME, 0), 0, None),
-        (
-            rises(MOST_TIME, MOST_TIME, 0),
-            ONE_FS,
-            limit(What::Time, MOST_TIME + 1),
-        ),
-        (rises(0, 0, MOST_SLEW), 0, None),
-        (
-            rises(0, 0, MOST_SLEW),
-            ONE_FS,
-            limit(What::Slew, MOST_SLEW + 2),
-        ),
-    ] {
-        let mut nets = Vec::new(alloc);
-        nets.push(source(alloc, b'a', given, base)?)?;
-        let design = design(&rt, alloc, Vec::new(alloc), nets)?;
-        assert_eq!(rt; quiet(alloc, &design)?.pairs(), [QUIET].as_slice());
-        match envelope(alloc, &design) {
-            Ok(top) => assert_eq!(rt; (top.pairs(), None), ([given].as_slice(), fault)),
-            Err(found) => assert_eq!(rt; Some(found), fault),
-        }
+    for row in LIMITS.lines() {
+        let limit = limit_of(&rt, rt.alloc(), field(row, 0))?;
+        assert!(rt; limit.as_str() == field(row, 1), "{limit} at {row}");
     }
     Ok(())
 }
 
-#[test]
-fn everything_overlaps(rt: HostRuntime) -> Result<(), Fail> {
-    let alloc = rt.alloc();
-    let mut tables = Vec::new(alloc);
-    tables.push(delays(alloc)?)?;
-    tables.push(no_slew(alloc)?)?;
+/// A source that rises and one that falls, and a gate behind each, which couple to one another.
+fn two_gates(alloc: Global) -> Result<Vec<Net>, AllocError> {
     let mut nets = Vec::new(alloc);
     nets.push(source(alloc, b'p', rises(0, 0, 0), 0)?)?;
     nets.push(source(alloc, b'q', falls(5000, 5000), 0)?)?;
     nets.push(driven(alloc, b'a', 0, Edge::Rise, 3)?)?;
     nets.push(driven(alloc, b'b', 1, Edge::Fall, 2)?)?;
-    let design = design(&rt, alloc, tables, nets)?;
+    Ok(nets)
+}
+
+/// Their tables.
+fn tables(alloc: Global) -> Result<Vec<Table>, AllocError> {
+    let mut tables = Vec::new(alloc);
+    tables.push(delays(alloc)?)?;
+    tables.push(no_slew(alloc)?)?;
+    Ok(tables)
+}
+
+/// Whether everything overlaps in the widest windows of the two gates.
+fn gates_overlap(rt: &impl Abort, alloc: Global) -> Result<bool, Fail> {
+    let design = design(rt, alloc, tables(alloc)?, two_gates(alloc)?)?;
     let top = envelope(alloc, &design)?;
     let want = [
         rises(0, 0, 0),
@@ -188,6 +211,11 @@ fn everything_overlaps(rt: HostRuntime) -> Result<(), Fail> {
         rises(800, 1200, 0),
         falls(5800, 6200),
     ];
-    assert_eq!(rt; top.pairs(), want.as_slice());
+    Ok(top.pairs() == want.as_slice())
+}
+
+#[test]
+fn everything_overlaps(rt: HostRuntime) -> Result<(), Fail> {
+    assert!(rt; gates_overlap(&rt, rt.alloc())?);
     Ok(())
 }
