@@ -10,7 +10,7 @@ use xt_io::{MemoryFiles, MemorySink, RecordedFiles};
 use xtalk_top::xtalk;
 
 /// Room for what a call writes, in bytes.
-const ROOM: usize = 1 << 20;
+pub const ROOM: usize = 1 << 20;
 
 /// What goes wrong outside: the numbers of the calls on the files, on the output and on the error stream that fail, and
 /// the most bytes that the output takes at a time.
@@ -34,7 +34,7 @@ pub fn calm(alloc: Global) -> Outside {
 }
 
 /// The words that a line has.
-fn words_of(alloc: Global, line: &str) -> Result<Vec<String>, AllocError> {
+pub fn words_of(alloc: Global, line: &str) -> Result<Vec<String>, AllocError> {
     let mut words = Vec::new(alloc);
     for word in line.split_whitespace() {
         words.push(String::from_str(alloc, word)?)?;
@@ -43,7 +43,10 @@ fn words_of(alloc: Global, line: &str) -> Result<Vec<String>, AllocError> {
 }
 
 /// Files of these names with these texts.
-fn files_of(alloc: Global, texts: &[(&str, &[u8])]) -> Result<Vec<(String, Vec<u8>)>, AllocError> {
+pub fn files_of(
+    alloc: Global,
+    texts: &[(&str, &[u8])],
+) -> Result<Vec<(String, Vec<u8>)>, AllocError> {
     let mut files = Vec::new(alloc);
     for (name, text) in texts {
         files.push((

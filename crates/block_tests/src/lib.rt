@@ -13,6 +13,8 @@ mod designs;
 #[cfg(test)]
 mod faults;
 #[cfg(test)]
+mod gated;
+#[cfg(test)]
 mod limits;
 #[cfg(test)]
 mod refused;

@@ -11,6 +11,8 @@ mod designs;
 #[cfg(test)]
 mod edge;
 #[cfg(test)]
+mod gated;
+#[cfg(test)]
 mod generated;
 #[cfg(test)]
 mod limits;

@@ -1,3 +1,2 @@
 mod FirstWord
 mod Within
-mod Turns
