@@ -47,6 +47,13 @@ impl ReadLists {
         self.lists.as_slice()[net.0 as usize].as_slice()
     }
 
+    /// How many lists there are, one for each net.
+    pub fn count(&self) -> usize
+        ensures { result ≡ length self.now }
+    {
+        self.lists.len()
+    }
+
     /// The length of the longest list.
     pub fn longest(&self) -> usize
         ensures { (net : ℕ) → length (reads_of self.now net) ≤ result }
