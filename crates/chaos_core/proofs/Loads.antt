@@ -27,7 +27,7 @@ use Rattle.chaos_core.specs.Boards.{nets_of, started, IsSeen}
 use Rattle.chaos_core.specs.Tasks.{place_of, word_to_load, loaded_bounds, evaluated, bound_at}
 use Rattle.chaos_core.specs.Steps.{IsLoadedAt, AreLoaded}
 use Rattle.chaos_core.specs.Views.{IsLoaded}
-use Rattle.chaos_core.proofs.Places.{placed, word_placed, nets_read}
+use Rattle.chaos_core.proofs.Places.{placed, word_placed, nets_read, read_there}
 use Rattle.chaos_core.proofs.Sight.{within_top, seen_range, number_here, seen_onward}
 
 -- ---- one word more
@@ -126,6 +126,7 @@ module _ (a : Setting) (seen reads numbers : List ℕ) (net : ℕ) (sees : IsSee
   all_loaded = record {
     there = there;
     list = list;
+    nets = λ i x h. read_there a.design net (get_or reads i x) reads sees.sound list (Contains-get_or reads i x h);
     whole = whole;
     range = λ i x h. subst (λ n. n ≤ top_number) (get_or_default numbers i 0 x h) ((loaded.each i h).range);
     within = loaded_reads;

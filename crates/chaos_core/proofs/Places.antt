@@ -1,10 +1,10 @@
 -- Places in read lists, and the words at them.
-use Rattle.std.proofs.Common.{◌≡◌, ℕ, zero, suc, ◌+◌, ◌*◌, ◌/◌, ◌%◌, ◌<◌, ◌≤◌, ◌==◌, Bool, true, false, cond, inl, inr, refl, sym, subst, ◌∙◌, List, [], ◌∷◌, length, get_or, arith}
+use Rattle.std.proofs.Common.{◌≡◌, ℕ, zero, suc, ◌+◌, ◌*◌, ◌/◌, ◌%◌, ◌<◌, ◌≤◌, ◌==◌, Bool, true, false, cond, inl, inr, refl, sym, subst, ◌∙◌, List, [], ◌∷◌, length, set, get_or, arith}
 use Rattle.std.specs.Prelude.{slice_index, IsTrue}
-use Rattle.std.specs.List.{Contains, slice_get}
+use Rattle.std.specs.List.{All, Contains, slice_get}
 use Rattle.std.proofs.lemmas.Bool.{cases_lt, cases_eq}
 use Rattle.std.proofs.lemmas.Bool.Decides.{nat_tests}
-use Rattle.std.proofs.lemmas.List.{get_or-map, length-map, get_or_default}
+use Rattle.std.proofs.lemmas.List.{get_or-map, length-map, get_or_default, get_or-set_same, get_or-set_other}
 use Rattle.std.proofs.lemmas.List.Elements.{All-contains, All-contains_itself, Contains-get_or}
 use Rattle.std.proofs.lemmas.Option.{slice_get_within}
 use Rattle.xt_model.specs.declared.net.NetId.{NetId}
@@ -19,7 +19,7 @@ use Rattle.miller_bits.proofs.Sums.{found}
 use Rattle.net_eval.specs.ReadLists.{ids}
 use Rattle.net_eval.proofs.Steady.{has_sink}
 use Rattle.chaos_core.specs.Tasks.{place_of, word_to_load}
-use Rattle.chaos_core.specs.Views.{Rises}
+use Rattle.chaos_core.specs.Views.{ArePlaces, Rises}
 
 -- ---- places
 contains_later : (x m : ℕ) (xs : List ℕ) (k : ℕ) → k < length (x ∷ xs) → get_or (x ∷ xs) k m ≡ m → (x ≡ m → ⊥) → Contains xs m
@@ -43,24 +43,34 @@ placed (r ∷ reads) net h = elim (cases_eq r net) [
       rw t (record { inside = (let k = more.inside in omega (arith, k)); at = more.at })
 ]
 
-pub place_from : (reads : List ℕ) (net middle : ℕ) → Rises reads → Contains reads net → middle < length reads → slice_index reads middle ≤ net → middle ≤ place_of reads net
-place_from reads net middle up there within low =
-    let p = placed reads net there in
-    elim (cases_lt (place_of reads net) middle) [
-      | inl h ↦ let k = up (place_of reads net) middle h within in absurd (omega (arith, k, p.at, low))
-      | inr h ↦ h
-    ]
+-- a place of numbers that rise is at most the number there
+pub rising_place : (reads : List ℕ) (i : ℕ) → Rises reads → i < length reads → i ≤ slice_index reads i
+rising_place reads zero up h = omega arith
+rising_place reads (suc i) up h =
+    let before = rising_place reads i up (omega arith) in
+    let less = up i (suc i) (omega arith) h in
+    omega (arith, before, less)
 
-pub place_before : (reads : List ℕ) (net middle : ℕ) → Rises reads → Contains reads net → (slice_index reads middle ≤ net → ⊥) → place_of reads net < middle
-place_before reads net middle up there high =
+-- one net more of a read list is given its place
+pub places_turn : (reads places : List ℕ) (k net : ℕ) → Rises reads → net < length places → k < length reads → slice_index reads k ≡ net
+    → ((i : ℕ) → i < k → slice_index places (slice_index reads i) ≡ i) → (i : ℕ) → i < k + 1 → slice_index (set places net k) (slice_index reads i) ≡ i
+places_turn reads places k net up there within at before i h = elim (cases_lt i k) [
+  | inl p ↦
+      let less = up i k p within in
+      get_or-set_other places net (slice_index reads i) k 0 (λ e. omega (arith, less, at, e)) ∙ before i p
+  | inr p ↦
+      let e : k ≡ i = omega (arith, p, h) in
+      subst (λ j. slice_index (set places net k) (slice_index reads j) ≡ j) e (subst (λ m. slice_index (set places net k) m ≡ k) (sym at) (get_or-set_same places net k 0 there))
+]
+
+-- the place of a net that is read
+pub place_there : (reads places : List ℕ) (net : ℕ) → ArePlaces reads places → Contains reads net → net < length places
+place_there reads places net are there = All-contains (λ m. m < length places) reads net are.inside there
+
+pub place_is : (reads places : List ℕ) (net : ℕ) → ArePlaces reads places → Contains reads net → slice_index places net ≡ place_of reads net
+place_is reads places net are there =
     let p = placed reads net there in
-    elim (cases_lt (place_of reads net) middle) [
-      | inl h ↦ h
-      | inr h ↦ elim (cases_eq middle (place_of reads net)) [
-        | inl e ↦ let q : slice_index reads middle ≡ net = subst (λ i. slice_index reads i ≡ net) (sym e) p.at in absurd (high (omega (arith, q)))
-        | inr ne ↦ let k = up middle (place_of reads net) (omega (arith, h, ne)) p.inside in absurd (high (omega (arith, k, p.at)))
-      ]
-    ]
+    subst (λ m. slice_index places m ≡ place_of reads net) p.at (are.each (place_of reads net) p.inside)
 
 pub id_at : (reads : List NetId) (place : ℕ) (x : NetId) → place < length reads → slice_index (ids reads) place ≡ (get_or reads place x).0
 id_at reads place x h =
@@ -69,6 +79,21 @@ id_at reads place x h =
 
 pub ids_count : (reads : List NetId) → length (ids reads) ≡ length reads
 ids_count reads = length-map reads (λ n. n.0)
+
+-- nets below a count are below what is no less
+pub nets_placed : (reads : List NetId) (count long : ℕ) → All (λ m. m < count) (ids reads) → count ≤ long → All (λ (n : NetId). n.0 < long) reads
+nets_placed reads count long each few i x h =
+    let c = ids_count reads in
+    let at = id_at reads i x h in
+    let lt = each i 0 (omega (arith, c, h)) in
+    omega (arith, at, lt, few)
+
+pub ids_below : (reads : List NetId) (long : ℕ) → All (λ (n : NetId). n.0 < long) reads → All (λ m. m < long) (ids reads)
+ids_below reads long each i m h =
+    let c = ids_count reads in
+    let x : NetId = record { 0 = m } in
+    let inside : i < length reads = omega (arith, c, h) in
+    subst (λ k. k < long) (sym (get_or-map (λ (n : NetId). n.0) reads i x m inside)) (each i x inside)
 
 -- ---- words
 -- the word that is loaded at the place of a word

@@ -1,6 +1,7 @@
 -- What the code of a step makes, in the words of its contract.
-use Rattle.std.proofs.Common.{◌≡◌, ℕ, zero, suc, ◌+◌, ◌*◌, ◌/◌, ◌%◌, ◌<◌, ◌≤◌, inl, inr, refl, sym, ap, subst, ◌∙◌, List, [], length, get_or, arith}
+use Rattle.std.proofs.Common.{◌≡◌, ℕ, zero, suc, ◌+◌, ◌*◌, ◌/◌, ◌%◌, ◌<◌, ◌≤◌, inl, inr, refl, sym, ap, subst, ◌∙◌, List, [], ◌++◌, length, take, drop, get_or, arith}
 use Rattle.std.specs.Prelude.{slice_index}
+use Rattle.std.proofs.Math.Seq.{take-append_seam}
 use Rattle.std.proofs.lemmas.Bool.{cases_lt}
 use Rattle.xt_model.specs.declared.net.NetId.{NetId}
 use Rattle.xt_model.specs.declared.net.Net.{Net}
@@ -125,3 +126,10 @@ published_steps d lists order k l net pair place value stage items is h after = 
 -- room stays
 pub room_stays : (lists : List (List NetId)) (before after : ℕ) → after ≡ before → ((net : ℕ) → 8 * length (list_of lists net) ≤ before) → (net : ℕ) → 8 * length (list_of lists net) ≤ after
 room_stays lists before after e h net = let k = h net in omega (arith, e, k)
+
+-- places stay: what is in a vector after its numbers were written by way of a slice is as long as before
+pub places_stay : (count n : ℕ) (xs ys : List ℕ) → n ≡ length xs → length ys ≡ length xs → count ≤ length xs → count ≤ length (take n (ys ++ drop (length ys) xs))
+places_stay count n xs ys is same few =
+    let P : ℕ → Type 0 = λ k. take k (ys ++ drop (length ys) xs) ≡ ys in
+    let long : length (take n (ys ++ drop (length ys) xs)) ≡ length ys = ap length (subst P (same ∙ sym is) (take-append_seam ys (drop (length ys) xs))) in
+    omega (arith, long, same, few)

@@ -32,7 +32,7 @@ good_from m lists workers kept fits = record {
 }
 
 pub rooms_from : (k : Knowledge) (lists : List (List NetId)) (workers : List Worker) → All (IsFitting k lists) workers → All (HasRoom lists) workers
-rooms_from k lists workers fits = λ i x h. (fits i x h).room
+rooms_from k lists workers fits = λ i x h. record { room = (fits i x h).room; places = (fits i x h).places }
 
 pub fits_from : (a : Setting) (m : Memory) (lists : List (List NetId)) (workers : List Worker) → m.setting ≡ a → IsGood a lists (state_of m workers) → All (HasRoom lists) workers
     → All (IsFitting (knowledge_of m) lists) workers
@@ -40,14 +40,22 @@ fits_from a m lists workers own good rooms =
     let P : Setting → Type 0 = λ b. IsGood b lists (state_of m workers) in
     let good' : IsGood m.setting lists (state_of m workers) = subst P (sym own) good in
     λ i x h. record {
-      room = rooms i x h;
+      room = (rooms i x h).room;
+      places = (rooms i x h).places;
       task = subst (Fits (knowledge_of m) lists) (task_there workers i x h) (good'.tasks i);
     }
 
-pub rooms_set : (lists : List (List NetId)) (workers : List Worker) (pick : ℕ) (x w : Worker) → pick < length workers → vec_capacity w.loaded ≡ vec_capacity (get_or workers pick x).loaded → All (HasRoom lists) workers
-    → All (HasRoom lists) (set workers pick w)
-rooms_set lists workers pick x w inside same rooms =
-    let own : HasRoom lists w = λ net. let r = rooms pick x inside net in omega (arith, same, r) in
+pub room_kept : (lists : List (List NetId)) (before after : Worker) → vec_capacity after.loaded ≡ vec_capacity before.loaded → length after.places.items ≡ length before.places.items
+    → HasRoom lists before → HasRoom lists after
+room_kept lists before after same long h = record {
+  room = λ net. let r = h.room net in omega (arith, same, r);
+  places = let p = h.places in omega (arith, long, p);
+}
+
+pub rooms_set : (lists : List (List NetId)) (workers : List Worker) (pick : ℕ) (x w : Worker) → pick < length workers → vec_capacity w.loaded ≡ vec_capacity (get_or workers pick x).loaded
+    → length w.places.items ≡ length (get_or workers pick x).places.items → All (HasRoom lists) workers → All (HasRoom lists) (set workers pick w)
+rooms_set lists workers pick x w inside same long rooms =
+    let own : HasRoom lists w = room_kept lists (get_or workers pick x) w same long (rooms pick x inside) in
     All-set (HasRoom lists) workers pick w own rooms
 
 -- one pick more

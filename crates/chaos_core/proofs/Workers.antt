@@ -111,14 +111,14 @@ module _ (d : Parts) (lists : List (List NetId)) (order : List ℕ) (b c : Memor
   one_late few = pick_late b.setting lists order b c workers (set workers pick w) pick y w moved refl inside refl own_steps few
 
   pub one_fits : AreReadLists d lists → IsOrder d.nets order → IsKept b → All (IsFitting (knowledge_of b) lists) workers → vec_capacity w.loaded ≡ vec_capacity (get_or workers pick y).loaded
-      → All (IsFitting (knowledge_of c) lists) (set workers pick w)
-  one_fits are o kept fits room =
+      → length w.places.items ≡ length (get_or workers pick y).places.items → All (IsFitting (knowledge_of c) lists) (set workers pick w)
+  one_fits are o kept fits room long =
       let a = b.setting in
       let s = state_of b workers in
       let good = good_from b lists workers kept fits in
       let P : Parts → Type 0 = λ v. AreReadLists v lists → IsOrder v.nets order → IsGood a lists (acted a lists order s pick) in
       let later = subst P own (λ x z. (act_reached a lists order s pick x z good (task_in s pick) (good.tasks pick)).good) are o in
-      fits_from a c lists (set workers pick w) one_setting (subst (IsGood a lists) (sym one_state) later) (rooms_set lists workers pick y w inside room (rooms_from (knowledge_of b) lists workers fits))
+      fits_from a c lists (set workers pick w) one_setting (subst (IsGood a lists) (sym one_state) later) (rooms_set lists workers pick y w inside room long (rooms_from (knowledge_of b) lists workers fits))
 
 -- ---- a round
 count_idle : (n : ℕ) → count_open (replicate n idle) ≡ n
@@ -138,7 +138,7 @@ module _ (workers : List Worker) (count : ℕ) (idles : map task_of workers ≡ 
         at_replicate (suc n) (suc k) lt = at_replicate n k (omega arith)
 
   pub idle_fits : (k : Knowledge) (lists : List (List NetId)) → All (HasRoom lists) workers → All (IsFitting k lists) workers
-  idle_fits k lists rooms = λ i x h. record { room = rooms i x h; task = subst (Fits k lists) (sym (each_idle i x h)) tt }
+  idle_fits k lists rooms = λ i x h. record { room = (rooms i x h).room; places = (rooms i x h).places; task = subst (Fits k lists) (sym (each_idle i x h)) tt }
 
   pub idle_few : (k : Knowledge) → count ≤ k.late → count_open (map task_of workers) ≤ k.late
   idle_few k few = let P : List Task → Type 0 = λ ts. count_open ts ≤ k.late in let c = count_idle count in subst P (sym idles) (omega (arith, c, few))

@@ -107,6 +107,7 @@ RoundsCarry = (a : Setting) (lists : List (List NetId)) (order : List ℕ) (work
     → AreReadLists a.design lists → IsOrder a.design.nets order → AreKept a p.words
     → IsRound a lists order workers p q → HasCarried a p.words q.words
 
--- a worker has room for each read list
-abbrev pub HasRoom : List (List NetId) → Worker → Type 0
-HasRoom lists worker = (net : ℕ) → 8 * length (list_of lists net) ≤ vec_capacity worker.loaded
+-- a worker has room for each read list, and a place for each net
+pub record HasRoom (lists : List (List NetId)) (worker : Worker) : Type 0 where
+  pub room : (net : ℕ) → 8 * length (list_of lists net) ≤ vec_capacity worker.loaded
+  pub places : length lists ≤ length worker.places.items

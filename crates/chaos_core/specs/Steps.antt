@@ -46,9 +46,10 @@ Fits k lists (loading net numbers) = FitsLoading k lists net numbers
 Fits k lists (publishing net pair place) = FitsPublishing k net pair place
 Fits k lists done = Unit {0}
 
--- a worker with room for each read list, at a task that fits
+-- a worker with room for each read list and a place for each net, at a task that fits
 pub record IsFitting (k : Knowledge) (lists : List (List NetId)) (worker : Worker) : Type 0 where
   pub room : (net : ℕ) → 8 * length (list_of lists net) ≤ vec_capacity worker.loaded
+  pub places : length lists ≤ length worker.places.items
   pub task : Fits k lists (task_of worker)
 
 -- what the next action at a task does on a board, from k to l, with this answer

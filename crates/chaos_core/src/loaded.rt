@@ -1,12 +1,12 @@
 //! The words of a read list that a worker has loaded, as a view of bounds.
 
-ghost use Rattle.std.specs.Prelude.{◌≡◌, ◌↔◌, ◌+◌, ◌-◌, ◌*◌, ◌/◌, ◌<◌, ◌≤◌, length, slice_index, IsTrue};
+ghost use Rattle.std.specs.Prelude.{◌≡◌, ◌*◌, ◌/◌, ◌<◌, ◌≤◌, length, slice_set};
 ghost use Rattle.std.specs.List.{All, Contains};
 ghost use Rattle.xt_model.specs.Quads.{IsPairInRange};
 ghost use Rattle.xt_meaning.specs.Words.{bound_in, top_number};
 ghost use Rattle.net_eval.specs.ReadLists.{ids};
 ghost use Rattle.chaos_core.specs.Tasks.{evaluated, loaded_bounds, place_of};
-ghost use Rattle.chaos_core.specs.Views.{IsLoaded, Rises};
+ghost use Rattle.chaos_core.specs.Views.{ArePlaces, IsLoaded, Rises};
 
 use net_eval::eval;
 use xt_model::{Bounds, Design, NetId, Pair};
@@ -19,59 +19,47 @@ pub fn bound_of(number: u64) -> i64
     (i128::from(number) - 4_611_686_018_427_387_904) as i64
 }
 
-/// Whether the net at a place of a read list has at most this number.
-fn is_at_most(reads: &[NetId], place: usize, net: usize) -> bool
-    requires { place < length reads.now }
-    ensures { IsTrue result ↔ (slice_index (ids reads.now) place ≤ net) }
+/// Gives a net its place in a read list.
+fn set_place(places: &mut [u32], net: u32, place: usize)
+    requires there { net < length places.old }
+    requires low { place ≤ net }
+    ensures { places.new ≡ slice_set places.old net place }
 {
-    reads[place].0 as usize <= net
+    places[net as usize] = place as u32;
 }
 
-/// The half of a range of places in which the place of a net lies.
-fn halved(reads: &[NetId], net: usize, low: usize, high: usize) -> (usize, usize)
+/// Gives each net of a read list its place there, which is no greater than its number, since the list rises.
+fn set_places(places: &mut [u32], reads: &[NetId])
     requires rising { Rises (ids reads.now) }
-    requires there { Contains (ids reads.now) net }
-    requires from { low ≤ place_of (ids reads.now) net }
-    requires to { place_of (ids reads.now) net < high }
-    requires end { high ≤ length reads.now }
-    requires several { low + 1 < high }
-    ensures from { result.0 ≤ place_of (ids reads.now) net }
-    ensures to { place_of (ids reads.now) net < result.1 }
-    ensures end { result.1 ≤ length reads.now }
-    ensures nearer { result.1 - result.0 < high - low }
+    requires inside { All (λ net. net.0 < length places.old) reads.now }
+    ensures places { ArePlaces (ids reads.now) places.new }
+    ensures count { length places.new ≡ length places.old }
 {
-    let middle = low + (high - low) / 2;
-    if is_at_most(reads, middle, net) {
-        return (middle, high);
+    for (place, net) in reads.iter().enumerate() {
+        set_place(places, net.0, place);
     }
-    (low, middle)
 }
 
-/// The place of a net in a read list.
-fn place(reads: &[NetId], net: usize) -> usize
-    requires rising { Rises (ids reads.now) }
-    requires there { Contains (ids reads.now) net }
-    ensures place { result ≡ place_of (ids reads.now) net }
-    ensures inside { result < length reads.now }
-{
-    let mut low = 0;
-    let mut high = reads.len();
-    'halves: while high - low > 1 {
-        let half = halved(reads, net, low, high);
-        low = half.0;
-        high = half.1;
-    }
-    low
-}
-
-/// The numbers loaded for a read list, eight for each of its nets.
+/// The numbers loaded for a read list, eight for each of its nets, and the place of each there.
 #[derive(Drop)]
 struct LoadedWords<'a> {
     reads: &'a [NetId],
     numbers: &'a [u64],
-    ghost rising: { Rises (ids reads.now) },
+    places: &'a [u32],
     ghost whole: { length numbers.now ≡ 8 * length reads.now },
     ghost range: { All (λ n. n ≤ top_number) numbers.now },
+    ghost placed: { ArePlaces (ids reads.now) places.now },
+}
+
+impl<'a> LoadedWords<'a> {
+    /// The place of a net in the read list.
+    fn place(&self, net: usize) -> usize
+        requires { Contains (ids self.now.reads.now) net }
+        ensures place { result ≡ place_of (ids self.now.reads.now) net }
+        ensures inside { result < length self.now.reads.now }
+    {
+        self.places[net] as usize
+    }
 }
 
 impl<'a> Bounds for LoadedWords<'a> {
@@ -80,17 +68,29 @@ impl<'a> Bounds for LoadedWords<'a> {
     ghost bound_of = { λ view word. loaded_bounds (ids view.reads.now) view.numbers.now word };
 
     fn bound(&self, word: usize) -> i64 {
-        let place = place(self.reads, word / 8);
-        bound_of(self.numbers[8 * place + word % 8])
+        bound_of(self.numbers[8 * self.place(word / 8) + word % 8])
     }
 }
 
-/// What the operator makes of a net of the numbers loaded for its read list.
-pub(crate) fn evaluate(design: &Design, reads: &[NetId], net: NetId, numbers: &[u64]) -> Pair
-    requires { IsLoaded design.now (ids reads.now) net.0 numbers.now }
+/// What the operator makes of a net of the numbers loaded for its read list. Writes the places of that list's nets.
+pub(crate) fn evaluate(
+    design: &Design,
+    reads: &[NetId],
+    net: NetId,
+    numbers: &[u64],
+    places: &mut [u32],
+) -> Pair
+    requires loaded { IsLoaded design.now (ids reads.now) net.0 numbers.now }
+    requires places { length design.now.nets ≤ length places.old }
     ensures value { result ≡ evaluated design.now (ids reads.now) numbers.now net.0 }
     ensures range { IsPairInRange result }
+    ensures count { length places.new ≡ length places.old }
 {
-    let view = LoadedWords { reads, numbers };
+    set_places(places, reads);
+    let view = LoadedWords {
+        reads,
+        numbers,
+        places,
+    };
     eval(design, net, &view)
 }

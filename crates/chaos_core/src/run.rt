@@ -1,6 +1,6 @@
 //! A worker's run over a board.
 
-ghost use Rattle.std.specs.Prelude.{◌≡◌, ℕ, ◌↔◌, ◌<◌, List, [], vec_capacity, IsTrue};
+ghost use Rattle.std.specs.Prelude.{◌≡◌, ℕ, ◌↔◌, ◌<◌, List, [], length, vec_capacity, IsTrue};
 ghost use Rattle.xt_model.specs.Levels.{IsOrder};
 ghost use Rattle.net_eval.specs.ReadLists.{AreReadLists};
 ghost use Rattle.chaos_core.specs.Tasks.{done, idle, task_of};
@@ -39,6 +39,7 @@ pub fn run_worker<B: Board>(
     ensures ran { (order : List ℕ) → IsOrder design.now.nets order → Ran order (B.knows board.old) (B.knows board.new) }
     ensures done { task_of worker.new ≡ done }
     ensures room { vec_capacity worker.new.loaded ≡ vec_capacity worker.old.loaded }
+    ensures places { length worker.new.places.items ≡ length worker.old.places.items }
 {
     'steps: while !is_done(worker) {
         worker_step(board, worker, design, lists, direction);

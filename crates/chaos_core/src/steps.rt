@@ -21,18 +21,27 @@ use net_eval::ReadLists;
 use xt_model::{Design, Direction, NetId, Pair};
 
 /// The stage of a worker that has loaded these numbers for a net: it goes on, until the read list is whole.
-fn stage_with(design: &Design, reads: &[NetId], net: NetId, numbers: &[u64]) -> Stage
+#[inline(always)]
+fn stage_with(
+    design: &Design,
+    reads: &[NetId],
+    net: NetId,
+    numbers: &[u64],
+    places: &mut [u32],
+) -> Stage
     requires few { length numbers.now ≤ 8 * length reads.now }
     requires whole { length numbers.now ≡ 8 * length reads.now
         → IsLoaded design.now (ids reads.now) net.0 numbers.now }
+    requires places { length design.now.nets ≤ length places.old }
     ensures task { task_at result numbers.now ≡ with_loaded design.now (ids reads.now) net.0 numbers.now }
     ensures range { 8 * length reads.now ≤ length numbers.now
         → IsPairInRange (evaluated design.now (ids reads.now) numbers.now net.0) }
+    ensures count { length places.new ≡ length places.old }
 {
     if numbers.len() < 8 * reads.len() {
         return Stage::Loading(net.0);
     }
-    Stage::Publishing(net.0, evaluate(design, reads, net, numbers), 0)
+    Stage::Publishing(net.0, evaluate(design, reads, net, numbers, places), 0)
 }
 
 /// An idle worker draws a place in the order of the nets, and begins with the net there.
@@ -51,6 +60,7 @@ fn draw_step<B: Board>(
     ensures step { (order : List ℕ) → IsOrder design.now.nets order
         → Steps design.now lists.now order (B.knows board.old) idle result (B.knows board.new) (task_of worker.new) }
     ensures room { vec_capacity worker.new.loaded ≡ vec_capacity worker.old.loaded }
+    ensures places { length worker.new.places.items ≡ length worker.old.places.items }
 {
     let number = board.draw();
     if number >= design.nets().len() as u64 {
@@ -59,7 +69,13 @@ fn draw_step<B: Board>(
     }
     let net = NetId(design.order()[number as usize]);
     worker.loaded.clear();
-    worker.stage = stage_with(design, lists.of(net), net, worker.loaded.as_slice());
+    worker.stage = stage_with(
+        design,
+        lists.of(net),
+        net,
+        worker.loaded.as_slice(),
+        worker.places.as_mut_slice(),
+    );
     Moved::Drew(number)
 }
 
@@ -79,13 +95,20 @@ fn load_step<B: Board>(
     ensures step { (order : List ℕ) → Steps design.now lists.now order (B.knows board.old)
         (loading net.0 worker.old.loaded.items) result (B.knows board.new) (task_of worker.new) }
     ensures room { vec_capacity worker.new.loaded ≡ vec_capacity worker.old.loaded }
+    ensures places { length worker.new.places.items ≡ length worker.old.places.items }
 {
     let reads = lists.of(net);
     let place = worker.loaded.as_slice().len();
     let word = 8 * reads[place / 8].0 as usize + place % 8;
     let number = board.load(word);
     worker.loaded.push_reserved(number);
-    worker.stage = stage_with(design, reads, net, worker.loaded.as_slice());
+    worker.stage = stage_with(
+        design,
+        reads,
+        net,
+        worker.loaded.as_slice(),
+        worker.places.as_mut_slice(),
+    );
     Moved::Loaded(word)
 }
 
@@ -143,6 +166,7 @@ fn publish_step<B: Board>(
         → Steps d lists order (B.knows board.old) (publishing net pair place) result (B.knows board.new)
         (task_of worker.new) }
     ensures room { vec_capacity worker.new.loaded ≡ vec_capacity worker.old.loaded }
+    ensures places { length worker.new.places.items ≡ length worker.old.places.items }
 {
     let word = 8 * net as usize + place as usize;
     publish(board, way, word, number_in(&pair, place));
@@ -171,6 +195,7 @@ pub fn worker_step<B: Board>(
         → Steps design.now lists.now order (B.knows board.old) (task_of worker.old) result (B.knows board.new)
         (task_of worker.new) }
     ensures room { vec_capacity worker.new.loaded ≡ vec_capacity worker.old.loaded }
+    ensures places { length worker.new.places.items ≡ length worker.old.places.items }
 {
     match worker.stage {
         Stage::Idle => draw_step(board, worker, design, lists),

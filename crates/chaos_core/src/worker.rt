@@ -1,6 +1,7 @@
 ghost use Rattle.std.specs.Prelude.{◌≡◌, ℕ, ◌*◌, ◌≤◌, length, vec_capacity, IfOk};
 ghost use Rattle.net_eval.specs.ReadLists.{reads_of};
 ghost use Rattle.chaos_core.specs.Tasks.{task_of, idle};
+ghost use Rattle.chaos_core.specs.Rounds.{HasRoom};
 
 use net_eval::ReadLists;
 use std::alloc::Global;
@@ -26,11 +27,12 @@ pub enum Moved {
 }
 
 /// One of those who evaluate the nets of a design over shared words, with room for the words of the longest read
-/// list.
+/// list, and for each net a number: its place in the read list that is evaluated, where it is read.
 #[derive(Debug, Drop)]
 pub struct Worker {
     pub(crate) stage: Stage,
     pub(crate) loaded: Vec<u64>,
+    pub(crate) places: Vec<u32>,
 }
 
 impl Worker {
@@ -39,14 +41,17 @@ impl Worker {
         ensures idle { IfOk result (λ worker. task_of worker ≡ idle) }
         ensures room { IfOk result (λ worker. (net : ℕ)
             → 8 * length (reads_of lists.now net) ≤ vec_capacity worker.loaded) }
+        ensures rooms { IfOk result (HasRoom lists.now) }
     {
         let Some(room) = lists.longest().checked_mul(8) else {
             return Err(NoMemory);
         };
         let loaded = Vec::with_capacity(alloc, room)?;
+        let places = vec![in alloc; 0; lists.count()]?;
         Ok(Worker {
             stage: Stage::Idle,
             loaded,
+            places,
         })
     }
 
@@ -54,6 +59,7 @@ impl Worker {
     pub fn reset(&mut self)
         ensures idle { task_of self.new ≡ idle }
         ensures room { vec_capacity self.new.loaded ≡ vec_capacity self.old.loaded }
+        ensures places { length self.new.places.items ≡ length self.old.places.items }
     {
         self.stage = Stage::Idle;
         self.loaded.clear();

@@ -1,13 +1,12 @@
 -- The parts of a round, joined: passes that were sent out, that workers ran by, and that come back.
-use Rattle.std.proofs.Common.{◌≡◌, ℕ, suc, ◌*◌, ◌<◌, ◌≤◌, sym, ap, subst, ◌∙◌, List, [], ◌∷◌, ◌++◌, length, take, drop, get_or, vec_capacity, arith}
+use Rattle.std.proofs.Common.{◌≡◌, ℕ, suc, ◌<◌, ◌≤◌, sym, ap, subst, ◌∙◌, List, [], ◌∷◌, ◌++◌, length, take, drop, get_or, vec_capacity, arith}
 use Rattle.std.specs.List.{All, AllZip}
 use Rattle.std.proofs.Math.Seq.{take-append_seam}
 use Rattle.std.proofs.lemmas.List.Elements.{All-push, AllZip-get_or}
 use Rattle.std.proofs.lemmas.Slice.Zip.{AllZip-long}
-use Rattle.std.proofs.lemmas.List.{length-append, length-map}
+use Rattle.std.proofs.lemmas.List.{length-append}
 use Rattle.xt_model.specs.declared.net.NetId.{NetId}
 use Rattle.xt_model.specs.Parts.{Parts}
-use Rattle.net_eval.specs.ReadLists.{reads_of}
 use Rattle.chaos_core.specs.declared.worker.Worker.{Worker}
 use Rattle.chaos_core.specs.Runs.{Ran}
 use Rattle.chaos_core.specs.Rounds.{HasRoom}
@@ -22,11 +21,12 @@ use Rattle.chaos_run.specs.Rounds.{AreRoomy, with_out, sent_of, IsSent, HasRun, 
 pub comes_back : (board : BoardId) (pass later : Holding) (order : List ℕ) → IsOf board pass → Ran order (knowledge_of pass) (knowledge_of later) → IsOf board later
 comes_back board pass later order own ran = record { table = home_is later.table pass.table ran.home ∙ own.table; setting = ran.setting ∙ own.setting }
 
-pub room_for : (lists : List (List NetId)) (before after : Worker) → vec_capacity after.loaded ≡ vec_capacity before.loaded → HasRoom lists before → HasRoom lists after
-room_for lists before after same room = λ net. let r = room net in omega (arith, same, r)
-
-pub room_of : (lists : List (List NetId)) (worker : Worker) → ((net : ℕ) → 8 * length (reads_of lists net) ≤ vec_capacity worker.loaded) → HasRoom lists worker
-room_of lists worker room = λ net. let n = length-map (reads_of lists net) (λ (n : NetId). n.0) in let r = room net in omega (arith, n, r)
+pub room_for : (lists : List (List NetId)) (before after : Worker) → vec_capacity after.loaded ≡ vec_capacity before.loaded → length after.places.items ≡ length before.places.items → HasRoom lists before
+    → HasRoom lists after
+room_for lists before after same long has = record {
+  room = λ net. let r = has.room net in omega (arith, same, r);
+  places = let p = has.places in omega (arith, long, p);
+}
 
 -- ---- all parts
 pub zip_each : {X : Type 0} (R : X → X → Type 0) (xs ys : List X) → length ys ≡ length xs → ((i : ℕ) (d : X) → i < length xs → R (get_or xs i d) (get_or ys i d)) → AllZip R xs ys

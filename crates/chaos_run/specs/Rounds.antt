@@ -22,7 +22,8 @@ pub record IsRun (board : BoardId) (d : Parts) (lists : List (List NetId)) (dire
   pub way : board.setting.way ≡ direction
   pub whole : AreReadLists d lists
 
--- there is room for the passes of all workers, and each idle one has room for the words of the longest read list
+-- there is room for the passes of all workers, and each idle one has room for the words of the longest read list and
+-- a place for each net
 pub record AreRoomy (lists : List (List NetId)) (workers : Workers) : Type 0 where
   pub all : length workers.idle.items + length workers.seated.items ≤ vec_capacity workers.idle
   pub passes : length workers.idle.items + length workers.seated.items ≤ vec_capacity workers.seated

@@ -1,5 +1,8 @@
-use Rattle.chaos_core.proofs.Places.{words_read}
+use Rattle.chaos_core.proofs.Places.{nets_placed, words_read}
 use Rattle.chaos_core.proofs.loaded.evaluate.Goals as goal
 
+pub set_places-requires-clause-inside : goal.set_places-requires-clause-inside
+set_places-requires-clause-inside c = nets_placed _ _ _ c.requires.loaded.nets c.requires.places
+
 pub eval-requires-clause-words : goal.eval-requires-clause-words
-eval-requires-clause-words c = words_read _ _ _ c.requires.list
+eval-requires-clause-words c = words_read _ _ _ c.requires.loaded.list

@@ -26,7 +26,7 @@ pub returns-clause-fits : goal.returns-clause-fits
 returns-clause-fits c =
     let order = c.requires.lists.ordered.0 in
     one_fits c.args.design.now c.args.lists.now order c.args.board.now c.worker_step.new.board c.args.workers.now c.next_open-place.result c.index-workers-place.result c.worker_step.new.worker c.worker_step.result
-    c.requires.design c.next_open-place.ensures.inside (c.worker_step.ensures.step order c.requires.lists.ordered.1) c.requires.lists c.requires.lists.ordered.1 c.words.ensures.kept c.requires.fits c.worker_step.ensures.room
+    c.requires.design c.next_open-place.ensures.inside (c.worker_step.ensures.step order c.requires.lists.ordered.1) c.requires.lists c.requires.lists.ordered.1 c.words.ensures.kept c.requires.fits c.worker_step.ensures.room c.worker_step.ensures.places
 
 pub returns-clause-late : goal.returns-clause-late
 returns-clause-late c =

@@ -9,4 +9,5 @@ invariant-loop-worker l = record {
   count : length l.worker-items ≡ length l.initial.worker-items;
   idle : (k : ℕ) (x : Worker) → k < l.worker-index → task_of (get_or l.worker-items k x) ≡ idle;
   rooms : (k : ℕ) (x : Worker) → k < length l.worker-items → vec_capacity (get_or l.worker-items k x).loaded ≡ vec_capacity (get_or l.initial.worker-items k x).loaded;
+  places : (k : ℕ) (x : Worker) → k < length l.worker-items → length (get_or l.worker-items k x).places.items ≡ length (get_or l.initial.worker-items k x).places.items;
 }

@@ -30,6 +30,7 @@ steps-preserved g c = record {
       c.requires.lists.sound c.requires.lists o;
   fits = c.worker_step.ensures.fits;
   room = c.worker_step.ensures.room ∙ c.steps.invariant.room;
+  places = c.worker_step.ensures.places ∙ c.steps.invariant.places;
 }
 
 pub returns-clause-ran : goal.returns-clause-ran

@@ -12,6 +12,7 @@ invariant-steps g l = record {
   running : (order : List ℕ) → IsOrder l.design.nets order → Running l.lists order (g.B.Board.knows l.initial.board) (g.B.Board.knows l.board) (task_of l.worker);
   fits : IsFitting (g.B.Board.knows l.board) l.lists l.worker;
   room : vec_capacity l.worker.loaded ≡ vec_capacity l.initial.worker.loaded;
+  places : length l.worker.places.items ≡ length l.initial.worker.places.items;
 }
 
 abbrev pub decreases-steps : goal.decreases-steps

@@ -52,7 +52,7 @@ loop-pick-preserved c =
       state = λ ord oo.
           turn_state b.setting d ls ord s c.requires.design c.requires.lists oo good now next ws _ picks i 0 y w c.worker_step.result inv.setting c.loop-pick-test.true inside refl (c.worker_step.ensures.step ord oo)
           (inv.state ord oo);
-      rooms = rooms_set ls ws pick y w inside c.worker_step.ensures.room inv.rooms;
+      rooms = rooms_set ls ws pick y w inside c.worker_step.ensures.room c.worker_step.ensures.places inv.rooms;
       late = turn_late b.setting d ls order s c.requires.design c.requires.lists o good now next ws _ pick y w c.worker_step.result inv.setting inside refl (c.worker_step.ensures.step order o) inv.late;
     }
 

@@ -1,5 +1,5 @@
-use Rattle.std.proofs.Common.{◌∙◌}
-use Rattle.chaos_core.proofs.Stages.{drawn_there, drawn_steps, room_stays}
+use Rattle.std.proofs.Common.{◌∙◌, ap, length}
+use Rattle.chaos_core.proofs.Stages.{drawn_there, drawn_steps, places_stay, room_stays}
 use Rattle.chaos_core.proofs.DrawStep.{draw_whole, draw_fits}
 use Rattle.chaos_core.proofs.steps.draw_step.Goals as goal
 
@@ -14,6 +14,8 @@ stage_with-worker-requires-clause-whole g c =
 pub returns-clause-fits : goal.returns-clause-fits
 returns-clause-fits g c = record {
   room = room_stays c.args.lists.now _ _ c.clear.ensures.capacity c.requires.fits.room;
+  places = places_stay (length c.args.lists.now) c.args.worker.now.places.len c.args.worker.now.places.items c.stage_with-worker.new.places c.args.worker.now.places.ok.0
+      (c.stage_with-worker.ensures.count ∙ ap length c.as_mut_slice.ensures.value) c.requires.fits.places;
   task = draw_fits (g.B.Board.knows c.args.board.now) (g.B.Board.knows c.draw-number.new.self) c.args.lists.now c.draw-number.result c.args.design.now c.order.result.now _ _ _ _ c.requires.design c.requires.lists
       c.order.ensures.value (rw c.nets.ensures.value at c.if-number-nets.false) c.of.ensures c.as_slice.ensures.value c.clear.ensures.items c.draw-number.ensures.draws c.draw-number.ensures.seen
       c.stage_with-worker.ensures.range c.stage_with-worker.ensures.task;

@@ -1,4 +1,4 @@
-use Rattle.std.proofs.Common.{sym, subst}
+use Rattle.std.proofs.Common.{sym, subst, arith}
 use Rattle.chaos_core.specs.Tasks.{task_at, task_of}
 use Rattle.chaos_core.specs.Steps.{Steps}
 use Rattle.chaos_core.proofs.Stages.{room_stays}
@@ -12,6 +12,7 @@ returns-in-Loading-clause-step g c = λ order o.
 pub returns-in-Publishing-clause-fits : goal.returns-in-Publishing-clause-fits
 returns-in-Publishing-clause-fits g c = record {
   room = room_stays c.args.lists.now _ _ c.publish_step.ensures.room c.requires.fits.room;
+  places = let same = c.publish_step.ensures.places in let few = c.requires.fits.places in omega (arith, same, few);
   task = c.publish_step.ensures.fits c.args.lists.now;
 }
 

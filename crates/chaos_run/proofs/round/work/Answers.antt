@@ -10,5 +10,5 @@ returns g c =
     record {
       own = comes_back c.args.run.now.board.now before after ordered.0 c.requires.ready.own (c.run_worker.ensures.ran ordered.0 ordered.1);
       ran = c.run_worker.ensures.ran;
-      room = room_for c.args.run.now.lists.now c.args.own.now.worker c.run_worker.new.worker (c.run_worker.ensures.room ∙ c.reset.ensures.room) c.requires.ready.room;
+      room = room_for c.args.run.now.lists.now c.args.own.now.worker c.run_worker.new.worker (c.run_worker.ensures.room ∙ c.reset.ensures.room) (c.run_worker.ensures.places ∙ c.reset.ensures.places) c.requires.ready.room;
     }
