@@ -7,6 +7,7 @@ mod LoadStep
 mod DrawStep
 mod Running
 mod Ends
+mod Several
 pub mod Kept
 mod Numbered
 mod Actions

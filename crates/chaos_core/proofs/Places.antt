@@ -63,10 +63,7 @@ places_turn reads places k net up there within at before i h = elim (cases_lt i 
       subst (λ j. slice_index (set places net k) (slice_index reads j) ≡ j) e (subst (λ m. slice_index (set places net k) m ≡ k) (sym at) (get_or-set_same places net k 0 there))
 ]
 
--- the place of a net that is read
-pub place_there : (reads places : List ℕ) (net : ℕ) → ArePlaces reads places → Contains reads net → net < length places
-place_there reads places net are there = All-contains (λ m. m < length places) reads net are.inside there
-
+-- what is kept for a net that is read is its place
 pub place_is : (reads places : List ℕ) (net : ℕ) → ArePlaces reads places → Contains reads net → slice_index places net ≡ place_of reads net
 place_is reads places net are there =
     let p = placed reads net there in

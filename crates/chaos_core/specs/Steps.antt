@@ -1,5 +1,5 @@
 -- Workers that fit a board, and one step of a worker on it.
-use Rattle.std.specs.Prelude.{◌≡◌, ℕ, ◌+◌, ◌*◌, ◌%◌, ◌<◌, ◌≤◌, List, length, slice_index, vec_capacity}
+use Rattle.std.specs.Prelude.{◌≡◌, ℕ, zero, suc, ◌+◌, ◌*◌, ◌%◌, ◌<◌, ◌≤◌, List, length, slice_index, vec_capacity}
 use Rattle.xt_model.specs.declared.net.NetId.{NetId}
 use Rattle.xt_model.specs.declared.quad.Pair.{Pair}
 use Rattle.xt_model.specs.Quads.{IsPairInRange}
@@ -68,3 +68,10 @@ pub record Steps (d : Parts) (lists : List (List NetId)) (order : List ℕ)
   pub acts : Acts lists t k answer l
   pub next : u ≡ moved_on d lists order t answer
   pub move : moved ≡ move_of d lists t answer
+
+-- so many steps of a worker, one after another, each from a task that fits
+abbrev pub AreSteps : Parts → List (List NetId) → List ℕ → ℕ → Knowledge → Task → Knowledge → Task → Type 0
+AreSteps d lists order zero k t l u = (l ≡ k) × (u ≡ t)
+AreSteps d lists order (suc n) k t l u =
+    (m : Knowledge) × (v : Task) × (moved : Moved) × AreSteps d lists order n k t m v × Fits m lists v
+    × Steps d lists order m v moved l u

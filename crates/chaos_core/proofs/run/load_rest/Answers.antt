@@ -1,0 +1,118 @@
+use Rattle.std.proofs.Common.{◌≡◌, ℕ, suc, refl, ◌∙◌, sym, ap, subst, length, arith}
+use Rattle.chaos_core.specs.Boards.{Knowledge}
+use Rattle.chaos_core.specs.Tasks.{Task, evaluated, list_of, publishing}
+use Rattle.chaos_core.specs.Steps.{AreSteps, Fits}
+use Rattle.chaos_core.proofs.Stages.{load_word, places_stay, room_stays}
+use Rattle.chaos_core.proofs.Several.{all_now, inside_now, loaded_then, more_now, none_more, publishes_now, some_steps, steps_then, whole_now}
+use Rattle.chaos_core.proofs.run.load_rest.Goals as goal
+
+pub words-init : goal.words-init
+words-init g c =
+    let k = g.B.Board.knows c.args.board.now in
+    let fits = subst (Fits k c.args.lists.now) c.requires.loading c.requires.fits.task in
+    record {
+      setting = refl;
+      seen = fits.seen;
+      loaded = fits.loaded;
+      steps = λ order. (0, none_more c.args.design.now c.args.lists.now order k c.args.net.0 c.args.worker.now.loaded.items fits.more);
+      room = refl;
+      places = refl;
+    }
+
+pub load-number-requires : goal.load-number-requires
+load-number-requires g c =
+    let k = g.B.Board.knows c.args.board.now in
+    let l = g.B.Board.knows c.words.board in
+    let lists = c.args.lists.now in
+    let net = c.args.net.0 in
+    let numbers = c.args.worker.now.loaded.items in
+    let items = c.words.worker.loaded.items in
+    let d = c.args.design.now in
+    let inv = c.words.invariant in
+    let fits = subst (Fits k lists) c.requires.loading c.requires.fits.task in
+    let more = more_now k l lists net numbers items d c.requires.design c.requires.lists fits inv.setting inv.seen inv.loaded c.of-reads.result.now c.as_slice.result.now c.of-reads.ensures c.as_slice.ensures.value
+    c.words-test.true in
+    let is = load_word lists net items c.of-reads.result.now c.as_slice-place.result.now (record { 0 = 0 }) c.of-reads.ensures c.as_slice-place.ensures.value more in
+    record { word = inside_now k l lists net numbers items d c.requires.design c.requires.lists fits inv.setting inv.seen inv.loaded _ is more }
+
+pub words-preserved : goal.words-preserved
+words-preserved g c =
+    let k = g.B.Board.knows c.args.board.now in
+    let l = g.B.Board.knows c.words.board in
+    let m = g.B.Board.knows c.load-number.new.self in
+    let lists = c.args.lists.now in
+    let net = c.args.net.0 in
+    let numbers = c.args.worker.now.loaded.items in
+    let items = c.words.worker.loaded.items in
+    let later = c.push_reserved.new.self.items in
+    let d = c.args.design.now in
+    let inv = c.words.invariant in
+    let fits = subst (Fits k lists) c.requires.loading c.requires.fits.task in
+    let more = more_now k l lists net numbers items d c.requires.design c.requires.lists fits inv.setting inv.seen inv.loaded c.of-reads.result.now c.as_slice.result.now c.of-reads.ensures c.as_slice.ensures.value
+    c.words-test.true in
+    let is = load_word lists net items c.of-reads.result.now c.as_slice-place.result.now (record { 0 = 0 }) c.of-reads.ensures c.as_slice-place.ensures.value more in
+    record {
+      setting = ap (λ (x : Knowledge). x.setting) c.load-number.ensures.loads.after ∙ inv.setting;
+      seen = c.load-number.ensures.seen;
+      loaded = loaded_then k l lists net numbers items d c.requires.design c.requires.lists fits inv.setting inv.seen inv.loaded _ is more m c.load-number.result later c.load-number.ensures.loads c.load-number.ensures.seen
+          c.push_reserved.ensures.items;
+      steps = λ order.
+          let s = inv.steps order in (
+            suc s.0,
+            steps_then k l lists net numbers items d c.requires.design c.requires.lists fits inv.setting inv.seen inv.loaded _ is more m c.load-number.result later order s.0 c.load-number.ensures.loads
+                c.push_reserved.ensures.items s.1,
+          );
+      room = c.push_reserved.ensures.capacity ∙ inv.room;
+      places = inv.places;
+    }
+
+pub evaluate-pair-requires-clause-loaded : goal.evaluate-pair-requires-clause-loaded
+evaluate-pair-requires-clause-loaded g c =
+    let k = g.B.Board.knows c.args.board.now in
+    let l = g.B.Board.knows c.words.board in
+    let lists = c.args.lists.now in
+    let net = c.args.net.0 in
+    let inv = c.words.invariant in
+    let fits = subst (Fits k lists) c.requires.loading c.requires.fits.task in
+    let same = c.as_slice-2.ensures.value ∙ sym c.as_slice.ensures.value in
+    let long = ap length same in
+    whole_now k l lists net c.args.worker.now.loaded.items c.words.worker.loaded.items c.args.design.now c.requires.design c.requires.lists fits inv.setting inv.seen inv.loaded c.of-reads.result.now c.as_slice-2.result.now
+    c.of-reads.ensures c.as_slice-2.ensures.value (omega (arith, long, c.words-test.false))
+
+pub returns-clause-fits : goal.returns-clause-fits
+returns-clause-fits g c =
+    let k = g.B.Board.knows c.args.board.now in
+    let l = g.B.Board.knows c.words.board in
+    let lists = c.args.lists.now in
+    let net = c.args.net.0 in
+    let inv = c.words.invariant in
+    let fits = subst (Fits k lists) c.requires.loading c.requires.fits.task in
+    let same = c.as_slice-2.ensures.value ∙ sym c.as_slice.ensures.value in
+    let long = ap length same in
+    let few = c.requires.fits.places in
+    let kept = inv.places in
+    record {
+      room = room_stays lists _ _ inv.room c.requires.fits.room;
+      places = places_stay (length lists) c.words.worker.places.len c.words.worker.places.items c.evaluate-pair.new.places c.words.worker.places.ok.0
+          (c.evaluate-pair.ensures.count ∙ ap length c.as_mut_slice.ensures.value) (omega (arith, few, kept));
+      task = publishes_now k l lists net c.args.worker.now.loaded.items c.words.worker.loaded.items c.args.design.now c.requires.design c.requires.lists fits inv.setting inv.seen inv.loaded c.of-reads.result.now
+          c.as_slice-2.result.now c.evaluate-pair.result c.of-reads.ensures c.as_slice-2.ensures.value (omega (arith, long, c.words-test.false)) c.evaluate-pair.ensures.value c.evaluate-pair.ensures.range;
+    }
+
+pub returns-clause-steps : goal.returns-clause-steps
+returns-clause-steps g c = λ order.
+    let k = g.B.Board.knows c.args.board.now in
+    let l = g.B.Board.knows c.words.board in
+    let lists = c.args.lists.now in
+    let net = c.args.net.0 in
+    let numbers = c.args.worker.now.loaded.items in
+    let items = c.words.worker.loaded.items in
+    let d = c.args.design.now in
+    let inv = c.words.invariant in
+    let fits = subst (Fits k lists) c.requires.loading c.requires.fits.task in
+    let whole = all_now k l lists net numbers items d c.requires.design c.requires.lists fits inv.setting inv.seen inv.loaded c.of-reads.result.now c.as_slice.result.now c.of-reads.ensures c.as_slice.ensures.value
+    c.words-test.false in
+    let is : c.evaluate-pair.result ≡ evaluated d (list_of lists net) items net = rw (c.of-reads.ensures, c.as_slice-2.ensures.value) at c.evaluate-pair.ensures.value in
+    let s = inv.steps order in
+    let P : Task → Type 0 = λ t. (more : ℕ) × AreSteps d lists order (suc more) k t l (publishing net c.evaluate-pair.result 0) in
+    subst P (sym c.requires.loading) (some_steps d lists order s.0 k l net numbers items c.evaluate-pair.result whole is s.1)
