@@ -10,12 +10,10 @@ use thiserror::Error;
 use xt_model::{Code, LimitKind, Name};
 
 /// Why a line gives no value.
-#[derive(Clone, Copy, Debug, PartialEq, Eq, Drop, Error)]
+#[derive(Clone, Copy, Drop)]
 pub enum LineStop {
     /// The first of its tests that the line fails.
-    #[error("a line that is refused")]
     Refused(Code),
-    #[error("out of memory")]
     NoMemory,
 }
 
@@ -36,16 +34,14 @@ impl<T: Drop> From<AllocFailed<T>> for LineStop {
 }
 
 /// The first refusal of a text.
-#[derive(Debug, Drop, Error)]
+#[derive(Drop)]
 pub enum Fault {
     /// The line is refused from which on `left` newlines of the text are left.
-    #[error("a line that is refused")]
     Refused {
         left: usize,
         code: Code,
     },
     /// A limit is passed. The name is that of the net where the limit is its greatest load.
-    #[error("a limit that is passed")]
     Limit {
         what: LimitKind,
         name: Option<Name>,
@@ -54,11 +50,9 @@ pub enum Fault {
 }
 
 /// Why bytes give no value.
-#[derive(Debug, Drop, Error)]
+#[derive(Drop)]
 pub enum Stop {
-    #[error("a text that is refused")]
     At(Fault),
-    #[error("out of memory")]
     NoMemory,
 }
 

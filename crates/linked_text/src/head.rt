@@ -3,7 +3,7 @@
 use xt_model::Name;
 
 /// How many tables, nets and checks there are.
-#[derive(Clone, Copy, Debug, PartialEq, Eq)]
+#[derive(Clone, Copy)]
 pub struct Counts {
     pub tables: u32,
     pub nets: u32,
@@ -12,7 +12,7 @@ pub struct Counts {
 
 /// The head of a net: its name, whether it is an input port, its load in aF, and how many couplings, sinks
 /// and arcs it has.
-#[derive(Debug, Drop)]
+#[derive(Drop)]
 pub struct NetHead {
     pub name: Name,
     pub input: bool,
@@ -23,7 +23,7 @@ pub struct NetHead {
 }
 
 /// How many couplings, coefficients and arcs some nets have in all.
-#[derive(Clone, Copy, Debug, PartialEq, Eq)]
+#[derive(Clone, Copy)]
 pub struct Sums {
     pub couplings: u128,
     pub coefficients: u128,

@@ -24,7 +24,6 @@ mod write_table;
 mod writer;
 
 pub use design::{has_numbered_lines, read_linked, read_linked_text};
-pub use fault::{Fault, LineStop, LinkedFault, Stop};
-pub use head::{Counts, NetHead, Sums};
+pub use fault::LinkedFault;
 pub use laws::{lines_are_counted, sound_texts_differ, texts_are_of_designs, texts_mean_one};
 pub use write::write_linked;
