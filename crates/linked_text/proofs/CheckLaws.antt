@@ -16,11 +16,11 @@ use Rattle.linked_text.specs.Linked.{table_field, delay_field, check_line}
 use Rattle.text_lines.specs.Words.{check_word}
 use Rattle.linked_text.specs.Fields.{nine, between, count, delay, hold_of, or_dash, is_name}
 use Rattle.linked_text.specs.Fits.{IsSmaller}
-use Rattle.linked_text.specs.EachLine.{Around, has_sink, has_table, numbered, holds, flop_in, port_in, check_in}
+use Rattle.linked_text.specs.EachLine.{Around, has_sink, has_table, has_word, worded, numbered, holds, flop_in, port_in, check_in}
 use Rattle.xt_model.specs.Results.{◌>>=◌}
 use Rattle.linked_text.proofs.Options.{both_true, some_is}
 use Rattle.linked_text.proofs.Cuts.{name_sound, name_tested}
-use Rattle.linked_text.proofs.Inversions.{ok_step, ok_is, worded_ok, numbered_ok, word_ok, holds_ok, is_word, seven_is, nine_is}
+use Rattle.linked_text.proofs.Inversions.{all_true, goes_on, ok_step, ok_is, worded_ok, numbered_ok, word_ok, holds_ok, is_word, seven_is, nine_is}
 use Rattle.linked_text.proofs.NumberLaws.{Clear, clear_count, clear_signed, clear_name, count_takes, count_again, between_takes, between_again, two_words}
 use Rattle.linked_text.proofs.LineLaws.{IsPlain, IsLine}
 
@@ -243,12 +243,49 @@ check_takes around l c e = elim (by_nine (flop_in around l) (nine l) (port_in ar
   | inr h ↦ port_takes around l c h
 ]
 
+flop_again : (around : Around) (f0 f1 name f3 f4 f5 f6 f7 f8 : List ℕ) (k : Bool) (dn ds cn cs : ℕ) (r g : Option ℕ)
+    → bytes_eq f0 (codes "flop") ≡ true → hold_of f1 ≡ Some k → count f3 ≡ Some dn → count f4 ≡ Some ds → count f5 ≡ Some cn → count f6 ≡ Some cs
+    → or_dash count f7 ≡ Some r → or_dash count f8 ≡ Some g → around.period ≡ true → is_name name ≡ true → has_sink around.sinks dn ds ≡ true → has_sink around.sinks cn cs ≡ true
+    → has_table around.tables r ≡ true → has_table around.tables g ≡ true
+    → flop_in around (f0 ∷ f1 ∷ name ∷ f3 ∷ f4 ∷ f5 ∷ f6 ∷ f7 ∷ f8 ∷ []) ≡ Ok (Flop name k (record { 0 = dn }) ds (record { 0 = cn }) cs r g)
+unfolding flop_in
+flop_again around f0 f1 name f3 f4 f5 f6 f7 f8 k dn ds cn cs r g word kind datum datum_sink clock clock_sink rise fall period named from by up down =
+    goes_on _ (ap has_word word)
+    (goes_on _ (ap worded kind)
+    (goes_on _ (ap numbered datum)
+    (goes_on _ (ap numbered datum_sink)
+    (goes_on _ (ap numbered clock)
+    (goes_on _ (ap numbered clock_sink)
+    (goes_on _ (ap numbered rise)
+    (goes_on _ (ap numbered fall)
+    (goes_on _ (ap holds (all_true period (all_true named from)))
+    (goes_on _ (ap holds by)
+    (goes_on _ (ap holds (all_true up down))
+    refl))))))))))
+
+port_again : (around : Around) (f0 f1 name f3 f4 f5 f6 : List ℕ) (k : Bool) (net sink : ℕ) (r g : Option ℤ)
+    → bytes_eq f0 (codes "port") ≡ true → hold_of f1 ≡ Some k → count f3 ≡ Some net → count f4 ≡ Some sink → or_dash delay f5 ≡ Some r → or_dash delay f6 ≡ Some g
+    → around.period ≡ true → is_name name ≡ true → has_sink around.sinks net sink ≡ true
+    → port_in around (f0 ∷ f1 ∷ name ∷ f3 ∷ f4 ∷ f5 ∷ f6 ∷ []) ≡ Ok (Port name k (record { 0 = net }) sink r g)
+unfolding port_in
+port_again around f0 f1 name f3 f4 f5 f6 k net sink r g word kind at at_sink rise fall period named there =
+    goes_on _ (ap has_word word)
+    (goes_on _ (ap worded kind)
+    (goes_on _ (ap numbered at)
+    (goes_on _ (ap numbered at_sink)
+    (goes_on _ (ap numbered rise)
+    (goes_on _ (ap numbered fall)
+    (goes_on _ (ap holds (all_true period (all_true named there)))
+    refl))))))
+
 check_again : (around : Around) (c : CheckPoint) → FitsCheck around c → check_in around (check_line c) ≡ Ok c
-unfolding flop_in port_in
 check_again around (Flop name hold datum datum_sink clock clock_sink rise fall) h =
-    rw (hold_again hold, count_again datum.0 h.datum32, count_again datum_sink h.datum_sink32, count_again clock.0 h.clock32, count_again clock_sink h.clock_sink32, table_again rise h.rise32, table_again fall h.fall32, h.period, name_tested name h.name, h.datum, h.clock, h.rise, h.fall) refl
+    flop_again around (codes "flop") (check_word hold) name (decimal datum.0) (decimal datum_sink) (decimal clock.0) (decimal clock_sink) (table_field rise) (table_field fall)
+    hold datum.0 datum_sink clock.0 clock_sink rise fall refl (hold_again hold) (count_again datum.0 h.datum32) (count_again datum_sink h.datum_sink32) (count_again clock.0 h.clock32)
+    (count_again clock_sink h.clock_sink32) (table_again rise h.rise32) (table_again fall h.fall32) h.period (name_tested name h.name) h.datum h.clock h.rise h.fall
 check_again around (Port name hold net sink rise fall) h =
-    rw (hold_again hold, count_again net.0 h.net32, count_again sink h.sink32, delay_again rise h.rise, delay_again fall h.fall, h.period, name_tested name h.name, h.there) refl
+    port_again around (codes "port") (check_word hold) name (decimal net.0) (decimal sink) (delay_field rise) (delay_field fall) hold net.0 sink rise fall refl (hold_again hold)
+    (count_again net.0 h.net32) (count_again sink h.sink32) (delay_again rise h.rise) (delay_again fall h.fall) h.period (name_tested name h.name) h.there
 
 check_plain : (around : Around) (c : CheckPoint) → FitsCheck around c → IsPlain (check_line c)
 check_plain around (Flop name hold datum datum_sink clock clock_sink rise fall) h =

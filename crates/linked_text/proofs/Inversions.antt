@@ -1,5 +1,5 @@
 -- What follows where a test of a line was passed, or a step gave something.
-use Rattle.std.proofs.Common.{◌≡◌, ℕ, ◌≤◌, Bool, true, false, leb, List, [], ◌∷◌, Option, Some, None, Result, Ok, Err, refl, ap, subst}
+use Rattle.std.proofs.Common.{◌≡◌, ℕ, ◌≤◌, Bool, true, false, not, ◌&&◌, leb, List, [], ◌∷◌, Option, Some, None, Result, Ok, Err, refl, sym, ap, subst, ◌∙◌}
 use Rattle.std.specs.Prelude.{if◌then◌else◌}
 use Rattle.std.specs.Str.{bytes_eq}
 use Rattle.std.proofs.lemmas.Bool.{leb-true, le-leb}
@@ -18,6 +18,22 @@ use Rattle.xt_model.specs.Results.{◌>>=◌}
 pub ok_step : {A B E : Type 0} {r : Result A E} {f : A → Result B E} {y : B} → (r >>= f) ≡ Ok y → (x : A) × (r ≡ Ok x) × (f x ≡ Ok y)
 ok_step {r = Ok x} e = (x, refl, e)
 ok_step {r = Err c} e = absurd cc
+
+-- a step that gave something, and one that was refused
+pub goes_on : {A B E : Type 0} {r : Result A E} {x : A} (f : A → Result B E) {y : Result B E} → r ≡ Ok x → f x ≡ y → (r >>= f) ≡ y
+goes_on f e h = ap (λ t. t >>= f) e ∙ h
+
+pub is_refused : {A B E : Type 0} {r : Result A E} {c : E} (f : A → Result B E) → r ≡ Err c → (r >>= f) ≡ Err c
+is_refused f e = ap (λ t. t >>= f) e
+
+pub all_true : {a b : Bool} → a ≡ true → b ≡ true → (a && b) ≡ true
+all_true e h = rw (e, h) refl
+
+pub first_false : {a : Bool} (b : Bool) → a ≡ false → (a && b) ≡ false
+first_false b e = rw e refl
+
+pub last_false : {a b : Bool} → a ≡ true → b ≡ false → (a && b) ≡ false
+last_false e h = rw (e, h) refl
 
 pub ok_is : {A E : Type 0} (x y : A) → ◌≡◌ {A = Result A E} (Ok x) (Ok y) → x ≡ y
 ok_is x y e = cc
@@ -44,6 +60,21 @@ holds_ok {b = false} e = absurd cc
 
 pub is_word : (f w : List ℕ) → bytes_eq f w ≡ true → f ≡ w
 is_word f w e = (bytes_eq-Decides f w).0 e
+
+-- a field that was compared with a word
+pub word_differs : (f : List ℕ) {text w : List ℕ} {differ : Bool} → differ ≡ not (bytes_eq f text) → text ≡ w → differ ≡ true → bytes_eq f w ≡ false
+word_differs f {text} {w} compared written differ = go (bytes_eq f w) (sym differ ∙ (compared ∙ ap (λ t. not (bytes_eq f t)) written))
+  where
+    go : (b : Bool) → true ≡ not b → b ≡ false
+    go true e = absurd cc
+    go false e = refl
+
+pub word_agrees : (f : List ℕ) {text w : List ℕ} {differ : Bool} → differ ≡ not (bytes_eq f text) → text ≡ w → differ ≡ false → bytes_eq f w ≡ true
+word_agrees f {text} {w} compared written same = go (bytes_eq f w) (sym same ∙ (compared ∙ ap (λ t. not (bytes_eq f t)) written))
+  where
+    go : (b : Bool) → false ≡ not b → b ≡ true
+    go true e = refl
+    go false e = absurd cc
 
 pub same_word : (w : List ℕ) → bytes_eq w w ≡ true
 same_word w = (bytes_eq-Decides w w).1 refl

@@ -10,6 +10,7 @@ use Rattle.linked_text.specs.declared.head.NetHead.{NetHead}
 use Rattle.linked_text.specs.declared.head.Sums.{Sums}
 use Rattle.linked_text.specs.Meaning.{Read, with_front, many_at, head_at, heads_at, sums_with, net_at, nets_at, nets_behind}
 use Rattle.xt_model.specs.Options as options
+use Rattle.xt_model.specs.Results.{◌>>=◌}
 
 regroup : {A : Type 0} (front more : List A) (read : Read (List A)) → with_front front (with_front more read) ≡ with_front (front ++ more) read
 regroup {A} front more (Ok x) = ap (λ (xs : List A). Ok (xs, x.1)) (sym (append_assoc front more x.0))
@@ -18,6 +19,13 @@ regroup front more (Err e) = refl
 failed : {A B : Type 0} (e : Stop) (read : Result A Fault) (total : Result B Fault) → ((f : Fault) → read ≡ Err f → total ≡ Err f) → Fails e read → Fails e total
 failed stops.NoMemory read total f h = tt
 failed (stops.At fault) read total f h = f fault h
+
+-- a step that fails, and one behind a step that gave something
+pub fails_here : {A B : Type 0} (e : Stop) (r : Result A Fault) (f : A → Result B Fault) → Fails e r → Fails e (r >>= f)
+fails_here e r f h = failed e r (r >>= f) (λ fault refused. ap (λ t. t >>= f) refused) h
+
+pub fails_later : {A B : Type 0} (e : Stop) {r : Result A Fault} {x : A} (f : A → Result B Fault) → r ≡ Ok x → Fails e (f x) → Fails e (r >>= f)
+fails_later e f given h = subst (λ t. Fails e (t >>= f)) (sym given) h
 
 -- what is still read begins with more, which was read
 pub goes_on : {A : Type 0} (front more : List A) (still after total : Read (List A)) → still ≡ with_front more after

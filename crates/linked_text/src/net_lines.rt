@@ -18,6 +18,12 @@ use xt_model::{Coupling, Edge, Name, NetId, Quad, Row, SinkPin, TimingArc};
 
 // ---- the words of the lines
 
+fn is_couple(word: &[u8]) -> bool
+    ensures { result ≡ bytes_eq word.now (codes "couple") }
+{
+    matches!(word, b"couple")
+}
+
 fn is_sink(word: &[u8]) -> bool
     ensures { result ≡ bytes_eq word.now (codes "sink") }
 {
@@ -114,7 +120,7 @@ impl LineReader for CouplingReader {
         let Some((word, to, cap)) = three(line) else {
             return Err(WORDS);
         };
-        if !matches!(word, b"couple") {
+        if !is_couple(word) {
             return Err(WORDS);
         }
         let Some(to) = count(to) else {
