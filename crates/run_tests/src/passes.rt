@@ -50,16 +50,31 @@ fn found(alloc: Global, design: &Design, start: &Windows) -> Result<[u64; 4], No
     Ok([before, early, joined, words.first().copied().unwrap_or(0)])
 }
 
+/// The same from windows in which nothing switches.
+fn found_from_low(alloc: Global, design: &Design) -> Result<[u64; 4], Fail>
+    requires { 0 < length design.now.nets }
+{
+    let top = top(alloc, design)?;
+    let start = low(alloc, design, &top)?;
+    Ok(found(alloc, design, &start)?)
+}
+
+/// The same of the design of one source.
+fn found_of_one(alloc: Global) -> Result<[u64; 4], Fail> {
+    let design = read(alloc, ONE)?;
+    if design.nets().is_empty() {
+        return Err(Fail::from("no net"));
+    }
+    found_from_low(alloc, &design)
+}
+
 // The net rises at 1000 fs, and nothing switches at the start: 2^63 stands for 2^62, and 2^62 + 1000 for 1000.
 #[test]
 fn a_publication_is_found_before_its_pass_is_joined(rt: HostRuntime) -> Result<(), Fail> {
-    let alloc = rt.alloc();
-    let design = read(alloc, ONE)?;
-    let top = top(alloc, &design)?;
-    let start = low(alloc, &design, &top)?;
-    assert!(rt; !design.nets().is_empty());
-    let found = found(alloc, &design, &start)?;
     let rises = 4_611_686_018_427_388_904;
-    assert_eq!(rt; found, [9_223_372_036_854_775_808, rises, rises, rises]);
+    assert_eq!(rt;
+        found_of_one(rt.alloc())?,
+        [9_223_372_036_854_775_808, rises, rises, rises]
+    );
     Ok(())
 }

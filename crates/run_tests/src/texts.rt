@@ -1,4 +1,31 @@
-//! Designs of the tests.
+//! Designs of the tests, and rows of tables.
+
+/// The field of this number of a row with such marks between its fields; an empty one past the last.
+pub fn field(row: &str, mark: char, number: usize) -> &str {
+    let mut before = number;
+    for part in row.split(mark) {
+        if before == 0 {
+            return part.trim();
+        }
+        before -= 1;
+    }
+    ""
+}
+
+/// The text of a design by its name.
+pub fn text_of(name: &str) -> &'static [u8] {
+    match name {
+        "empty" => EMPTY,
+        "one" => ONE,
+        "chain" => CHAIN,
+        "load pair" => LOAD_PAIR,
+        "cross" => CROSS,
+        "ports" => PORTS,
+        "inside" => INSIDE,
+        "ten gates" => TEN_GATES,
+        _ => &[],
+    }
+}
 
 /// A design without nets.
 pub const EMPTY: &[u8] = b"\
@@ -97,7 +124,7 @@ pub const CROSS: &[u8] = b"\
     end\n";
 
 /// One net that rises and never falls, with 2 fs of wire to a port that is checked.
-pub const PORTS: &[u8] = b"\
+const PORTS: &[u8] = b"\
     xtalk-design 1\n\
     counts 0 1 2\n\
     period 10000\n\
@@ -110,7 +137,7 @@ pub const PORTS: &[u8] = b"\
     end\n";
 
 /// A flip-flop whose table has its greatest value inside the slews of its clock and of its rising data.
-pub const INSIDE: &[u8] = b"\
+const INSIDE: &[u8] = b"\
     xtalk-design 1\n\
     counts 1 2 1\n\
     period 100\n\
@@ -133,7 +160,7 @@ pub const INSIDE: &[u8] = b"\
 
 /// Ten gates in a row from source s to net h. Net m falls with each edge of s; net z rises by an arc from an edge that
 /// never switches, by one from m, and by one from s itself.
-pub const TEN_GATES: &[u8] = b"\
+const TEN_GATES: &[u8] = b"\
     xtalk-design 1\n\
     counts 5 11 0\n\
     period none\n\

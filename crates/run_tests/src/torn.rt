@@ -9,7 +9,7 @@ ghost use Rattle.chaos_core.specs.Tasks.{idle, task_of};
 ghost use Rattle.chaos_core.specs.Rounds.{HasRoom};
 
 use crate::starts::{low, read, top};
-use crate::texts::CHAIN;
+use crate::texts::{CHAIN, field};
 use chaos_core::{MemoryBoard, Worker, run_schedule, settle_picked};
 use net_eval::{ReadLists, read_lists};
 use std::alloc::{AllocError, Global};
@@ -83,44 +83,82 @@ fn torn(
     board.windows(alloc)
 }
 
-/// The windows of the chain after these picks, and after a whole run from there on.
-fn torn_and_settled(alloc: Global, digits: &[u8]) -> Result<(Windows, Windows), Fail> {
-    let design = read(alloc, CHAIN)?;
-    let lists = read_lists(alloc, &design)?;
-    let top = top(alloc, &design)?;
-    let start = low(alloc, &design, &top)?;
-    let torn = torn(alloc, &design, &lists, &start, digits)?;
-    let end = settle_picked(alloc, &design, &lists, Direction::Widen, &torn, 1, 0)?;
+/// The windows from this start after these picks, and after a whole run from there on.
+fn torn_and_settled(
+    alloc: Global,
+    design: &Design,
+    lists: &ReadLists,
+    start: &Windows,
+    digits: &[u8],
+) -> Result<(Windows, Windows), NoMemory>
+    requires start { IsFittingStart Widen design.now start.now }
+    requires lists { AreReadLists design.now lists.now }
+{
+    let torn = torn(alloc, design, lists, start, digits)?;
+    let end = settle_picked(alloc, design, lists, Direction::Widen, &torn, 1, 0)?;
     Ok((torn, end.windows))
 }
 
-/// Picks, and whether net b rises after them. Worker 1 draws net a, which has nothing to read, and publishes its eight
-/// words. Worker 0 draws net b, loads the sixteen words of both nets, and publishes the eight of b.
-const TORN: [(&[u8], bool); 6] = [
-    // Worker 0 loads the least time of a before worker 1 publishes it, and all else after.
-    (b"1001111111100000000000000000000000", false),
-    // Worker 0 loads the whole window of a before.
-    (b"1000000000111111110000000000000000", false),
-    // Worker 0 loads both times after worker 1 published them, and both slews before.
-    (b"1110000011111100000000000000000000", false),
-    // Worker 0 loads the greatest slew alone before.
-    (b"1111000001111100000000000000000000", false),
-    // Worker 0 loads all of the rising window after, and the falling one before, in which nothing switches.
-    (b"1111100000000011110000000000000000", true),
-    // Worker 0 loads all after.
-    (b"1111111110000000000000000000000000", true),
-];
+/// The same from windows in which nothing switches.
+fn torn_from_low(
+    alloc: Global,
+    design: &Design,
+    lists: &ReadLists,
+    digits: &[u8],
+) -> Result<(Windows, Windows), Fail>
+    requires { AreReadLists design.now lists.now }
+{
+    let top = top(alloc, design)?;
+    let start = low(alloc, design, &top)?;
+    Ok(torn_and_settled(alloc, design, lists, &start, digits)?)
+}
+
+/// Picks, whether net b rises after them, and what worker 0 loads. Worker 1 draws net a, which has nothing to read, and
+/// publishes its eight words. Worker 0 draws net b, loads the sixteen words of both nets, and publishes the eight of b.
+const TORN: &str = "\
+1001111111100000000000000000000000 | quiet | Worker 0 loads the least time of a before worker 1 publishes it, and all \
+    else after.
+1000000000111111110000000000000000 | quiet | Worker 0 loads the whole window of a before.
+1110000011111100000000000000000000 | quiet | Worker 0 loads both times after worker 1 published them, and both slews \
+    before.
+1111000001111100000000000000000000 | quiet | Worker 0 loads the greatest slew alone before.
+1111100000000011110000000000000000 | rises | Worker 0 loads all of the rising window after, and the falling one \
+    before, in which nothing switches.
+1111111110000000000000000000000000 | rises | Worker 0 loads all after.
+";
+
+/// Whether a and b have their windows after the picks of a row, and after a whole run from there on.
+fn ends_as_wanted(
+    alloc: Global,
+    design: &Design,
+    lists: &ReadLists,
+    row: &str,
+) -> Result<bool, Fail>
+    requires { AreReadLists design.now lists.now }
+{
+    let (torn, settled) = torn_from_low(alloc, design, lists, field(row, '|', 0).as_bytes())?;
+    let b = if field(row, '|', 1) == "rises" {
+        rises_at(1500)
+    } else {
+        QUIET
+    };
+    Ok(
+        torn.pairs() == [rises_at(1000), b].as_slice()
+            && settled.pairs() == [rises_at(1000), rises_at(1500)].as_slice(),
+    )
+}
+
+/// The same of the chain.
+fn chain_ends_as_wanted(alloc: Global, row: &str) -> Result<bool, Fail> {
+    let design = read(alloc, CHAIN)?;
+    let lists = read_lists(alloc, &design)?;
+    ends_as_wanted(alloc, &design, &lists, row)
+}
 
 #[test]
 fn a_torn_read_makes_no_window_and_a_further_round_mends_it(rt: HostRuntime) -> Result<(), Fail> {
-    for (digits, rises) in &TORN {
-        let (torn, settled) = torn_and_settled(rt.alloc(), digits)?;
-        let b = if *rises { rises_at(1500) } else { QUIET };
-        assert_eq!(rt; torn.pairs(), [rises_at(1000), b].as_slice());
-        assert_eq!(rt;
-            settled.pairs(),
-            [rises_at(1000), rises_at(1500)].as_slice()
-        );
+    for row in TORN.lines() {
+        assert!(rt; chain_ends_as_wanted(rt.alloc(), row)?, "{row}");
     }
     Ok(())
 }
