@@ -8,12 +8,32 @@ use std::thread::Threads;
 use xt_io::{MemoryFiles, MemorySink};
 use xtalk_top::xtalk;
 
-/// The status of a call, and what stands on the output and on the error stream after it.
+/// The field of this number of a row, whose fields have bars between them; an empty one past the last.
+pub fn field(row: &str, number: usize) -> &str {
+    let mut before = number;
+    for part in row.split('|') {
+        if before == 0 {
+            return part.trim();
+        }
+        before -= 1;
+    }
+    ""
+}
+
+/// What a call has: its files, its output and its error stream.
+#[derive(Drop)]
+pub struct Streams {
+    pub files: MemoryFiles,
+    pub out: MemorySink,
+    pub err: MemorySink,
+}
+
+/// The status of a call, and the output and the error stream after it.
 #[derive(Drop)]
 pub struct Ended {
     pub status: u8,
-    pub out: Vec<u8>,
-    pub err: Vec<u8>,
+    pub out: MemorySink,
+    pub err: MemorySink,
 }
 
 /// What is outside: the numbers of the calls on the files and on the output that fail, the most bytes that the output
@@ -37,16 +57,18 @@ pub fn calm(alloc: Global) -> Outside {
     }
 }
 
-pub fn strings(alloc: Global, words: &[&str]) -> Result<Vec<String>, AllocError> {
-    let mut all = Vec::new(alloc);
-    for word in words {
-        all.push(String::from_str(alloc, word)?)?;
+/// The words that a line has, between its spaces: `∅` stands for a word of no letters, `␣` for a space in a word.
+pub fn words_of(alloc: Global, line: &str) -> Result<Vec<String>, AllocError> {
+    let mut words = Vec::new(alloc);
+    for word in line.split_whitespace() {
+        let word = word.replace(alloc, '∅', "")?;
+        words.push(word.as_str().replace(alloc, '␣', " ")?)?;
     }
-    Ok(all)
+    Ok(words)
 }
 
 /// The one file `one.xt`.
-pub fn one_file(alloc: Global, text: &[u8], fail: Vec<u64>) -> Result<MemoryFiles, Fail> {
+fn one_file(alloc: Global, text: &[u8], fail: Vec<u64>) -> Result<MemoryFiles, Fail> {
     let mut held = Vec::new(alloc);
     held.push((
         String::from_str(alloc, "one.xt")?,
@@ -55,47 +77,75 @@ pub fn one_file(alloc: Global, text: &[u8], fail: Vec<u64>) -> Result<MemoryFile
     Ok(MemoryFiles::new(alloc, held, fail)?)
 }
 
+/// The file `one.xt` with this text, and two streams.
+pub fn streams_of(alloc: Global, text: &[u8], outside: Outside) -> Result<Streams, Fail> {
+    let Outside {
+        files,
+        out,
+        most,
+        room,
+    } = outside;
+    let err = MemorySink::new(alloc, Vec::new(alloc), 4096, 4096)?;
+    let out = MemorySink::new(alloc, out, most, room)?;
+    let files = one_file(alloc, text, files)?;
+    Ok(Streams { files, out, err })
+}
+
 /// Runs the words where `one.xt` has this text.
 pub fn run<R: Threads + Sync>(
     rt: &R,
     alloc: Global,
-    words: &[&str],
+    words: &str,
     text: &[u8],
     outside: Outside,
 ) -> Result<Ended, Fail> {
-    let words = strings(alloc, words)?;
-    let mut files = one_file(alloc, text, outside.files)?;
-    let mut out = MemorySink::new(alloc, outside.out, outside.most, outside.room)?;
-    let mut err = MemorySink::new(alloc, Vec::new(alloc), 4096, 4096)?;
+    let words = words_of(alloc, words)?;
+    let Streams {
+        mut files,
+        mut out,
+        mut err,
+    } = streams_of(alloc, text, outside)?;
     let status = xtalk(rt, alloc, &words, &mut files, &mut out, &mut err);
-    Ok(Ended {
-        status,
-        out: Vec::from_slice(alloc, out.bytes())?,
-        err: Vec::from_slice(alloc, err.bytes())?,
-    })
+    Ok(Ended { status, out, err })
 }
 
 /// Whether the words print this text, and nothing else, where `one.xt` has that text.
 pub fn prints<R: Threads + Sync>(
     rt: &R,
     alloc: Global,
-    words: &[&str],
+    words: &str,
     text: &[u8],
     printed: &[u8],
 ) -> Result<bool, Fail> {
     let ended = run(rt, alloc, words, text, calm(alloc))?;
-    Ok(ended.status == 0 && ended.out.as_slice() == printed && ended.err.is_empty())
+    Ok(ended.status == 0 && ended.out.bytes() == printed && ended.err.bytes().is_empty())
 }
 
 /// Whether the words end with this status and this line, and print nothing, where `one.xt` has that text.
 pub fn refuses<R: Threads + Sync>(
     rt: &R,
     alloc: Global,
-    words: &[&str],
+    words: &str,
     text: &[u8],
     status: u8,
     line: &[u8],
 ) -> Result<bool, Fail> {
     let ended = run(rt, alloc, words, text, calm(alloc))?;
-    Ok(ended.status == status && ended.out.is_empty() && ended.err.as_slice() == line)
+    Ok(ended.status == status && ended.out.bytes().is_empty() && ended.err.bytes() == line)
+}
+
+/// Whether each of these lines of words prints this text where `one.xt` has that text.
+pub fn each_prints<R: Threads + Sync>(
+    rt: &R,
+    alloc: Global,
+    lines: &str,
+    text: &[u8],
+    printed: &[u8],
+) -> Result<bool, Fail> {
+    for words in lines.lines() {
+        if !prints(rt, alloc, words, text, printed)? {
+            return Ok(false);
+        }
+    }
+    Ok(true)
 }

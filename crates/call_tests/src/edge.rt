@@ -1,6 +1,6 @@
 //! The edge of the program, over the words and the files of the system.
 
-use crate::call::strings;
+use crate::call::words_of;
 use std::test::Fail;
 use xtalk_edge::run;
 
@@ -10,13 +10,12 @@ fn ends_with_the_status_of_its_words(rt: HostRuntime) -> Result<(), Fail> {
     let alloc = rt.alloc();
     let none: Option<Vec<String>> = None;
     assert_eq!(rt; run(&rt, none, rt, Vec::new(alloc), Vec::new(alloc)), 9);
-    let cases: [(&[&str], u8); 3] = [
-        (&[], 2),
-        (&["gen", "--number=7", "--nets=1"], 0),
-        (&["solve", "none/none"], 6),
-    ];
-    for (words, wanted) in cases {
-        let words = Some(strings(alloc, words)?);
+    for (words, wanted) in [
+        ("", 2),
+        ("gen --number=7 --nets=1", 0),
+        ("solve none/none", 6),
+    ] {
+        let words = Some(words_of(alloc, words)?);
         let status = run(&rt, words, rt, Vec::new(alloc), Vec::new(alloc));
         assert_eq!(rt; status, wanted);
     }

@@ -1,15 +1,14 @@
 //! Calls with a gate, which each of several workers passes in every round.
 
-use crate::call::one_file;
+use crate::call::{Streams, calm, streams_of, words_of};
 use crate::designs::{
     CROSS, CROSS_REPORT, EMPTY, EMPTY_REPORT, LOAD_PAIR, LOAD_PAIR_REPORT, ONE, ONE_REPORT,
 };
 use chaos_core::{Gate, MeetGate, OpenGate};
-use std::alloc::{AllocError, Global};
+use std::alloc::Global;
 use std::sync::atomic::{AtomicU64, Ordering};
 use std::test::Fail;
 use std::thread::Threads;
-use xt_io::MemorySink;
 use xtalk_top::xtalk_gated;
 
 /// A gate that holds nobody, and notes which workers pass: a bit for each of workers 1 to 64, the lowest for worker 1,
@@ -46,15 +45,6 @@ impl Gate for NoteGate {
     }
 }
 
-/// The words of a line.
-fn split(alloc: Global, line: &str) -> Result<Vec<String>, AllocError> {
-    let mut words = Vec::new(alloc);
-    for word in line.split_whitespace() {
-        words.push(String::from_str(alloc, word)?)?;
-    }
-    Ok(words)
-}
-
 /// Whether the words of a line print this text, and nothing else, where `one.xt` has that text.
 fn prints<R: Threads + Sync, G: Gate>(
     rt: &R,
@@ -64,21 +54,27 @@ fn prints<R: Threads + Sync, G: Gate>(
     text: &[u8],
     printed: &[u8],
 ) -> Result<bool, Fail> {
-    let words = split(alloc, line)?;
-    let mut files = one_file(alloc, text, Vec::new(alloc))?;
-    let mut out = MemorySink::new(alloc, Vec::new(alloc), 4096, 4096)?;
-    let mut err = MemorySink::new(alloc, Vec::new(alloc), 4096, 4096)?;
+    let words = words_of(alloc, line)?;
+    let Streams {
+        mut files,
+        mut out,
+        mut err,
+    } = streams_of(alloc, text, calm(alloc))?;
     let status = xtalk_gated(rt, alloc, gate, &words, &mut files, &mut out, &mut err);
     Ok(status == 0 && out.bytes() == printed && err.bytes().is_empty())
+}
+
+/// Whether two workers meet, and print the report of the coupled gates.
+fn two_meet<R: Threads + Sync>(rt: &R, alloc: Global) -> Result<bool, Fail> {
+    let gate = MeetGate::new();
+    let line = "solve one.xt --workers 2";
+    Ok(prints(rt, alloc, &gate, line, LOAD_PAIR, LOAD_PAIR_REPORT)? && !gate.late())
 }
 
 // Workers that run one after another never meet.
 #[test]
 fn two_workers_meet_and_the_report_is_printed(rt: HostRuntime) -> Result<(), Fail> {
-    let gate = MeetGate::new();
-    let line = "solve one.xt --workers 2";
-    assert!(rt; prints(&rt, rt.alloc(), &gate, line, LOAD_PAIR, LOAD_PAIR_REPORT)?);
-    assert!(rt; !gate.late());
+    assert!(rt; two_meet(&rt, rt.alloc())?);
     Ok(())
 }
 
@@ -90,6 +86,19 @@ const SUMMARY: &[u8] = b"\
     least 24.000\n\
     greatest 24.000\n\
     end\n";
+
+/// Whether the words of a line print this text where `one.xt` has that text, and the workers with these bits pass.
+fn passes<R: Threads + Sync>(
+    rt: &R,
+    alloc: Global,
+    line: &str,
+    text: &[u8],
+    printed: &[u8],
+    workers: u64,
+) -> Result<bool, Fail> {
+    let gate = NoteGate::new();
+    Ok(prints(rt, alloc, &gate, line, text, printed)? && gate.passed() == Some(workers))
+}
 
 /// Words, the text of their file, what they print, and the bits of the workers that pass the gate. One worker alone
 /// passes none, and so do the workers of `replay`, who take turns.
@@ -120,12 +129,10 @@ const PASSES: [(&str, &[u8], &[u8], u64); 6] = [
 #[test]
 fn as_many_workers_pass_as_the_words_say(rt: HostRuntime) -> Result<(), Fail> {
     for (line, text, printed, workers) in &PASSES {
-        let gate = NoteGate::new();
         assert!(rt;
-            prints(&rt, rt.alloc(), &gate, line, text, printed)?,
+            passes(&rt, rt.alloc(), line, text, printed, *workers)?,
             "{line}"
         );
-        assert_eq!(rt; gate.passed(), Some(*workers), "{line}");
     }
     Ok(())
 }

@@ -6,21 +6,35 @@ use crate::refused_texts::{BACKWARD, CHECKED, LOOP, TOO_EARLY, TOO_LATE, TOO_SLO
 use itoa::Buffer;
 use std::alloc::{AllocError, Global};
 use std::test::Fail;
+use std::thread::Threads;
 
 #[test]
 fn refuses_texts_limits_and_names(rt: HostRuntime) -> Result<(), Fail> {
-    let cases: [(&str, &[u8], u8, &[u8]); 8] = [
-        ("one.xt", CHECKED, 3, b"one.xt:7: X1\n"),
-        ("one.xt", LOOP, 3, b"one.xt:14: X3\n"),
-        ("one.xt", BACKWARD, 3, b"one.xt:5: X3\n"),
-        ("one.xt", TWICE, 3, b"one.xt:5: X3\n"),
-        ("one.xt", TOO_LATE, 5, b"limit: time a 70368744177665\n"),
-        ("one.xt", TOO_SLOW, 5, b"limit: slew a 1099511627778\n"),
-        ("one.xt", TOO_EARLY, 5, b"limit: time b -70368744177665\n"),
-        ("two.xt", ONE, 6, b"read fault: two.xt\n"),
+    let cases: [(&str, &[u8], u8, &str); 8] = [
+        ("solve one.xt", CHECKED, 3, "one.xt:7: X1\n"),
+        ("solve one.xt", LOOP, 3, "one.xt:14: X3\n"),
+        ("solve one.xt", BACKWARD, 3, "one.xt:5: X3\n"),
+        ("solve one.xt", TWICE, 3, "one.xt:5: X3\n"),
+        (
+            "solve one.xt",
+            TOO_LATE,
+            5,
+            "limit: time a 70368744177665\n",
+        ),
+        ("solve one.xt", TOO_SLOW, 5, "limit: slew a 1099511627778\n"),
+        (
+            "solve one.xt",
+            TOO_EARLY,
+            5,
+            "limit: time b -70368744177665\n",
+        ),
+        ("solve two.xt", ONE, 6, "read fault: two.xt\n"),
     ];
-    for (name, text, status, line) in cases {
-        assert!(rt; refuses(&rt, rt.alloc(), &["solve", name], text, status, line)?);
+    for (words, text, status, line) in cases {
+        assert!(rt;
+            refuses(&rt, rt.alloc(), words, text, status, line.as_bytes())?,
+            "{line}"
+        );
     }
     Ok(())
 }
@@ -31,7 +45,7 @@ fn refuses_a_file_that_is_too_long(rt: HostRuntime) -> Result<(), Fail> {
     let alloc = rt.alloc();
     let zeros: Vec<u8> = vec![in alloc; 0; 268_435_457]?;
     let line = b"limit: file one.xt 268435457\n";
-    assert!(rt; refuses(&rt, alloc, &["solve", "one.xt"], &zeros, 5, line)?);
+    assert!(rt; refuses(&rt, alloc, "solve one.xt", &zeros, 5, line)?);
     Ok(())
 }
 
@@ -55,17 +69,26 @@ fn quiet_nets(alloc: Global, count: u32, name: &[u8]) -> Result<Vec<u8>, AllocEr
     Ok(text)
 }
 
+/// The status of solving so many nets whose names have so many letters before their numbers.
+fn status_of_nets<R: Threads + Sync>(
+    rt: &R,
+    alloc: Global,
+    letters: usize,
+    count: u32,
+) -> Result<u8, Fail> {
+    let name: Vec<u8> = vec![in alloc; b'n'; letters]?;
+    let text = quiet_nets(alloc, count, &name)?;
+    let mut outside = calm(alloc);
+    outside.room = 1 << 24;
+    let ended = run(rt, alloc, "solve one.xt", &text, outside)?;
+    Ok(ended.status)
+}
+
 // A name may have 2,049 bytes, the number among them; and a design 262,144 nets.
 #[test]
 fn takes_names_and_nets_up_to_their_limits(rt: HostRuntime) -> Result<(), Fail> {
-    let alloc = rt.alloc();
     for (letters, count, wanted) in [(2048, 1, 0), (2049, 1, 3), (1, 262_144, 0), (1, 262_145, 5)] {
-        let name: Vec<u8> = vec![in alloc; b'n'; letters]?;
-        let mut outside = calm(alloc);
-        outside.room = 1 << 24;
-        let text = quiet_nets(alloc, count, &name)?;
-        let ended = run(&rt, alloc, &["solve", "one.xt"], &text, outside)?;
-        assert_eq!(rt; ended.status, wanted);
+        assert_eq!(rt; status_of_nets(&rt, rt.alloc(), letters, count)?, wanted);
     }
     Ok(())
 }

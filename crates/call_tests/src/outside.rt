@@ -1,37 +1,89 @@
 //! What a call asks of the outside, and how it ends where the outside fails.
 
-use crate::call::{calm, one_file, run, strings};
+ghost use Rattle.std.specs.Prelude.{◌<◌};
+
+use crate::call::{Outside, Streams, calm, run, streams_of, words_of};
 use crate::designs::{CROSS, CROSS_REPORT, EMPTY, EMPTY_REPORT, ONE, ONE_REPORT};
+use std::alloc::{AllocError, Global};
 use std::test::Fail;
-use xt_io::{MemorySink, RecordedFiles};
+use std::thread::Threads;
+use xt_io::{MemoryFiles, RecordedFiles};
 use xtalk_top::xtalk;
+
+/// A status, the names that were opened, and for each read of how many bytes.
+fn recorded_in_words(
+    alloc: Global,
+    status: u8,
+    recorded: &RecordedFiles<MemoryFiles>,
+) -> Result<String, AllocError> {
+    let mut words = format!(in alloc; "{status}")?;
+    for name in recorded.opened.iter() {
+        words.push_str(" ")?;
+        words.push_str(name.as_str())?;
+    }
+    for length in recorded.lengths.iter() {
+        let length = format!(in alloc; " {length}")?;
+        words.push_str(length.as_str())?;
+    }
+    Ok(words)
+}
+
+/// The same of a call.
+fn recorded<R: Threads + Sync>(rt: &R, alloc: Global) -> Result<String, Fail> {
+    let words = words_of(alloc, "solve one.xt")?;
+    let Streams {
+        files,
+        mut out,
+        mut err,
+    } = streams_of(alloc, ONE, calm(alloc))?;
+    let mut recorded = RecordedFiles::new(alloc, files);
+    let status = xtalk(rt, alloc, &words, &mut recorded, &mut out, &mut err);
+    Ok(recorded_in_words(alloc, status, &recorded)?)
+}
 
 #[test]
 fn opens_the_file_once_and_reads_it_to_its_end(rt: HostRuntime) -> Result<(), Fail> {
-    let alloc = rt.alloc();
-    let words = strings(alloc, &["solve", "one.xt"])?;
-    let mut recorded = RecordedFiles::new(alloc, one_file(alloc, ONE, Vec::new(alloc))?);
-    let mut out = MemorySink::new(alloc, Vec::new(alloc), 4096, 4096)?;
-    let mut err = MemorySink::new(alloc, Vec::new(alloc), 4096, 4096)?;
-    let status = xtalk(&rt, alloc, &words, &mut recorded, &mut out, &mut err);
-    assert_eq!(rt; status, 0);
-    assert_eq!(rt; recorded.opened.len(), 1);
-    for name in recorded.opened.iter() {
-        assert_eq!(rt; name.as_str(), "one.xt");
-    }
-    assert_eq!(rt; recorded.lengths.as_slice(), [65_536; 2].as_slice());
+    let words = recorded(&rt, rt.alloc())?;
+    assert_eq!(rt; words.as_str(), "0 one.xt 65536 65536");
     Ok(())
+}
+
+/// Whether a call of `solve` on this text ends so.
+fn ends<R: Threads + Sync>(
+    rt: &R,
+    alloc: Global,
+    text: &[u8],
+    outside: Outside,
+    wanted: (u8, &[u8], &[u8]),
+) -> Result<bool, Fail> {
+    let (status, out, err) = wanted;
+    let ended = run(rt, alloc, "solve one.xt", text, outside)?;
+    Ok(ended.status == status && ended.out.bytes() == out && ended.err.bytes() == err)
+}
+
+/// The call of this number on the files fails.
+fn failing_files(alloc: Global, call: u64) -> Result<Outside, AllocError> {
+    let mut outside = calm(alloc);
+    outside.files.push(call)?;
+    Ok(outside)
+}
+
+/// The call of this number on the output fails, and each takes so many bytes at most.
+fn failing_output(alloc: Global, call: u64, most: usize) -> Result<Outside, AllocError>
+    requires { 0 < most }
+{
+    let mut outside = calm(alloc);
+    outside.out.push(call)?;
+    outside.most = most;
+    Ok(outside)
 }
 
 // A second call on the output would fail.
 #[test]
 fn writes_the_report_by_one_call(rt: HostRuntime) -> Result<(), Fail> {
-    let mut outside = calm(rt.alloc());
-    outside.out.push(1)?;
-    let ended = run(&rt, rt.alloc(), &["solve", "one.xt"], ONE, outside)?;
-    assert_eq!(rt; ended.status, 0);
-    assert_eq!(rt; ended.out.as_slice(), ONE_REPORT);
-    assert_eq!(rt; ended.err.len(), 0);
+    let outside = failing_output(rt.alloc(), 1, 1 << 30)?;
+    let wanted = (0, ONE_REPORT, b"".as_slice());
+    assert!(rt; ends(&rt, rt.alloc(), ONE, outside, wanted)?);
     Ok(())
 }
 
@@ -40,12 +92,9 @@ fn writes_the_report_by_one_call(rt: HostRuntime) -> Result<(), Fail> {
 fn ends_at_each_fault_of_the_file(rt: HostRuntime) -> Result<(), Fail> {
     for text in [ONE, EMPTY, CROSS] {
         for call in 0u64..3 {
-            let mut outside = calm(rt.alloc());
-            outside.files.push(call)?;
-            let ended = run(&rt, rt.alloc(), &["solve", "one.xt"], text, outside)?;
-            assert_eq!(rt; ended.status, 6);
-            assert_eq!(rt; ended.out.len(), 0);
-            assert_eq!(rt; ended.err.as_slice(), b"read fault: one.xt\n".as_slice());
+            let outside = failing_files(rt.alloc(), call)?;
+            let wanted = (6, b"".as_slice(), b"read fault: one.xt\n".as_slice());
+            assert!(rt; ends(&rt, rt.alloc(), text, outside, wanted)?, "{call}");
         }
     }
     Ok(())
@@ -60,13 +109,9 @@ fn ends_at_each_fault_of_the_output(rt: HostRuntime) -> Result<(), Fail> {
         (CROSS, CROSS_REPORT),
     ] {
         for call in 0..report.len() {
-            let mut outside = calm(rt.alloc());
-            outside.out.push(call as u64)?;
-            outside.most = 1;
-            let ended = run(&rt, rt.alloc(), &["solve", "one.xt"], text, outside)?;
-            assert_eq!(rt; ended.status, 7);
-            assert_eq!(rt; ended.out.as_slice(), &report[..call]);
-            assert_eq!(rt; ended.err.as_slice(), b"write fault\n".as_slice());
+            let outside = failing_output(rt.alloc(), call as u64, 1)?;
+            let wanted = (7, &report[..call], b"write fault\n".as_slice());
+            assert!(rt; ends(&rt, rt.alloc(), text, outside, wanted)?, "{call}");
         }
     }
     Ok(())
@@ -75,12 +120,8 @@ fn ends_at_each_fault_of_the_output(rt: HostRuntime) -> Result<(), Fail> {
 // Ten bytes are taken by the first call, and the second fails.
 #[test]
 fn ends_between_two_pieces(rt: HostRuntime) -> Result<(), Fail> {
-    let mut outside = calm(rt.alloc());
-    outside.out.push(1)?;
-    outside.most = 10;
-    let ended = run(&rt, rt.alloc(), &["solve", "one.xt"], EMPTY, outside)?;
-    assert_eq!(rt; ended.status, 7);
-    assert_eq!(rt; ended.out.as_slice(), b"xtalk 1\nne".as_slice());
-    assert_eq!(rt; ended.err.as_slice(), b"write fault\n".as_slice());
+    let outside = failing_output(rt.alloc(), 1, 10)?;
+    let wanted = (7, b"xtalk 1\nne".as_slice(), b"write fault\n".as_slice());
+    assert!(rt; ends(&rt, rt.alloc(), EMPTY, outside, wanted)?);
     Ok(())
 }
