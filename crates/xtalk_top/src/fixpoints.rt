@@ -16,14 +16,14 @@ use xt_model::{Design, Direction, NoMemory, Windows};
 /// How a design is solved, by so many workers, from 1 to 64. Where a number is given for their picks, they take turns
 /// on this thread, as a source that starts at the number picks them. Otherwise several run in threads of their own and
 /// pass a gate in each round; one alone runs in this thread and passes none.
-#[derive(Debug, Clone, Copy)]
+#[derive(Clone, Copy)]
 pub struct Runs {
     pub workers: u32,
     pub picks: Option<u64>,
 }
 
 /// The least and the greatest windows of a design.
-#[derive(Debug, Drop)]
+#[derive(Drop)]
 pub struct Fixpoints {
     pub low: Windows,
     pub high: Windows,

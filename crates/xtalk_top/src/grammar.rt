@@ -19,7 +19,7 @@ use std::alloc::{AllocError, Global};
 use thiserror::Error;
 
 /// What the value of an option may be.
-#[derive(Debug, Clone, Copy)]
+#[derive(Clone, Copy)]
 pub enum ValueRule {
     /// A number from the one to the other, in one to twenty decimal digits.
     Number { least: u64, most: u64 },
@@ -31,7 +31,7 @@ pub enum ValueRule {
 
 /// An option of a command: `--name value` or `--name=value`, at most once. A value is not empty and does not begin
 /// with a dash.
-#[derive(Debug, Clone, Copy)]
+#[derive(Clone, Copy)]
 pub struct OptionRule {
     pub name: &'static str,
     pub is_required: bool,
@@ -40,7 +40,7 @@ pub struct OptionRule {
 
 /// What may stand behind the word of a command, in any order: exactly these positional words, each by a name of its
 /// own, and options.
-#[derive(Debug, Clone, Copy)]
+#[derive(Clone, Copy)]
 pub struct CommandRule {
     pub positionals: &'static [&'static str],
     pub options: &'static [OptionRule],

@@ -7,7 +7,7 @@ use link_rules::LinkRefusal;
 use xt_model::{Code, LimitKind, Name};
 
 /// A limit that is passed: what has it, the name of its net, if it is a net's, and the number that passes it.
-#[derive(Debug, Drop)]
+#[derive(Drop)]
 pub struct PassedLimit {
     pub what: What,
     pub name: Option<Name>,
@@ -15,14 +15,14 @@ pub struct PassedLimit {
 }
 
 /// Why a design has no report.
-#[derive(Debug, Drop)]
+#[derive(Drop)]
 pub enum DesignRefusal {
     /// A window of its envelope passes a limit: the first one that does.
     Limit(PassedLimit),
 }
 
 /// Why a text means nothing.
-#[derive(Debug, Drop)]
+#[derive(Drop)]
 pub enum TextRefusal {
     /// It is refused at this line, counted from 1.
     At {
@@ -38,7 +38,7 @@ pub enum TextRefusal {
 }
 
 /// Why a file that was read gives nothing.
-#[derive(Debug, Drop)]
+#[derive(Drop)]
 pub enum FileRefusal {
     /// It has more bytes than a file may have.
     TooLong,
@@ -47,7 +47,7 @@ pub enum FileRefusal {
 }
 
 /// Why the values of the four files of a block make no design.
-#[derive(Debug, Drop)]
+#[derive(Drop)]
 pub enum Unlinked {
     /// They do not agree on something.
     Refused(LinkRefusal),
@@ -60,7 +60,7 @@ pub enum Unlinked {
 }
 
 /// Why the words and the files of a call mean no text.
-#[derive(Debug, Drop)]
+#[derive(Drop)]
 pub enum Refusal {
     /// The words are outside the grammar.
     Words,
@@ -73,7 +73,7 @@ pub enum Refusal {
 }
 
 /// Why a call has no text to print.
-#[derive(Debug, Drop)]
+#[derive(Drop)]
 pub enum Stop {
     /// The words and the files mean none.
     Refused(Refusal),
@@ -84,7 +84,7 @@ pub enum Stop {
 }
 
 /// Why a call did not print its whole text.
-#[derive(Debug, Drop)]
+#[derive(Drop)]
 pub enum Failure {
     /// It had none.
     NoText(Stop),

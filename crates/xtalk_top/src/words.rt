@@ -84,7 +84,7 @@ pub struct GenJob {
 }
 
 /// The command that the first word names.
-#[derive(Debug, Clone, Copy)]
+#[derive(Clone, Copy)]
 enum CommandName {
     Report,
     Solve,

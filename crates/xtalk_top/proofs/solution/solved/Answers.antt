@@ -16,3 +16,9 @@ pub returns-in-Ok-least_and_greatest-clause-high_within :
     goal.returns-in-Ok-least_and_greatest-clause-high_within
 returns-in-Ok-least_and_greatest-clause-high_within g c =
     fixpoint_within c.args.design.now c.in-Ok.top c.in-Ok-least_and_greatest.found.high c.in-Ok.ensures.envelope c.in-Ok.ensures.accepted c.in-Ok.ensures.contains c.in-Ok-least_and_greatest.ensures.greatest.fixpoint
+
+pub returns-in-Ok-least_and_greatest-clause-least : goal.returns-in-Ok-least_and_greatest-clause-least
+returns-in-Ok-least_and_greatest-clause-least g c = c.in-Ok-least_and_greatest.ensures.least
+
+pub returns-in-Ok-least_and_greatest-clause-greatest : goal.returns-in-Ok-least_and_greatest-clause-greatest
+returns-in-Ok-least_and_greatest-clause-greatest g c = c.in-Ok-least_and_greatest.ensures.greatest

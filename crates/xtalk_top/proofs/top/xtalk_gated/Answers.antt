@@ -1,3 +1,4 @@
+use Rattle.std.proofs.Common.{inl, refl}
 use Rattle.xtalk_top.specs.Words.{bytes_of}
 use Rattle.xtalk_top.specs.Call.{Means, HasFault}
 use Rattle.xtalk_top.proofs.Agreement.{one_outcome, refused, not_both, completed}
@@ -19,3 +20,9 @@ pub returns-clause-complete : goal.returns-clause-complete
 returns-clause-complete g c = λ accepted calm quiet.
     completed (Means (bytes_of c.args.words.now) (g.F.Files.content c.args.files.now)) (HasFault (g.F.Files.faults c.args.files.now) (g.F.Files.faults c.text_of.new.files))
     c.in-Err.stop c.refuse-in-Err.result accepted calm c.in-Err.ensures.stop c.refuse-in-Err.ensures.status
+
+pub returns-in-Ok-write_whole-clause-failed : goal.returns-in-Ok-write_whole-clause-failed
+returns-in-Ok-write_whole-clause-failed g c = λ bad. absurd (bad refl)
+
+pub returns-in-Ok-write_whole-clause-complete : goal.returns-in-Ok-write_whole-clause-complete
+returns-in-Ok-write_whole-clause-complete g c = λ accepted calm quiet. inl refl

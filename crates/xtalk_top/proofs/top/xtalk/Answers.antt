@@ -1,0 +1,16 @@
+use Rattle.xtalk_top.proofs.top.xtalk.Goals as goal
+
+pub returns-clause-printed : goal.returns-clause-printed
+returns-clause-printed g c = c.xtalk_gated.ensures.printed
+
+pub returns-clause-failed : goal.returns-clause-failed
+returns-clause-failed g c = c.xtalk_gated.ensures.failed
+
+pub returns-clause-kept : goal.returns-clause-kept
+returns-clause-kept g c = c.xtalk_gated.ensures.kept
+
+pub returns-clause-refused : goal.returns-clause-refused
+returns-clause-refused g c = c.xtalk_gated.ensures.refused
+
+pub returns-clause-complete : goal.returns-clause-complete
+returns-clause-complete g c = c.xtalk_gated.ensures.complete
