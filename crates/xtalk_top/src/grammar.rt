@@ -226,14 +226,22 @@ fn new_command<'a>(alloc: Global) -> Command<'a>
         .disable_version_flag(true)
 }
 
+// A command of these options.
+fn command_of_options<'a>(alloc: Global, options: &[OptionRule]) -> Result<Command<'a>, AllocError>
+    ensures { IfOk result (λ c. app_of c ≡ Reading.app_with (map Reading.option_rule (map option_form options.now))) }
+{
+    let mut command = new_command(alloc);
+    for option in options {
+        command = command.arg(option_arg(alloc, option))?;
+    }
+    Ok(command)
+}
+
 fn command<'a>(alloc: Global, rule: &CommandRule) -> Result<Command<'a>, AllocError>
     ensures app { IfOk result (λ c. app_of c ≡ app_of_form (form_of rule.now)) }
     ensures room { length rule.now.positionals.now < 2 ^ 63 }
 {
-    let mut command = new_command(alloc);
-    for option in rule.options {
-        command = command.arg(option_arg(alloc, option))?;
-    }
+    let mut command = command_of_options(alloc, rule.options)?;
     for name in rule.positionals {
         command = command.arg(positional_arg(alloc, name))?;
     }

@@ -1,6 +1,8 @@
 //! The command `link`.
 
-ghost use Rattle.std.specs.Prelude.{◌≢◌, IfOk, IfErr};
+ghost use Rattle.std.specs.Prelude.{◌≡◌, ◌≢◌, IfOk, IfErr};
+ghost use Rattle.text_lines.specs.Lines.{text_of};
+ghost use Rattle.linked_text.specs.Linked.{linked};
 ghost use Rattle.xt_io.specs.Outside.{KeepsCounts};
 ghost use Rattle.xtalk_top.specs.Outcome.{prints};
 ghost use Rattle.xtalk_top.specs.Call.{HasFault, IsStop, status_of};
@@ -14,7 +16,18 @@ use crate::words::LinkJob;
 use linked_text::write_linked;
 use std::alloc::Global;
 use xt_io::Files;
-use xt_model::NoMemory;
+use xt_model::{Design, NoMemory};
+
+// The linked text of a design.
+fn text_of_design(alloc: Global, design: &Design) -> Result<Vec<u8>, Stop>
+    ensures ok { IfOk result (λ text. text.items ≡ text_of (linked design.now)) }
+    ensures stop { IfErr result (IsStop (λ _. ⊥) (λ _. ⊥)) }
+{
+    match write_linked(alloc, design) {
+        Ok(text) => Ok(text),
+        Err(NoMemory) => Err(Stop::NoMemory),
+    }
+}
 
 /// The linked text of the design that the four files of the job's block make, by the job's Miller numbers where it
 /// has any.
@@ -32,8 +45,5 @@ pub fn text_of_block<F: Files>(alloc: Global, files: &mut F, job: LinkJob) -> Re
     } = job;
     let design = read_block(alloc, files, block)?;
     let design = counted_by(design, miller);
-    match write_linked(alloc, &design) {
-        Ok(text) => Ok(text),
-        Err(NoMemory) => Err(Stop::NoMemory),
-    }
+    text_of_design(alloc, &design)
 }

@@ -80,3 +80,22 @@ returns-clause-read g c =
     let faults = g.F.Files.faults in
     let kept = kept_trans (faults c.args.files.now) (faults c.library.new.files) (faults c.netlist.new.files) c.in_ok-library.ensures.calm c.in_ok-netlist.ensures.calm in
     IfErr-weaker c.finish_block.result _ _ (λ stop h other. kept_trans (faults c.args.files.now) (faults c.netlist.new.files) (faults c.finish_block.new.files) kept (h other)) c.finish_block.ensures.read
+
+pub returns-in_err-library-clause-stop : goal.returns-in_err-library-clause-stop
+returns-in_err-library-clause-stop g c =
+    let content = g.F.Files.content c.args.files.now in
+    let Fault = HasFault (g.F.Files.faults c.args.files.now) (g.F.Files.faults c.library.new.files) in
+    let failed = err_from_is_err_and c.from_residual.result c.from_residual.ensures.1 in
+    rw failed.1 (rw failed.2 (lift_stop (FileAndText c.args.block.lib content library_meant (λ _. ⊥)) (BlockMeans c.args.block content (λ _. ⊥)) Fault Fault c.in_err-library.field-0.0
+    (λ o h. text_stops c.args.block.lib content library_meant _ o h) (λ f r. r) c.in_err-library.ensures.stop))
+
+pub returns-in_err-library-clause-read : goal.returns-in_err-library-clause-read
+returns-in_err-library-clause-read g c =
+    let failed = err_from_is_err_and c.from_residual.result c.from_residual.ensures.1 in
+    rw failed.1 (rw failed.2 c.in_err-library.ensures.read)
+
+pub returns-in_err-netlist-clause-read : goal.returns-in_err-netlist-clause-read
+returns-in_err-netlist-clause-read g c =
+    let faults = g.F.Files.faults in
+    let failed = err_from_is_err_and c.from_residual-in_err-netlist.result c.from_residual-in_err-netlist.ensures.1 in
+    rw failed.1 (rw failed.2 (λ other. kept_trans (faults c.args.files.now) (faults c.library.new.files) (faults c.netlist.new.files) c.in_ok-library.ensures.calm (c.in_err-netlist.ensures.read other)))

@@ -1,13 +1,8 @@
-use Rattle.std.proofs.Common.{[], map}
+use Rattle.std.proofs.Common.{map}
 use Rattle.xtalk_top.specs.Forms.{option_form}
 use Rattle.xtalk_top.specs.Reading.{option_rule, positional_rule}
 use Rattle.xtalk_top.proofs.Builds.{one_more}
 use Rattle.xtalk_top.proofs.grammar.command.Goals as goal
-
-pub loop-option-preserved : goal.loop-option-preserved
-loop-option-preserved c =
-    one_more option_form option_rule [] c.args.rule.now.options.now c.loop-option.option-index _ _ _ _ c.loop-option-test.true c.loop-option.invariant
-    (c.in_ok-command.ensures.shape c.option_arg.ensures.local) c.option_arg.ensures.rule
 
 pub loop-name-preserved : goal.loop-name-preserved
 loop-name-preserved c =

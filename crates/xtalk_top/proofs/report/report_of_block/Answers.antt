@@ -30,3 +30,9 @@ returns-clause-stop g c =
     (HasFault (g.F.Files.faults c.args.files.now) (g.F.Files.faults c.read_block.new.files)) stop
     (λ o m. block_leads c.args.job.files content (λ d. DesignMeans c.args.job.kind (counted_by c.args.job.miller d) o) o c.in_ok-design.design c.in_ok-design.ensures.ok
     (subst (λ d. DesignMeans c.args.job.kind d o) c.counted_by-design.ensures.value m)) (λ f r. absurd r) h) c.report.ensures.stop
+
+pub returns-clause-calm : goal.returns-clause-calm
+returns-clause-calm g c = IfOk-weaker c.report.result _ _ (λ text h. c.in_ok-design.ensures.calm) c.report.ensures.ok
+
+pub returns-clause-read : goal.returns-clause-read
+returns-clause-read g c = IfErr-weaker c.report.result _ _ (λ stop h other. c.in_ok-design.ensures.calm) c.report.ensures.stop
