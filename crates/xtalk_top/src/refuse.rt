@@ -24,13 +24,13 @@ use xt_model::{Code, LimitKind, Name};
 
 /// Writes the line of a failure, and gives its status. A fault of the sink cuts the line off and changes nothing
 /// else.
-pub fn refuse<E: Sink>(err: &mut E, failure: &Failure) -> u8
-    ensures status { result ≡ status_of failure.now }
+pub fn refuse<E: Sink>(err: &mut E, failure: Failure) -> u8
+    ensures status { result ≡ status_of failure }
     ensures line { WritesLine (E.written err.old) (E.written err.new) (E.faults err.old) (E.faults err.new)
-        (line_of failure.now) }
+        (line_of failure) }
 {
-    let _ = write_line(err, failure);
-    status(failure)
+    let _ = write_line(err, &failure);
+    status(&failure)
 }
 
 // The exit status of a failure.

@@ -6,7 +6,7 @@ ghost use Rattle.xtalk_top.specs.Call.{JobMeans, Means, AreKnown, IsStop, IsFail
 ghost use Rattle.xtalk_top.specs.Call.{WritesLine, line_of, status_of};
 ghost use Rattle.xtalk_top.specs.declared.refusal.Refusal.{Refusal};
 ghost use Rattle.xtalk_top.specs.declared.refusal.Failure.{Failure};
-ghost use Rattle.xtalk_top.specs.declared.refusal.Failure.TheVariants.{NoText};
+ghost use Rattle.xtalk_top.specs.declared.refusal.Failure.TheVariants.{NoText, Unwritten};
 ghost use Rattle.xtalk_top.specs.declared.refusal.Stop.TheVariants.{Refused};
 
 use crate::generated::summary_of_generated;
@@ -108,11 +108,23 @@ pub fn xtalk_gated<R: Threads + Sync, F: Files, O: Sink, E: Sink, G: Gate>(
         → (Rose (O.faults out.old) (O.faults out.new) → ⊥) → (result ≡ 0) ⊎ (result ≡ 8) }
 {
     match text_of(rt, alloc, gate, words, files) {
-        Ok(text) => match write_whole(out, &text) {
-            Ok(()) => 0,
-            Err(_) => refuse(err, &Failure::Unwritten),
-        },
-        Err(stop) => refuse(err, &Failure::NoText(stop)),
+        Ok(text) => write_text(out, err, &text),
+        Err(stop) => refuse(err, Failure::NoText(stop)),
+    }
+}
+
+// Writes a text to `out`, and gives the exit status. A fault of `out` has its line on `err`.
+fn write_text<O: Sink, E: Sink>(out: &mut O, err: &mut E, text: &[u8]) -> u8
+    ensures whole { result ≡ 0 → (O.written out.new ≡ appended (O.written out.old) text.now)
+        × (O.faults out.new ≡ O.faults out.old) × (err.new ≡ err.old) }
+    ensures cut_off { result ≢ 0 → (result ≡ 7)
+        × IsCutOff (O.written out.old) (O.written out.new) (O.faults out.old) (O.faults out.new) text.now
+        × WritesLine (E.written err.old) (E.written err.new) (E.faults err.old) (E.faults err.new)
+        (line_of Unwritten) }
+{
+    match write_whole(out, text) {
+        Ok(()) => 0,
+        Err(_) => refuse(err, Failure::Unwritten),
     }
 }
 
