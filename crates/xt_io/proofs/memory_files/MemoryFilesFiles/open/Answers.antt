@@ -1,4 +1,4 @@
-use Rattle.std.proofs.Common.{◌≡◌, Some, rules, arith}
+use Rattle.std.proofs.Common.{◌≡◌, Some, refl, ap, rules, arith}
 use Rattle.xt_io.specs.Memory.{position_of}
 use Rattle.xt_io.proofs.Named.{name_at-first, first-name_at}
 use Rattle.xt_io.proofs.memory_files.MemoryFilesFiles.open.Goals as goal
@@ -14,3 +14,24 @@ returns-in-Some-clause-opened c =
     let first : Some c.in-Some.file ≡ position_of c.self.inside.files.items c.args.name.now =
     rw c.deref.ensures.value at c.in-Some.ensures.position in
     rw (name_at-first c.self.inside.files.items c.args.name.now c.in-Some.file first)
+
+pub returns-in_default-clause-content : goal.returns-in_default-clause-content
+returns-in_default-clause-content c = λ m. rw (← c.self.view_is) refl
+
+pub returns-in_default-clause-counts : goal.returns-in_default-clause-counts
+returns-in_default-clause-counts c = λ m. rw (← c.self.view_is) (c.raise.ensures.counts (position_of c.self.inside.files.items m))
+
+pub returns-in_default-clause-called : goal.returns-in_default-clause-called
+returns-in_default-clause-called c = rw (← c.self.view_is) (record { files = refl; fail = ap (λ v. v.items) c.count-listed.ensures.listed; calls = c.count-listed.ensures.next })
+
+pub returns-in-Some-clause-content : goal.returns-in-Some-clause-content
+returns-in-Some-clause-content c = λ m. rw (← c.self.view_is) refl
+
+pub returns-in-Some-clause-kept : goal.returns-in-Some-clause-kept
+returns-in-Some-clause-kept c = λ m. rw (← c.self.view_is) refl
+
+pub returns-in-Some-clause-unraised : goal.returns-in-Some-clause-unraised
+returns-in-Some-clause-unraised c = rw (← c.self.view_is) (record { faults = refl; others = refl })
+
+pub returns-in-Some-clause-called : goal.returns-in-Some-clause-called
+returns-in-Some-clause-called c = rw (← c.self.view_is) (record { files = refl; fail = ap (λ v. v.items) c.count-listed.ensures.listed; calls = c.count-listed.ensures.next })
