@@ -2,6 +2,7 @@
 
 ghost use Rattle.std.specs.Prelude.{◌<◌};
 
+use crate::block::REPORT;
 use std::alloc::{AllocError, Global};
 use std::process::Abort;
 use std::test::Fail;
@@ -57,6 +58,32 @@ pub fn files_of(
     Ok(files)
 }
 
+/// What a call has: its files, its output and its error stream.
+#[derive(Drop)]
+pub struct Streams {
+    pub files: MemoryFiles,
+    pub out: MemorySink,
+    pub err: MemorySink,
+}
+
+/// Files of these names with these texts, and two streams.
+pub fn streams_of(
+    alloc: Global,
+    texts: &[(&str, &[u8])],
+    outside: Outside,
+) -> Result<Streams, Fail> {
+    let Outside {
+        files,
+        out,
+        err,
+        most,
+    } = outside;
+    let out = MemorySink::new(alloc, out, most, ROOM)?;
+    let err = MemorySink::new(alloc, err, ROOM, ROOM)?;
+    let files = MemoryFiles::new(alloc, files_of(alloc, texts)?, files)?;
+    Ok(Streams { files, out, err })
+}
+
 /// What a call with these words says: its status, then its line on the error stream, then its output.
 pub fn outcome<R: Threads + Sync>(
     rt: &R,
@@ -66,15 +93,11 @@ pub fn outcome<R: Threads + Sync>(
     outside: Outside,
 ) -> Result<String, Fail> {
     let words = words_of(alloc, words)?;
-    let Outside {
-        files: files_fail,
-        out: out_fail,
-        err: err_fail,
-        most,
-    } = outside;
-    let mut files = MemoryFiles::new(alloc, files_of(alloc, texts)?, files_fail)?;
-    let mut out = MemorySink::new(alloc, out_fail, most, ROOM)?;
-    let mut err = MemorySink::new(alloc, err_fail, ROOM, ROOM)?;
+    let Streams {
+        mut files,
+        mut out,
+        mut err,
+    } = streams_of(alloc, texts, outside)?;
     let status = xtalk(rt, alloc, &words, &mut files, &mut out, &mut err);
     let line = str::from_utf8(err.bytes()).unwrap_or("?");
     let text = str::from_utf8(out.bytes()).unwrap_or("?");
@@ -89,10 +112,12 @@ pub fn opened<R: Threads + Sync>(
     texts: &[(&str, &[u8])],
 ) -> Result<String, Fail> {
     let words = words_of(alloc, words)?;
-    let files = MemoryFiles::new(alloc, files_of(alloc, texts)?, Vec::new(alloc))?;
+    let Streams {
+        files,
+        mut out,
+        mut err,
+    } = streams_of(alloc, texts, calm(alloc))?;
     let mut recorded = RecordedFiles::new(alloc, files);
-    let mut out = MemorySink::new(alloc, Vec::new(alloc), ROOM, ROOM)?;
-    let mut err = MemorySink::new(alloc, Vec::new(alloc), ROOM, ROOM)?;
     xtalk(rt, alloc, &words, &mut recorded, &mut out, &mut err);
     let mut names = String::new(alloc);
     for name in recorded.opened.iter() {
@@ -105,4 +130,29 @@ pub fn opened<R: Threads + Sync>(
 /// Compares the outcome of a call with the one that is wanted; `place` tells it apart.
 pub fn compare(rt: &impl Abort, seen: &str, want: &str, place: &str) {
     assert!(rt; seen == want, "{seen} at {place}");
+}
+
+/// Compares the outcome of a call with the block's report.
+pub fn compare_report(rt: &impl Abort, seen: &str, place: &str) {
+    assert!(rt;
+        seen.strip_prefix("0 ") == Some(REPORT),
+        "{seen} at {place}"
+    );
+}
+
+/// Compares the outcome of a call with the one line that is wanted.
+pub fn compare_line(rt: &impl Abort, seen: &str, want: &str, place: &str) {
+    assert!(rt; seen.strip_suffix('\n') == Some(want), "{seen} at {place}");
+}
+
+/// The field of this number of a row, whose fields have bars between them; an empty one past the last.
+pub fn field(row: &str, number: usize) -> &str {
+    let mut before = number;
+    for part in row.split('|') {
+        if before == 0 {
+            return part.trim();
+        }
+        before -= 1;
+    }
+    ""
 }

@@ -1,7 +1,7 @@
 //! The block's files cut at their lines, and with a line that is another.
 
-use crate::block::{LIB, NETLIST, REPORT, SDC, SPEF};
-use crate::call::{calm, compare, outcome};
+use crate::block::{LIB, NETLIST, SDC, SPEF};
+use crate::call::{calm, compare_line, compare_report, field, outcome};
 use std::alloc::{AllocError, Global};
 use std::process::Abort;
 use std::test::Fail;
@@ -9,31 +9,23 @@ use std::thread::Threads;
 
 const WORDS: &str = "report r.lib r.v r.spef r.sdc";
 
-/// One of the four files.
-#[derive(Clone, Copy, PartialEq, Eq)]
-enum Which {
-    Lib,
-    Netlist,
-    Spef,
-    Sdc,
-}
-
-/// The name and the text of a file.
-fn file(which: Which) -> (&'static str, &'static str) {
-    match which {
-        Which::Lib => ("r.lib", LIB),
-        Which::Netlist => ("r.v", NETLIST),
-        Which::Spef => ("r.spef", SPEF),
-        Which::Sdc => ("r.sdc", SDC),
+/// The text of a file.
+fn file(name: &str) -> &'static str {
+    match name {
+        "r.lib" => LIB,
+        "r.v" => NETLIST,
+        "r.spef" => SPEF,
+        "r.sdc" => SDC,
+        _ => "",
     }
 }
 
-/// The text, or what stands for that of one file.
-fn text_at<'a>(which: Which, at: Which, other: &'a str) -> &'a [u8] {
-    if which == at {
+/// The text of a file, or what stands for that of one.
+fn text_at<'a>(name: &str, at: &str, other: &'a str) -> &'a [u8] {
+    if name == at {
         other.as_bytes()
     } else {
-        file(which).1.as_bytes()
+        file(name).as_bytes()
     }
 }
 
@@ -41,14 +33,14 @@ fn text_at<'a>(which: Which, at: Which, other: &'a str) -> &'a [u8] {
 fn outcome_with<R: Threads + Sync>(
     rt: &R,
     alloc: Global,
-    at: Which,
+    at: &str,
     other: &str,
 ) -> Result<String, Fail> {
     let texts = [
-        ("r.lib", text_at(Which::Lib, at, other)),
-        ("r.v", text_at(Which::Netlist, at, other)),
-        ("r.spef", text_at(Which::Spef, at, other)),
-        ("r.sdc", text_at(Which::Sdc, at, other)),
+        ("r.lib", text_at("r.lib", at, other)),
+        ("r.v", text_at("r.v", at, other)),
+        ("r.spef", text_at("r.spef", at, other)),
+        ("r.sdc", text_at("r.sdc", at, other)),
     ];
     outcome(rt, alloc, WORDS, texts.as_slice(), calm(alloc))
 }
@@ -79,90 +71,110 @@ fn replaced(alloc: Global, text: &str, number: u32, line: &str) -> Result<String
     Ok(out)
 }
 
-/// Of a file cut after so many lines, from the first number to the last, what is refused at the line behind the cut, or
-/// how the outcome begins.
-const CUTS: [(Which, u32, u32, &str); 10] = [
-    (Which::Lib, 0, 30, "L2"),
-    (Which::Netlist, 0, 9, "V2"),
-    (Which::Spef, 0, 0, "S2"),
-    (Which::Spef, 1, 12, "S4"),
-    (Which::Spef, 13, 25, "0 xtalk 1"),
-    (Which::Spef, 26, 36, "S2"),
-    (Which::Spef, 37, 37, "0 xtalk 1"),
-    (Which::Spef, 38, 44, "S2"),
-    (Which::Sdc, 0, 2, "4 link: K7 f1/D\n"),
-    (Which::Sdc, 3, 8, "0 xtalk 1"),
-];
+/// Files that are cut after so many lines, from the first number to the last, and the refusal of the line behind the
+/// cut, or the first line of the outcome.
+const CUTS: &str = "\
+r.lib | 0 | 30 | L2
+r.v | 0 | 9 | V2
+r.spef | 0 | 0 | S2
+r.spef | 1 | 12 | S4
+r.spef | 13 | 25 | 0 xtalk 1
+r.spef | 26 | 36 | S2
+r.spef | 37 | 37 | 0 xtalk 1
+r.spef | 38 | 44 | S2
+r.sdc | 0 | 2 | 4 link: K7 f1/D
+r.sdc | 3 | 8 | 0 xtalk 1
+";
 
-/// Compares the outcome of a file that is cut after so many lines.
+/// The outcome of a file that is cut after so many lines.
+fn outcome_of_cut<R: Threads + Sync>(
+    rt: &R,
+    alloc: Global,
+    name: &str,
+    lines: u32,
+) -> Result<String, Fail> {
+    let cut = front(alloc, file(name), lines)?;
+    outcome_with(rt, alloc, name, cut.as_str())
+}
+
+/// Whether an outcome is the refusal that a row has, at the line behind the cut, or begins with its line.
+fn is_wanted(alloc: Global, row: &str, lines: u32, seen: &str) -> Result<bool, AllocError> {
+    let (name, want) = (field(row, 0), field(row, 3));
+    if want.len() == 2 {
+        let line = lines.saturating_add(1);
+        let refused = format!(in alloc; "3 {name}:{line}: {want}\n")?;
+        return Ok(seen == refused.as_str());
+    }
+    let first = format!(in alloc; "{want}\n")?;
+    Ok(seen.starts_with(first.as_str()))
+}
+
+/// Compares the outcome of the file of a row that is cut after so many lines.
 fn compare_cut<R: Threads + Sync + Abort>(
     rt: &R,
     alloc: Global,
-    which: Which,
+    row: &str,
     lines: u32,
-    want: &str,
 ) -> Result<(), Fail> {
-    let (name, text) = file(which);
-    let cut = front(alloc, text, lines)?;
-    let seen = outcome_with(rt, alloc, which, cut.as_str())?;
+    let seen = outcome_of_cut(rt, alloc, field(row, 0), lines)?;
     let seen = seen.as_str();
-    let line = lines.saturating_add(1);
-    let refused = format!(in alloc; "3 {name}:{line}: {want}\n")?;
-    let is_wanted = if want.len() == 2 {
-        seen == refused.as_str()
-    } else {
-        seen.starts_with(want)
-    };
-    assert!(rt; is_wanted, "{seen} after {lines} lines of {name}");
+    assert!(rt;
+        is_wanted(alloc, row, lines, seen)?,
+        "{seen} after {lines} lines, at {row}"
+    );
     Ok(())
+}
+
+/// The number that a field has.
+fn number(field: &str) -> Result<u32, Fail> {
+    Ok(field.parse::<u32>().ok().ok_or("no number")?)
 }
 
 #[test]
 fn files_cut_behind_each_line(rt: HostRuntime) -> Result<(), Fail> {
-    for (which, first, last, want) in &CUTS {
-        for lines in *first..*last + 1 {
-            compare_cut(&rt, rt.alloc(), *which, lines, want)?;
+    for row in CUTS.lines() {
+        let end = number(field(row, 2))?.saturating_add(1);
+        for lines in number(field(row, 1))?..end {
+            compare_cut(&rt, rt.alloc(), row, lines)?;
         }
     }
     Ok(())
 }
 
-/// Lines of the block's parasitics by their numbers, what stands in their place, and the outcome.
-const LINES: [(u32, &str, &str); 12] = [
-    (40, "1 *2:1 -0.002", "3 r.spef:40: S3\n"),
-    (38, "*D_NET *1 0.003", "3 r.spef:38: S6\n"),
-    (38, "*D_NET *9 0.003", "3 r.spef:38: S5\n"),
-    (36, "2 *1:1 *6:D 50\n3 *1:1 *1:1 50", "4 link: K5 n1\n"),
-    (36, "2 *1:1 *6:D 50\n3 *3:Y *6:D 50", "4 link: K5 n1\n"),
-    (36, "", "4 link: K6 n1 f2:D\n"),
-    (36, "2 *1:1 f2:Q 50", "4 link: K6 n1 f2:D\n"),
-    (35, "", "4 link: K6 n1 f2:D\n"),
-    (
-        36,
-        "2 *1:1 *6:D 50\n3 *1:8 *1:9 50\n4 *1:9 *1:8 50",
-        WHOLE_REPORT,
-    ),
-    (16, "*0001 n1", WHOLE_REPORT),
-    (32, "1 n1:1 2e-3", WHOLE_REPORT),
-    (38, "*D_NET bus[0] 9", WHOLE_REPORT),
-];
+/// Lines of the block's parasitics by their numbers, the outcome, and what stands in place of the line; `⏎` is a line
+/// end.
+const LINES: &str = "\
+40 | 3 r.spef:40: S3 | 1 *2:1 -0.002
+38 | 3 r.spef:38: S6 | *D_NET *1 0.003
+38 | 3 r.spef:38: S5 | *D_NET *9 0.003
+36 | 4 link: K5 n1 | 2 *1:1 *6:D 50⏎3 *1:1 *1:1 50
+36 | 4 link: K5 n1 | 2 *1:1 *6:D 50⏎3 *3:Y *6:D 50
+36 | 4 link: K6 n1 f2:D
+36 | 4 link: K6 n1 f2:D | 2 *1:1 f2:Q 50
+35 | 4 link: K6 n1 f2:D
+36 | the report | 2 *1:1 *6:D 50⏎3 *1:8 *1:9 50⏎4 *1:9 *1:8 50
+16 | the report | *0001 n1
+32 | the report | 1 n1:1 2e-3
+38 | the report | *D_NET bus[0] 9
+";
 
-/// Stands for the whole report.
-const WHOLE_REPORT: &str = "the report";
+/// The outcome of parasitics with the other line of a row.
+fn outcome_of_line<R: Threads + Sync>(rt: &R, alloc: Global, row: &str) -> Result<String, Fail> {
+    let line = field(row, 2).replace(alloc, '⏎', "\n")?;
+    let text = replaced(alloc, SPEF, number(field(row, 0))?, line.as_str())?;
+    outcome_with(rt, alloc, "r.spef", text.as_str())
+}
 
 #[test]
 fn other_lines_have_their_outcomes(rt: HostRuntime) -> Result<(), Fail> {
-    let alloc = rt.alloc();
-    let report = format!(in alloc; "0 {REPORT}")?;
-    for (number, line, want) in &LINES {
-        let text = replaced(alloc, SPEF, *number, line)?;
-        let seen = outcome_with(&rt, alloc, Which::Spef, text.as_str())?;
-        let want = if *want == WHOLE_REPORT {
-            report.as_str()
+    for row in LINES.lines() {
+        let seen = outcome_of_line(&rt, rt.alloc(), row)?;
+        let (seen, want) = (seen.as_str(), field(row, 1));
+        if want == "the report" {
+            compare_report(&rt, seen, row);
         } else {
-            *want
-        };
-        compare(&rt, seen.as_str(), want, line);
+            compare_line(&rt, seen, want, row);
+        }
     }
     Ok(())
 }

@@ -1,13 +1,13 @@
 //! Calls on the block with a gate, which each of several workers passes in every round.
 
 use crate::block::{LIB, NETLIST, REPORT, SDC, SPEF};
-use crate::call::{ROOM, files_of, words_of};
+use crate::call::{Streams, calm, streams_of, words_of};
 use chaos_core::Gate;
 use std::alloc::Global;
 use std::sync::atomic::{AtomicU64, Ordering};
 use std::test::Fail;
 use std::thread::Threads;
-use xt_io::{MemoryFiles, MemorySink};
+use xt_io::MemorySink;
 use xtalk_top::xtalk_gated;
 
 /// A gate that holds nobody, and notes which workers pass: a bit for each of workers 1 to 64, the lowest for worker 1,
@@ -58,12 +58,25 @@ fn call<R: Threads + Sync, G: Gate>(
         ("r.spef", SPEF.as_bytes()),
         ("r.sdc", SDC.as_bytes()),
     ];
-    let texts = files_of(alloc, texts.as_slice())?;
-    let mut files = MemoryFiles::new(alloc, texts, Vec::new(alloc))?;
-    let mut out = MemorySink::new(alloc, Vec::new(alloc), ROOM, ROOM)?;
-    let mut err = MemorySink::new(alloc, Vec::new(alloc), ROOM, ROOM)?;
+    let Streams {
+        mut files,
+        mut out,
+        mut err,
+    } = streams_of(alloc, texts.as_slice(), calm(alloc))?;
     let status = xtalk_gated(rt, alloc, gate, &words, &mut files, &mut out, &mut err);
     Ok((status, out))
+}
+
+/// Whether the words of a line print the block's report, and the workers with these bits pass the gate.
+fn reports<R: Threads + Sync>(
+    rt: &R,
+    alloc: Global,
+    line: &str,
+    workers: u64,
+) -> Result<bool, Fail> {
+    let gate = NoteGate::new();
+    let (status, out) = call(rt, alloc, &gate, line)?;
+    Ok(status == 0 && out.bytes() == REPORT.as_bytes() && gate.passed() == Some(workers))
 }
 
 /// Words for the block's report, and the bits of the workers that pass the gate. One worker alone passes none.
@@ -77,21 +90,21 @@ const REPORTS: [(&str, u64); 4] = [
 #[test]
 fn any_number_of_workers_gives_the_report(rt: HostRuntime) -> Result<(), Fail> {
     for (line, workers) in &REPORTS {
-        let gate = NoteGate::new();
-        let (status, out) = call(&rt, rt.alloc(), &gate, line)?;
-        assert_eq!(rt; status, 0, "{line}");
-        assert_eq!(rt; out.bytes(), REPORT.as_bytes(), "{line}");
-        assert_eq!(rt; gate.passed(), Some(*workers), "{line}");
+        assert!(rt; reports(&rt, rt.alloc(), line, *workers)?, "{line}");
     }
     Ok(())
 }
 
+/// Whether `link` prints a text, and nobody passes the gate.
+fn links<R: Threads + Sync>(rt: &R, alloc: Global) -> Result<bool, Fail> {
+    let gate = NoteGate::new();
+    let (status, out) = call(rt, alloc, &gate, "link r.lib r.v r.spef r.sdc")?;
+    let is_linked = out.bytes().starts_with(b"xtalk-design 1\n");
+    Ok(status == 0 && is_linked && gate.passed() == Some(0))
+}
+
 #[test]
 fn nobody_passes_a_gate_to_link(rt: HostRuntime) -> Result<(), Fail> {
-    let gate = NoteGate::new();
-    let (status, out) = call(&rt, rt.alloc(), &gate, "link r.lib r.v r.spef r.sdc")?;
-    assert_eq!(rt; status, 0);
-    assert!(rt; out.bytes().starts_with(b"xtalk-design 1\n"));
-    assert_eq!(rt; gate.passed(), Some(0));
+    assert!(rt; links(&rt, rt.alloc())?);
     Ok(())
 }

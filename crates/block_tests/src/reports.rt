@@ -1,7 +1,7 @@
 //! The block's report, and the same one through its linked text.
 
 use crate::block::{LIB, NETLIST, REPORT, SDC, SPEF};
-use crate::call::{calm, compare, outcome};
+use crate::call::{calm, compare, compare_report, field, outcome};
 use std::alloc::{AllocError, Global};
 use std::test::Fail;
 use std::thread::Threads;
@@ -30,28 +30,30 @@ fn checks_alone(alloc: Global, report: &str) -> Result<String, AllocError> {
 }
 
 /// Words for the block's report.
-const REPORTS: [&str; 5] = [
-    "report r.lib r.v r.spef r.sdc",
-    "report r.lib r.v r.spef r.sdc --workers 1",
-    "report --workers=64 r.lib r.v --kind all r.spef r.sdc",
-    "report --miller 0,4,8 r.lib r.v r.spef r.sdc",
-    "report --kind=all --workers 07 --miller=00,4,08 r.lib r.v r.spef r.sdc",
-];
+const REPORTS: &str = "\
+report r.lib r.v r.spef r.sdc
+report r.lib r.v r.spef r.sdc --workers 1
+report --workers=64 r.lib r.v --kind all r.spef r.sdc
+report --miller 0,4,8 r.lib r.v r.spef r.sdc
+report --kind=all --workers 07 --miller=00,4,08 r.lib r.v r.spef r.sdc
+";
 
 #[test]
 fn a_block_is_reported(rt: HostRuntime) -> Result<(), Fail> {
-    let alloc = rt.alloc();
-    let want = format!(in alloc; "0 {REPORT}")?;
-    for words in &REPORTS {
-        let seen = outcome_of_block(&rt, alloc, words)?;
-        compare(&rt, seen.as_str(), want.as_str(), words);
+    for words in REPORTS.lines() {
+        let seen = outcome_of_block(&rt, rt.alloc(), words)?;
+        compare_report(&rt, seen.as_str(), words);
     }
-    let checks = checks_alone(alloc, REPORT)?;
-    let checks = checks.as_str();
-    let want = format!(in alloc; "0 {checks}")?;
+    Ok(())
+}
+
+#[test]
+fn the_checks_of_a_block_are_reported_alone(rt: HostRuntime) -> Result<(), Fail> {
+    let checks = checks_alone(rt.alloc(), REPORT)?;
     let words = "report r.lib r.v r.spef r.sdc --kind checks";
-    let seen = outcome_of_block(&rt, alloc, words)?;
-    compare(&rt, seen.as_str(), want.as_str(), words);
+    let seen = outcome_of_block(&rt, rt.alloc(), words)?;
+    let seen = seen.as_str();
+    assert!(rt; seen.strip_prefix("0 ") == Some(checks.as_str()), "{seen}");
     Ok(())
 }
 
@@ -70,34 +72,52 @@ fn outcome_of_printed<R: Threads + Sync>(
 }
 
 /// Options of `link` and of `solve`, and those of `report` that ask for the same report.
-const LINKED: [(&str, &str, &str); 4] = [
-    ("", "", ""),
-    ("--miller 0,4,12", "", "--miller=0,4,12"),
-    ("--miller 3,3,3", "--miller 0,4,12", "--miller=0,4,12"),
-    (
-        "",
-        "--kind checks --miller 1,5,9",
-        "--miller 1,5,9 --kind=checks",
-    ),
-];
+const LINKED: &str = "\
+| |
+--miller 0,4,12 | | --miller=0,4,12
+--miller 3,3,3 | --miller 0,4,12 | --miller=0,4,12
+| --kind checks --miller 1,5,9 | --miller 1,5,9 --kind=checks
+";
+
+/// What a command says of the block with these options.
+fn outcome_with<R: Threads + Sync>(
+    rt: &R,
+    alloc: Global,
+    command: &str,
+    options: &str,
+) -> Result<String, Fail> {
+    let words = format!(in alloc; "{command} r.lib r.v r.spef r.sdc {options}")?;
+    outcome_of_block(rt, alloc, words.as_str())
+}
+
+/// What `solve` says with these options of the text that `link` prints with those.
+fn outcome_of_linked<R: Threads + Sync>(
+    rt: &R,
+    alloc: Global,
+    of_link: &str,
+    of_solve: &str,
+) -> Result<String, Fail> {
+    let linked = outcome_with(rt, alloc, "link", of_link)?;
+    let words = format!(in alloc; "solve x.xt {of_solve}")?;
+    outcome_of_printed(rt, alloc, words.as_str(), linked.as_str())
+}
 
 // The linked text is solved to the report of the four files.
 #[test]
 fn a_linked_block_is_solved_to_its_report(rt: HostRuntime) -> Result<(), Fail> {
     let alloc = rt.alloc();
-    for (of_link, of_solve, of_report) in &LINKED {
-        let words = format!(in alloc; "link r.lib r.v r.spef r.sdc {of_link}")?;
-        let linked = outcome_of_block(&rt, alloc, words.as_str())?;
-        let words = format!(in alloc; "solve x.xt {of_solve}")?;
-        let solved = outcome_of_printed(&rt, alloc, words.as_str(), linked.as_str())?;
-        let words = format!(in alloc; "report r.lib r.v r.spef r.sdc {of_report}")?;
-        let reported = outcome_of_block(&rt, alloc, words.as_str())?;
-        compare(&rt, solved.as_str(), reported.as_str(), words.as_str());
-        assert!(rt; solved.starts_with("0 xtalk 1\n"));
+    for row in LINKED.lines() {
+        let solved = outcome_of_linked(&rt, alloc, field(row, 0), field(row, 1))?;
+        let reported = outcome_with(&rt, alloc, "report", field(row, 2))?;
+        assert!(rt; solved.starts_with("0 xtalk 1\n"), "{solved} at {row}");
+        compare(&rt, solved.as_str(), reported.as_str(), row);
     }
-    let linked = outcome_of_block(&rt, alloc, "link r.lib r.v r.spef r.sdc")?;
-    let solved = outcome_of_printed(&rt, alloc, "solve x.xt", linked.as_str())?;
-    let want = format!(in alloc; "0 {REPORT}")?;
-    compare(&rt, solved.as_str(), want.as_str(), "solve");
+    Ok(())
+}
+
+#[test]
+fn a_linked_block_is_solved_to_the_worked_report(rt: HostRuntime) -> Result<(), Fail> {
+    let solved = outcome_of_linked(&rt, rt.alloc(), "", "")?;
+    compare_report(&rt, solved.as_str(), "solve");
     Ok(())
 }

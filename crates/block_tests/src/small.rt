@@ -183,6 +183,6 @@ pub fn linked_text(
     lines: &str,
 ) -> Result<String, AllocError> {
     Ok(format!(in alloc;
-        "0 xtalk-design 1\ncounts 20 {counts}\nperiod {period}\n{TABLES}{lines}end\n"
+        "0 xtalk-design 1\ncounts 20 {counts}\nperiod {period}\n{TABLES}{lines}\nend\n"
     )?)
 }
