@@ -6,8 +6,9 @@
 runs PROGRAM, an executable that was built before (`./xtalk` leaves crates/xtalk_cli/out/xtalk_cli), on each command
 below, or on the one that the words make, with a library between it and the C library that refuses one call for memory
 of the run: the first, then the second, until a run makes fewer calls. A run must end as it does where there is memory,
-or print nothing and end with status 8 and `out of memory`, or with status 9 and no line, where the system still hands
-over the program's words. It prints a line for each command, and each run that ends otherwise. It needs `cc`.
+or print nothing and end with status 8 and `out of memory`, or, before any other status, with status 9 and no line: the
+system did not hand over the program's words. It prints a line for each command, and each run that ends otherwise. What
+is refused are the program's own calls of `malloc`, `realloc`, `aligned_alloc` and `posix_memalign`. It needs `cc`.
 """
 import os
 import struct
@@ -80,14 +81,15 @@ def ran(program, words, room, number):
 def tried(program, words, room):
     """Tries each number of a command, and returns how many faults it found."""
     *whole, calls = ran(program, words, room, 0)
-    ends, faults, number, more = {}, 0, 1, True
+    ends, faults, number, more, has_words = {}, 0, 1, True, False
     with ThreadPoolExecutor(os.cpu_count()) as pool:
         while more:
             numbers = range(number, number + 64)
             for at, (*found, made) in zip(numbers, pool.map(lambda it: ran(program, words, room, it), numbers)):
                 more = more and made >= at
-                is_refused = found in ([8, b"", b"out of memory\n"], [9, b"", b""])
-                if not is_refused and found != whole:
+                has_words = has_words or found[0] != 9
+                no_memory, no_words = [8, b"", b"out of memory\n"], [9, b"", b""]
+                if found not in (whole, no_memory) and (has_words or found != no_words):
                     faults += 1
                     print(f"  call {at} refused: status {found[0]}, {found[1][:80]!r}, {found[2][:80]!r}")
                 ends[found[0]] = ends.get(found[0], 0) + (made >= at)
