@@ -22,10 +22,14 @@ fn push_piece(out: &mut String, piece: &str, number: u32) -> Result<(), AllocErr
     Ok(())
 }
 
-/// Appends a piece as often as the number before its colon says; `#` in it is the number of times before.
+/// Appends a piece as often as the number before its colon says; `#` in it is the number of times before. Where there is
+/// no number it appends `⟨`, which no text may have.
 fn push_pieces(out: &mut String, pieces: &str) -> Result<(), AllocError> {
     let (count, piece) = pieces.split_once(':').unwrap_or(("", pieces));
-    for number in 0..count.parse::<u32>().unwrap_or(0) {
+    let Some(count) = count.parse::<u32>().ok() else {
+        return out.push_str("⟨");
+    };
+    for number in 0..count {
         push_piece(out, piece, number)?;
     }
     Ok(())
@@ -35,7 +39,7 @@ fn push_pieces(out: &mut String, pieces: &str) -> Result<(), AllocError> {
 fn text_of(alloc: Global, pattern: &str) -> Result<String, AllocError> {
     let mut out = String::new(alloc);
     for part in pattern.split('⟨') {
-        let (pieces, behind) = part.split_once('⟩').unwrap_or(("", part));
+        let (pieces, behind) = part.split_once('⟩').unwrap_or(("0:", part));
         push_pieces(&mut out, pieces)?;
         out.push_str(behind)?;
     }
