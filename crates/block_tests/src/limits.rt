@@ -22,8 +22,8 @@ fn push_piece(out: &mut String, piece: &str, number: u32) -> Result<(), AllocErr
     Ok(())
 }
 
-/// Appends a piece as often as the number before its colon says; `#` in it is the number of times before. Where there is
-/// no number it appends `⟨`, which no text may have.
+/// Appends a piece as often as the number before its colon says; `#` in it is the number of times before. Where there
+/// is no number it appends `⟨`, which no text may have.
 fn push_pieces(out: &mut String, pieces: &str) -> Result<(), AllocError> {
     let (count, piece) = pieces.split_once(':').unwrap_or(("", pieces));
     let Some(count) = count.parse::<u32>().ok() else {
