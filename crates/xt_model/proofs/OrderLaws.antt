@@ -1,5 +1,5 @@
 -- Numbers that a stable sort by level puts in order are the order by level.
-use Rattle.std.proofs.Common.{◌≡◌, ℕ, zero, suc, ◌+◌, ◌-◌, ◌<◌, ◌≤◌, ◌==◌, false, List, [], ◌∷◌, ◌++◌, length, get_or, refl, sym, ap, ◌∙◌, add-zero, arith, inl, inr, subst, ◌⊎◌}
+use Rattle.std.proofs.Common.{◌≡◌, ◌↔◌, ℕ, zero, suc, ◌+◌, ◌-◌, ◌<◌, ◌≤◌, ◌==◌, false, List, [], ◌∷◌, ◌++◌, length, get_or, refl, sym, ap, ◌∙◌, add-zero, arith, inl, inr, subst, ◌⊎◌}
 use Rattle.std.specs.List.{Contains, IsDistinct, range_with_len}
 use Rattle.std.specs.List.Sorted.{IsPermutation, IsNonDecreasingBy, IsSortedByKey, IsStableByKey}
 use Rattle.std.specs.Ordering.{nat_cmp}
@@ -149,3 +149,11 @@ rising_are_one levels (x ∷ xs) (y ∷ ys) rx ry to back =
 pub orders_are_one : (nets : List Net) (levels a b : List ℕ) → IsOrderBy nets levels a → IsOrderBy nets levels b → a ≡ b
 orders_are_one nets levels a b ha hb = rising_are_one levels a b (record { each = ha.sorted }) (record { each = hb.sorted })
     (λ n h. (hb.members n).1 ((ha.members n).0 h)) (λ n h. (ha.members n).1 ((hb.members n).0 h))
+
+-- an order by level is that of other nets too, where they are as many
+pub same_order : (xs ys : List Net) (levels order : List ℕ) → length xs ≡ length ys → IsOrderBy xs levels order → IsOrderBy ys levels order
+same_order xs ys levels order same o = record {
+  count = o.count ∙ same;
+  members = subst (λ n. (net : ℕ) → Contains order net ↔ (net < n)) same o.members;
+  sorted = o.sorted;
+}

@@ -1,5 +1,5 @@
 -- What a built design keeps, and why parts make none.
-use Rattle.std.specs.Prelude.{◌≡◌, ℕ, ◌≤◌, List, map}
+use Rattle.std.specs.Prelude.{◌≡◌, ℕ, ◌≤◌, List, length, map}
 use Rattle.xt_model.specs.declared.net.Net.{Net}
 use Rattle.xt_model.specs.declared.fault.BuildFault.{BuildFault}
 use Rattle.xt_model.specs.declared.fault.BuildFault.TheVariants.{Loop, NoMemory}
@@ -19,6 +19,14 @@ pub record IsDesign (d : Parts) (levels order : List ℕ) (depth pairs : ℕ) : 
   pub is_pair_count : IsPairCount d.nets pairs
   pub most_depth : depth ≤ most_nets
   pub most_pairs : pairs ≤ most_couplings
+
+-- the nets in order of these levels, and the greatest of them
+pub record HasOrder (levels order : List ℕ) (depth : ℕ) : Type 0 where
+  pub nets : List Net
+  pub count : length levels ≡ length nets
+  pub is_order : IsOrderBy nets levels order
+  pub is_depth : depth ≡ greatest_of levels
+  pub most_depth : depth ≤ most_nets
 
 -- the bound on rounds of these nets
 abbrev pub IsRoundBound : List Net → ℕ → Type 0

@@ -29,6 +29,12 @@ pub enum Code {
     V5,
     /// Of a netlist: a bit outside its range, or a bound too large.
     V6,
+    /// Of a netlist of several modules: a module that is instantiated within itself.
+    V7,
+    /// Of a netlist of several modules: no module or more than one that no other instantiates.
+    V8,
+    /// Of a netlist of several modules: a connection that does not fit its port.
+    V9,
     /// Of parasitics: a token that does not fit.
     S1,
     /// Of parasitics: the text ends too early.
@@ -55,6 +61,14 @@ pub enum Code {
     C5,
     /// Of constraints: a port or a clock that is not there.
     C6,
+    /// Of edits: words that do not fit, or a line too many, missing or behind the end.
+    E1,
+    /// Of edits: a number that cannot be taken.
+    E2,
+    /// Of edits: a name or a coupling that is not there.
+    E3,
+    /// Of edits: a capacitance or a coefficient that would leave its range.
+    E4,
     /// Of a linked text: words, fields or a line that do not fit.
     X1,
     /// Of a linked text: a number that is not written as it has to be, or out of its range.
@@ -86,6 +100,9 @@ impl Code {
             Code::V4 => "V4",
             Code::V5 => "V5",
             Code::V6 => "V6",
+            Code::V7 => "V7",
+            Code::V8 => "V8",
+            Code::V9 => "V9",
             Code::S1 => "S1",
             Code::S2 => "S2",
             Code::S3 => "S3",
@@ -99,6 +116,10 @@ impl Code {
             Code::C4 => "C4",
             Code::C5 => "C5",
             Code::C6 => "C6",
+            Code::E1 => "E1",
+            Code::E2 => "E2",
+            Code::E3 => "E3",
+            Code::E4 => "E4",
             Code::X1 => "X1",
             Code::X2 => "X2",
             Code::X3 => "X3",

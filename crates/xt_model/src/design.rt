@@ -2,13 +2,14 @@ use crate::check::CheckPoint;
 use crate::fault::BuildFault;
 use crate::miller::Miller;
 use crate::net::{Net, NetId};
+use crate::net_order::NetOrder;
 use crate::order::{greatest, order_by_level};
 use crate::pairs::coupled_pairs;
 use crate::parts::DesignParts;
 use crate::row::Row;
 use crate::table::Table;
 use crate::visits::find_levels;
-use std::alloc::Global;
+use std::alloc::{AllocError, Global};
 use std::marker::Model;
 
 /// A design whose arcs make no loop, with the level of each net and the nets in order of level.
@@ -33,12 +34,12 @@ impl Model for Design {
 }
 
 impl Design {
-    ghost use Rattle.std.specs.Prelude.{◌≡◌, ℕ, ◌<◌, List, length, Some, IfOk, OnOk, IfErr};
+    ghost use Rattle.std.specs.Prelude.{◌≡◌, ℕ, ◌<◌, ◌^◌, List, length, Some, IfOk, OnOk, IfErr};
     ghost use Rattle.std.specs.List.{slice_get};
     ghost use Rattle.xt_model.specs.Miller.{IsMiller};
     ghost use Rattle.xt_model.specs.Parts.{Parts, classical_parts};
     ghost use Rattle.xt_model.specs.Sound.{IsSound, IsSoundNet};
-    ghost use Rattle.xt_model.specs.Levels.{AreLevelled, AreOrdered, IsLoop, IsLevel, IsDepth, IsOrder, IsPairCount};
+    ghost use Rattle.xt_model.specs.Levels.{AreLevels, AreLevelled, AreOrdered, IsLoop, IsLevel, IsDepth, IsOrder, IsPairCount};
     ghost use Rattle.xt_model.specs.Build.{IsFaultOf, IsRoundBound};
 
     /// The design of these parts, whose couplings count by the classical factors, or the loop that their
@@ -83,6 +84,44 @@ impl Design {
             parts,
             levels: Row::from_vec(levels),
             order: Row::from_vec(order),
+            depth,
+            pairs,
+        })
+    }
+
+    /// The parts of the design, and the order of its nets.
+    pub fn into_parts(self) -> (DesignParts, NetOrder)
+        ensures parts { result.0 ≡ self }
+        ensures levels { AreLevels self.nets result.1 }
+        ensures sound { IsSound self }
+    {
+        let Design {
+            parts,
+            levels,
+            order,
+            depth,
+            pairs: _,
+        } = self;
+        (parts, NetOrder::new(levels, order, depth))
+    }
+
+    /// The design of these parts, whose arcs are those of the nets that had this order. Only the coupled pairs are
+    /// counted anew.
+    pub fn from_order(
+        alloc: Global,
+        parts: DesignParts,
+        kept: NetOrder,
+    ) -> Result<Design, AllocError>
+        requires sound { IsSound parts }
+        requires levels { AreLevels parts.nets kept }
+        ensures ok { IfOk result (λ d. d ≡ parts) }
+    {
+        let pairs = coupled_pairs(alloc, parts.nets.as_slice())?.len() as u64;
+        let (levels, order, depth) = kept.into_rows();
+        Ok(Design {
+            parts,
+            levels,
+            order,
             depth,
             pairs,
         })
@@ -207,7 +246,8 @@ impl Design {
 
     /// The bound on the rounds of a run: (4 pairs + 1) times the greatest level.
     pub fn bound(&self) -> u64
-        ensures { IsRoundBound self.now.nets result }
+        ensures value { IsRoundBound self.now.nets result }
+        ensures below { result < 2 ^ 63 }
     {
         (4 * self.pairs + 1) * u64::from(self.depth)
     }

@@ -15,6 +15,7 @@ pub mod limits;
 mod miller;
 mod name;
 mod net;
+mod net_order;
 mod order;
 mod pairs;
 mod parts;
@@ -39,6 +40,7 @@ pub use laws::{
 pub use miller::Miller;
 pub use name::Name;
 pub use net::{Coupling, Net, NetId, SinkPin, TimingArc};
+pub use net_order::NetOrder;
 pub use parts::DesignParts;
 pub use quad::{Pair, Quad};
 pub use row::Row;
