@@ -21,8 +21,8 @@ use Rattle.xt_meaning.proofs.Existence.{past_bottom}
 use Rattle.xt_meaning.proofs.Steps.{further_refl, further_mono}
 use Rattle.xt_meaning.proofs.Words.{quads_of_words}
 use Rattle.xt_meaning.proofs.Numbers.{words_of_quads, windows_by_words, quads_no_further, past_numbers}
-use Rattle.few_rounds.specs.Chains.{IsStill, IsChain}
-use Rattle.few_rounds.proofs.Short.{chain_is_short}
+use Rattle.run_laws.specs.Chains.{IsStill, IsChain}
+use Rattle.run_laws.proofs.Short.{chain_is_short}
 use Rattle.net_eval.specs.ReadLists.{AreReadLists}
 use Rattle.chaos_core.specs.declared.setting.Setting.{Setting}
 use Rattle.chaos_core.specs.Memories.{AreKept}

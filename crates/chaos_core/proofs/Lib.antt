@@ -1,8 +1,8 @@
-mod Places
+pub mod Places
 pub mod Sight
-mod Loads
-mod Moves
-mod Stages
+pub mod Loads
+pub mod Moves
+pub mod Stages
 mod LoadStep
 mod DrawStep
 mod Running

@@ -10,8 +10,8 @@ ghost use Rattle.xt_model.specs.Assign.{assigned};
 ghost use Rattle.xt_meaning.specs.Barrier.{IsFittingStart};
 ghost use Rattle.xt_meaning.specs.Laws.{IsExtremeFixpoint};
 ghost use Rattle.xt_meaning.specs.Words.{numbers_of};
-ghost use Rattle.transitions.specs.Transitions.{Transition, AreConsistent};
-ghost use Rattle.transitions.specs.Laws.{LieWithin};
+ghost use Rattle.run_laws.specs.Transitions.{Transition, AreConsistent};
+ghost use Rattle.run_laws.specs.Laws.{LieWithin};
 ghost use Rattle.net_eval.specs.ReadLists.{AreReadLists};
 ghost use Rattle.chaos_core.specs.Rounds.{HasRoom, Settles};
 

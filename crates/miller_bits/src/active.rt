@@ -17,16 +17,16 @@ fn half_up(slew: i64) -> i64
     (slew + 1) >> 1
 }
 
-/// From when a transition of the window can be under way.
-fn active_from(window: &Quad) -> i64
+/// From when a transition of the window can be under way, in fs.
+pub fn active_from(window: &Quad) -> i64
     requires { IsInRange window.now }
     ensures { result ≡ active_from window.now }
 {
     window.tlo - half_up(window.shi)
 }
 
-/// To when a transition of the window can be under way.
-fn active_to(window: &Quad) -> i64
+/// To when a transition of the window can be under way, in fs.
+pub fn active_to(window: &Quad) -> i64
     requires { IsInRange window.now }
     ensures { result ≡ active_to window.now }
 {

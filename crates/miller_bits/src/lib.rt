@@ -10,7 +10,7 @@ mod overlaps;
 mod victim;
 mod wire;
 
-pub use active::overlap;
+pub use active::{active_from, active_to, overlap};
 pub use factor::factors;
 pub use load::{load_range, load_ranges};
 pub use overlaps::Overlaps;

@@ -1,9 +1,9 @@
-mod Totals
-mod Views
-mod Alone
-mod Moving
-mod Opening
-mod Drawing
-mod Parting
+pub mod Totals
+pub mod Views
+pub mod Alone
+pub mod Moving
+pub mod Opening
+pub mod Drawing
+pub mod Parting
 mod Calls
 pub mod Holding

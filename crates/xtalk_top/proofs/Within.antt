@@ -10,7 +10,7 @@ use Rattle.xt_model.specs.Assign.{assigned}
 use Rattle.xt_meaning.specs.Barrier.{IsWithinEnvelope}
 use Rattle.xt_meaning.specs.Envelope.{IsEnvelope, IsAccepted}
 use Rattle.xt_meaning.specs.Operator.{step}
-use Rattle.transitions.proofs.Hulls.{within_greatest as consistent_within}
+use Rattle.run_laws.proofs.Hulls.{within_greatest as consistent_within}
 use Rattle.xt_meaning.specs.Fixpoint.{IsContained, IsFixpoint, IsLeastFixpoint, IsGreatestFixpoint}
 use Rattle.xt_meaning.proofs.Extremes.{fixpoint_closed, least_within, within_greatest}
 use Rattle.xt_meaning.proofs.Steps.{contained_narrow}

@@ -16,8 +16,8 @@ use Rattle.xt_meaning.specs.Fixpoint.{IsContained, IsFixpoint}
 use Rattle.report_text.specs.Report.{IsReport}
 use Rattle.envelope.specs.Firsts.{IsFirstPassed}
 use Rattle.report_text.specs.declared.kind.ReportKind.{ReportKind}
-use Rattle.transitions.specs.Transitions.{Transition, AreConsistent}
-use Rattle.transitions.specs.Laws.{LieWithin}
+use Rattle.run_laws.specs.Transitions.{Transition, AreConsistent}
+use Rattle.run_laws.specs.Laws.{LieWithin}
 use Rattle.xtalk_top.specs.Words.{Text}
 use Rattle.xtalk_top.specs.declared.refusal.PassedLimit.{PassedLimit}
 use Rattle.xtalk_top.specs.declared.refusal.Refusal.{Refusal}

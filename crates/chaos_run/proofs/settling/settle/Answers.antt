@@ -1,7 +1,7 @@
 use Rattle.std.proofs.Common.{subst}
 use Rattle.xt_model.specs.declared.direction.Direction.{Direction}
 use Rattle.xt_meaning.specs.Laws.{IsExtremeFixpoint}
-use Rattle.transitions.proofs.Hulls.{within_greatest}
+use Rattle.run_laws.proofs.Hulls.{within_greatest}
 use Rattle.chaos_run.proofs.settling.settle.Goals as goal
 
 pub returns-clause-consistent : goal.returns-clause-consistent

@@ -11,7 +11,7 @@ use Rattle.xt_model.specs.Assign.{Assignment, assigned}
 use Rattle.xt_meaning.specs.Operator.{operator}
 use Rattle.xt_meaning.specs.Fixpoint.{IsGreatestFixpoint}
 use Rattle.xt_meaning.specs.Envelope.{IsWidest, IsEnvelope}
-use Rattle.transitions.specs.Transitions.{Transition, LiesIn, AreConsistent}
+use Rattle.run_laws.specs.Transitions.{Transition, LiesIn, AreConsistent}
 
 -- x lies in a live window
 pub record LiesInLive (q : Quad) (x : Transition) : Type 0 where

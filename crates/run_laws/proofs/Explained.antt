@@ -22,8 +22,8 @@ use Rattle.xt_meaning.proofs.Order.{within_trans, true_both, live_mono}
 use Rattle.xt_meaning.proofs.Growth.{IsWired, AreWired}
 use Rattle.xt_meaning.proofs.Starts.{fold_from}
 use Rattle.xt_meaning.proofs.Widest.{inputs_below}
-use Rattle.transitions.specs.Transitions.{Transition, IsMadeBy, IsExplainedBy, IsExplained, AreConsistent}
-use Rattle.transitions.proofs.Cells.{point, point_live, within_from_lies, Covers, all_covers, windows_cover, made_within}
+use Rattle.run_laws.specs.Transitions.{Transition, IsMadeBy, IsExplainedBy, IsExplained, AreConsistent}
+use Rattle.run_laws.proofs.Cells.{point, point_live, within_from_lies, Covers, all_covers, windows_cover, made_within}
 
 -- ---- the arcs of a net
 join_right : (p q : Quad) → IsWithin q (join_of p q)

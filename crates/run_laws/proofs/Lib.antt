@@ -1,4 +1,7 @@
+mod Blocks
 mod Cells
+mod Counts
 mod Explained
 pub mod Hulls
+pub mod Short
 mod Worked

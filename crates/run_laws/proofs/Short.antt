@@ -11,9 +11,9 @@ use Rattle.xt_meaning.specs.Operator.{operator}
 use Rattle.xt_meaning.specs.Barrier.{NoFurther}
 use Rattle.xt_meaning.proofs.Growth.{wired}
 use Rattle.xt_meaning.proofs.Steps.{further_refl, further_trans}
-use Rattle.few_rounds.specs.Chains.{IsStill, IsChain}
-use Rattle.few_rounds.proofs.Blocks.{block_still}
-use Rattle.few_rounds.proofs.Counts.{left, left_small, left_falls, left_same}
+use Rattle.run_laws.specs.Chains.{IsStill, IsChain}
+use Rattle.run_laws.proofs.Blocks.{block_still}
+use Rattle.run_laws.proofs.Counts.{left, left_small, left_falls, left_same}
 
 -- one block more
 times_more : (a k : ℕ) → suc a * k ≡ a * k + k

@@ -29,7 +29,7 @@ use Rattle.xt_meaning.proofs.Limits.{length_past}
 use Rattle.xt_meaning.proofs.Answers.{agreed_same, agreed_pairs, coupled_apart}
 use Rattle.xt_meaning.proofs.Existence.{inputs_mono, fixed_exists, fits_within, holds_list}
 use Rattle.xt_meaning.proofs.Steps.{no_further_trans, no_further_antisym, no_further_same, contained_widen, contained_narrow, widen_contained, narrow_contained}
-use Rattle.few_rounds.specs.Chains.{IsStill, IsChain}
+use Rattle.run_laws.specs.Chains.{IsStill, IsChain}
 
 -- ---- under given answers
 lower_within : (d : Parts) (ls : List ℕ) → AreLevels d.nets ls → (W V : Assignment) (n : ℕ) → ((m : ℕ) (f : Edge) → slice_index ls m < slice_index ls n → IsWithin (W m f) (V m f)) → InputsGrow d W V n

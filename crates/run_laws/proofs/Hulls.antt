@@ -25,10 +25,10 @@ use Rattle.xt_meaning.proofs.Order.{within_trans, within_refl, join_left, join_m
 use Rattle.xt_meaning.proofs.Growth.{wired}
 use Rattle.xt_meaning.proofs.Listed.{listed, length-listed, listed_inside, listed_past, listed_in_range}
 use Rattle.xt_meaning.proofs.Starts.{bottom_in_range, join_in_range, windows_in_range, bottom_within_operator}
-use Rattle.transitions.specs.Transitions.{Transition, IsExplainedBy, IsExplained, AreConsistent}
-use Rattle.transitions.specs.Laws.{LiesInLive, LieWithin}
-use Rattle.transitions.proofs.Cells.{point, point_live, lies_from_within, within_from_lies}
-use Rattle.transitions.proofs.Explained.{joined, same_edge_itself, HoldAll, operator_holds, widest_holds}
+use Rattle.run_laws.specs.Transitions.{Transition, IsExplainedBy, IsExplained, AreConsistent}
+use Rattle.run_laws.specs.Laws.{LiesInLive, LieWithin}
+use Rattle.run_laws.proofs.Cells.{point, point_live, lies_from_within, within_from_lies}
+use Rattle.run_laws.proofs.Explained.{joined, same_edge_itself, HoldAll, operator_holds, widest_holds}
 
 -- ---- where a transition is
 same_number : ℕ → ℕ → Bool

@@ -22,7 +22,7 @@ use Rattle.xt_meaning.proofs.Order.{live_from_ordered}
 use Rattle.xt_meaning.proofs.Meeting.{overlaps_decides, overlaps_mono}
 use Rattle.xt_meaning.proofs.Ranges.{IsInBox, least_over_below, greatest_over_above}
 use Rattle.xt_meaning.proofs.Growth.{IsWired, AreWired, AreNoGreater, load_mono, wire_delay_mono, slew_growth_mono}
-use Rattle.transitions.specs.Transitions.{Transition, AreTogether, MeetsOneAt, IsAdmitted, AreAdmitted, IsWireDelay, IsLoad, cell_delay, cell_slew, IsMadeBy, LiesIn}
+use Rattle.run_laws.specs.Transitions.{Transition, AreTogether, MeetsOneAt, IsAdmitted, AreAdmitted, IsWireDelay, IsLoad, cell_delay, cell_slew, IsMadeBy, LiesIn}
 
 -- ---- a transition as a window
 abbrev pub point : Transition → Quad

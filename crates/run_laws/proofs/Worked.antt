@@ -12,8 +12,8 @@ use Rattle.xt_model.specs.Assign.{assigned}
 use Rattle.xt_model.proofs.WorkedDesigns.{quad, on_rise, source, driven, coupled, rising_from, cross, cross_windows, load_pair}
 use Rattle.xt_meaning.specs.Lookup.{table_value}
 use Rattle.xt_meaning.specs.Wires.{wire_delay}
-use Rattle.transitions.specs.Transitions.{Transition, MeetsOneAt, IsAdmitted, AreAdmitted, IsMadeBy, IsMadeOver, LiesIn, IsExplained, AreConsistent}
-use Rattle.transitions.specs.Laws.{LiesInLive, LieWithin}
+use Rattle.run_laws.specs.Transitions.{Transition, MeetsOneAt, IsAdmitted, AreAdmitted, IsMadeBy, IsMadeOver, LiesIn, IsExplained, AreConsistent}
+use Rattle.run_laws.specs.Laws.{LiesInLive, LieWithin}
 
 abbrev rising : ℕ → ℤ → ℤ → Transition
 rising net time slew = record { net = net; edge = Rise; time = time; slew = slew }

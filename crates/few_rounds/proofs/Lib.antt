@@ -1,3 +1,0 @@
-mod Blocks
-mod Counts
-pub mod Short

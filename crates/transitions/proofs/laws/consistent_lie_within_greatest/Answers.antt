@@ -1,5 +1,0 @@
-use Rattle.transitions.proofs.Hulls.{within_greatest}
-use Rattle.transitions.proofs.laws.consistent_lie_within_greatest.Goals as goal
-
-pub returns : goal.returns
-returns c = λ d ls top high xs s l e g c. within_greatest d ls top high xs s l e g c
