@@ -9,12 +9,13 @@ the whole time in which that edge can be under way; couplings act where two band
 edge to the victim's edge that it can shorten (fast) or lengthen (slow): drawn through where it is sure, dashed where it
 is possible. With nets named, only these are drawn, in the order in which they are named, with the links among them.
 """
-import re
 import sys
 from xml.sax.saxutils import escape
 
+import reports
+from reports import EDGES, is_live, shown
+
 MOST_LANES = 400
-EDGES = ("rise", "fall")
 WIDTH, LINKS, LANE, HEIGHT, TOP = 640, 130, 26, 18, 44
 LEAST, GREATEST, FAST, SLOW, GREY = "#1f4e79", "#a9c9e8", "#2e7d32", "#c62828", "#888888"
 
@@ -24,48 +25,16 @@ def stop(text):
     sys.exit(2)
 
 
-def femtoseconds(text):
-    found = re.fullmatch(r"(-?)(\d+)\.(\d{3})", text)
-    if not found:
-        raise ValueError(text)
-    return int(found[1] + found[2] + found[3])
-
-
 def read(path, wanted):
     """The windows by net and edge, in the report's order, the guilty couplings, and the period's words."""
-    windows, links, period, ended = {}, [], "", False
     try:
-        with open(path, encoding="utf-8") as lines:
-            if lines.readline() != "xtalk 1\n":
-                stop(f"{path} is no report of xtalk")
-            for line in lines:
-                words = line.split()
-                ended = words == ["end"]
-                if words[:1] in (["net"], ["guilty"]) and words[2] not in EDGES:
-                    raise ValueError(words[2])
-                if words[:1] == ["net"] and (wanted is None or words[1] in wanted):
-                    if words[3:] == ["quiet"]:
-                        windows[words[1], words[2]] = None
-                    else:
-                        numbers = [femtoseconds(word) for word in words[4:8] + words[9:13]]
-                        windows[words[1], words[2]] = tuple(numbers[:4]), tuple(numbers[4:])
-                    if wanted is None and len(windows) > MOST_LANES:
-                        stop(f"{path} has more than {MOST_LANES // 2} nets: name those to draw")
-                elif words[:1] == ["guilty"] and (wanted is None or {words[1], words[3]} <= wanted):
-                    links.append((words[1], words[2], words[3], words[6], words[8]))
-                elif words[:1] == ["period"]:
-                    period = words[1]
-    except (OSError, UnicodeDecodeError) as fault:
-        stop(f"{path} can't be read: {fault}")
-    except (IndexError, ValueError):
-        stop(f"{path} has a line that is none of a report: {line.rstrip()}")
-    if not ended:
-        stop(f"{path} ends early: it has no line `end`")
-    return windows, links, period
-
-
-def is_live(quad):
-    return quad[0] <= quad[1] and quad[2] <= quad[3]
+        report = reports.read(path, wanted)
+    except reports.NoReport as fault:
+        stop(fault)
+    if wanted is None and len(report.windows) > MOST_LANES:
+        stop(f"{path} has more than {MOST_LANES // 2} nets: name those to draw")
+    links = [(victim, edge, aggressor, fast, slow) for victim, edge, aggressor, _, fast, slow in report.guilty]
+    return report.windows, links, report.period
 
 
 def span(quad):
@@ -78,8 +47,8 @@ def caption(lane, quads):
     """A lane's windows in words, which a browser shows over its band."""
     words = " ".join(lane)
     for name, quad in zip(("least", "greatest"), quads):
-        numbers = [f"{'-' if time < 0 else ''}{abs(time) // 1000}.{abs(time) % 1000:03}" for time in quad]
-        words += "\n{}: {} to {} ps, slew {} to {} ps".format(name, *numbers) if is_live(quad) else f"\n{name}: never"
+        words += ("\n{}: {} to {} ps, slew {} to {} ps".format(name, *map(shown, quad)) if is_live(quad)
+                  else f"\n{name}: never")
     return words
 
 
@@ -157,8 +126,8 @@ def picture(windows, links, period, names):
         out.append(f'<text x="{at + 20}" y="{foot + 23}">{word}</text>')
         at += 34 + 7 * len(word)
     out.append(f'<text x="{at}" y="{foot + 23}" fill="{GREY}">sure: drawn through, possible: dashed</text>')
-    if period and period != "none":
-        out.append(f'<text x="{left}" y="{foot + 44}" fill="{GREY}">period {escape(period)} ps: bands that lie whole '
+    if period is not None:
+        out.append(f'<text x="{left}" y="{foot + 44}" fill="{GREY}">period {shown(period)} ps: bands that lie whole '
                    'periods apart meet too</text>')
     return "\n".join(out + ["</svg>", ""])
 
