@@ -5,7 +5,9 @@
 
 It copies what the launcher looks at into a temporary folder (with a blank in its name) and runs the launcher there: on
 first use, after each kind of change, stopped, twice at once, over a crate that fails, without a toolchain or with
-another one, through a link, on a terminal, with an old find. It prints a line for each test and what a look costs.
+another one, through a link, on a terminal, with an old find; without words and with --help, which build nothing. So it
+does with tools/install, and it asks the completion for bash what may come next. It prints a line for each test and what
+a look costs.
 """
 import os
 import pty
@@ -111,7 +113,8 @@ class Place:
         (self.kit / "proved").touch()
         self.script(self.kit / "bin/rt", STAND_IN)
         shutil.copytree(TOP / "crates", self.top / "crates", ignore=shutil.ignore_patterns("out"))
-        for name in ("crates.txt", "HANDLES", "xtalk", "README.md"):
+        for name in ("crates.txt", "HANDLES", "xtalk", "README.md", "docs/xtalk.1", "tools/install", "tools/xtalk.bash"):
+            (self.top / name).parent.mkdir(exist_ok=True)
             shutil.copy2(TOP / name, self.top / name)
 
     def script(self, path, text):
@@ -142,6 +145,15 @@ class Place:
         assert status == 7, (status, shown, log)
         after = self.done()
         return after[0] - builds, len(after[1]) - len(proved)
+
+
+def usage(at):
+    """The usage at once, also without a toolchain, and nothing is built or written."""
+    for search in (at.environment()["PATH"], "/usr/bin:/bin"):
+        status, shown, log = at.call(PATH=search)
+        assert status == 2 and shown == "" and log.startswith("xtalk finds ") and "xtalk report LIB" in log, (status, log)
+        assert at.call("--help", PATH=search) == (0, log, "")
+    assert at.done() == (0, []) and not (at.top / "crates/xtalk_cli/out").exists()
 
 
 def first_use(at):
@@ -299,6 +311,53 @@ def old_find(at):
     (at.tools / "find").unlink()
 
 
+def installed(at):
+    """The program, its page and the completion stand where they belong, and the program runs without the checkout."""
+    prefix = at.kit / "a prefix"
+    call = lambda *words: subprocess.run([at.top / "tools/install", *words], cwd=at.kit, env=at.environment(),
+                                         capture_output=True, text=True)
+    assert call().returncode == 2 and call("a", "b").returncode == 2
+    # The stand-in's program ends with 7 whatever its words are, which is no success.
+    assert call("a prefix").returncode == 1 and not prefix.exists()
+    program = at.top / "crates/xtalk_cli/out/xtalk_cli"
+    text, built = program.read_text(), at.done()
+    program.write_text(text.replace("exit 7", "exit 0"))
+    run = call("a prefix")
+    names = ["bin/xtalk", "share/man/man1/xtalk.1", "share/bash-completion/completions/xtalk"]
+    assert run.returncode == 0 and run.stdout.split("\n") == [f"a prefix/{name}" for name in names] + [""], run
+    assert at.done() == built
+    assert [(prefix / name).read_bytes() for name in names] == [
+        path.read_bytes() for path in (program, TOP / "docs/xtalk.1", TOP / "tools/xtalk.bash")]
+    assert os.access(prefix / "bin/xtalk", os.X_OK) and not os.access(prefix / names[1], os.X_OK)
+    program.write_text(text)
+    if shutil.which("man"):
+        page = subprocess.run(["man", "--warnings", "-l", prefix / names[1]], capture_output=True, text=True)
+        assert page.returncode == 0 and not page.stderr and "xtalk report LIB NETLIST" in page.stdout, page
+
+
+def completed(at):
+    """What bash offers for a word that is begun: commands, options that are left, values, files by their kind."""
+    folder = at.kit / "files"
+    folder.mkdir()
+    for name in ("cells.lib", "b.v", "b.spef", "b.sdc", "d.xt", "note.txt", "a b.v"):
+        (folder / name).touch()
+    (folder / "sub").mkdir()
+    script = (f'source "{at.top}/tools/xtalk.bash"; complete -p xtalk >/dev/null || exit; COMP_WORDS=("$@"); '
+              'COMP_CWORD=$(($# - 1)); _xtalk; printf "%s\\n" "${COMPREPLY[@]}"')
+    rows = {
+        ("",): "report link solve replay gen --help", ("re",): "report replay", ("nothing", ""): "",
+        ("report", ""): "cells.lib sub", ("report", "cells.lib", ""): "a_b.v b.v sub", ("link", "x", "y", ""): "b.spef sub",
+        ("report", "x", "y", "z", ""): "b.sdc sub", ("report", "1", "2", "3", "4", ""): "--workers --kind --miller",
+        ("report", "--kind", ""): "all checks", ("report", "--kind", "a"): "all", ("report", "--kind", "all", ""): "cells.lib sub",
+        ("report", "x", "--workers", "2", "-"): "--kind --miller", ("solve", ""): "d.xt sub", ("solve", "n"): "note.txt",
+        ("replay", "d.xt", "--o"): "--order", ("gen", ""): "--number --nets --workers", ("link", "--k"): "",
+    }
+    for words, wanted in rows.items():
+        run = subprocess.run(["bash", "-c", script, "bash", "./xtalk", *words], cwd=folder, capture_output=True, text=True)
+        offered = sorted(run.stdout.replace(" ", "_").split())
+        assert offered == sorted(wanted.split()) and not run.stderr, (words, offered, run.stderr)
+
+
 def cost(at):
     times, clock = os.times(), time.monotonic()
     for _ in range(50):
@@ -315,8 +374,9 @@ def main():
         return
     with tempfile.TemporaryDirectory() as folder:
         at = Place(Path(folder))
-        tests = (first_use, changes, two_at_once, stopped, failing, toolchains, places, terminal, old_find)
-        for test in tests if not sys.argv[1:] else tests[:1] + tuple(it for it in tests if it.__name__ in sys.argv):
+        tests = (usage, first_use, changes, two_at_once, stopped, failing, toolchains, places, terminal, old_find, installed,
+                 completed)
+        for test in tests if not sys.argv[1:] else tests[:2] + tuple(it for it in tests[2:] if it.__name__ in sys.argv):
             test(at)
             assert not list(at.temporary.iterdir()), "a temporary file is left"
             print(f"{test.__name__}: well", flush=True)
