@@ -137,7 +137,7 @@ prove-unreachable-requires c =
     let round = rounds_here a c.rounds.board.setting lists order (length c.rounds.workers) n p q inv.setting inv.count (c.round.ensures.round order o) in
     let longer = one_more a d lists order n c.rounds.rounds begin p q c.rounds.windows c.requires.design inv.fits.windows.in_range inv.numbers (λ h. both_ways c.rounds.done c.rounds-test.true (inv.steady.1 h))
     (inv.path order o) round in
-    let few = few_here a d lists order n (c.rounds.rounds + 1) c.bound.result begin q c.requires.design c.requires.some c.requires.lists o c.in_ok-windows.ensures.kept.words longer c.bound.ensures in
+    let few = few_here a d lists order n (c.rounds.rounds + 1) c.bound.result begin q c.requires.design c.requires.some c.requires.lists o c.in_ok-windows.ensures.kept.words longer c.bound.ensures.value in
     omega (arith, few, c.if-prove.true)
 
 pub overflow_add-rounds : goal.overflow_add-rounds
