@@ -28,7 +28,7 @@ is_done_or (loading net numbers) = inr (λ h. h)
 is_done_or (publishing net pair place) = inr (λ h. h)
 is_done_or done = inl tt
 
--- steps behind steps
+-- steps after steps
 pub steps_on : (d : Parts) (lists : List (List NetId)) (order : List ℕ) (m n : ℕ) (k l p : Knowledge) (t u v : Task) → AreSteps d lists order m k t l u → AreSteps d lists order n l u p v
     → (count : ℕ) × AreSteps d lists order count k t p v
 steps_on d lists order m zero k l p t u v s r = (m, subst (λ w. AreSteps d lists order m k t p w) (sym r.1) (subst (λ x. AreSteps d lists order m k t x u) (sym r.0) s))

@@ -90,7 +90,7 @@ impl MemoryBoard {
         Ok(Windows::new(pairs))
     }
 
-    /// Gives each net the windows whose bounds stand in its words. Takes no memory.
+    /// Gives each net the windows whose bounds are in its words. Takes no memory.
     pub(crate) fn load_into(&self, windows: &mut Windows)
         requires { length windows.old ≡ nets_of self.now.setting }
         ensures numbers { numbers_of windows.new ≡ self.now.words }

@@ -110,7 +110,7 @@ pub(crate) fn pairs_of(alloc: Global, words: &[u64]) -> Result<Vec<Pair>, AllocE
     Ok(pairs)
 }
 
-/// Gives each net the windows whose numbers stand in its words.
+/// Gives each net the windows whose numbers are in its words.
 pub(crate) fn set_pairs(windows: &mut Windows, words: &[u64])
     requires count { length words.now ≡ 8 * length windows.old }
     requires range { All (λ n. n ≤ top_number) words.now }
