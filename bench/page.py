@@ -39,7 +39,8 @@ class Browser:
         program = shutil.which("chromium") or sys.exit("page.py: there is no chromium on the path")
         (theirs_in, self.to), (self.back, theirs_out) = os.pipe(), os.pipe()
         words = [program, "--headless", "--no-sandbox", "--disable-gpu", "--hide-scrollbars", "--no-first-run",
-                 "--disable-background-networking", f"--user-data-dir={folder}", "--remote-debugging-pipe", "about:blank"]
+                 "--disable-background-networking", f"--user-data-dir={folder}", "--remote-debugging-pipe",
+                 "about:blank"]
         self.process = subprocess.Popen(["bash", "-c", f'exec "$@" 3<&{theirs_in} 4>&{theirs_out}', "bash", *words],
                                         pass_fds=(theirs_in, theirs_out), stderr=subprocess.DEVNULL)
         os.close(theirs_in)
@@ -173,7 +174,8 @@ def make_page(report, path, *words):
 
 def head(browser, lines):
     """The tiles: the worst slack of each kind, and how many checks are violated and idle."""
-    tiles = browser.run("[...document.querySelectorAll('.tile')].map(tile => [...tile.children].map(part => part.textContent))")
+    tiles = browser.run("[...document.querySelectorAll('.tile')].map(tile => "
+                        "[...tile.children].map(part => part.textContent))")
     size = browser.run("document.getElementById('size').textContent")
     counts = lines.first["nets"][0]
     for word, number in (("nets", counts[0]), ("couplings", counts[2]), ("pairs", counts[4]), ("levels", counts[6])):
@@ -195,8 +197,9 @@ def bars(browser, lines):
     """Each bar counts the checks of its range, a red one those below 0; a click shows just these in the table."""
     for kind in ("setup", "hold"):
         slacks = [value(check[3]) for check in lines.checks if check[2] == kind and check[3] != "idle"]
-        found = browser.run(f"[...document.querySelectorAll('svg[data-kind={kind}] rect')].map(bar => [+bar.dataset.low, "
-                            "+bar.dataset.count, bar.getAttribute('fill'), bar.textContent, +bar.getAttribute('height')])")
+        found = browser.run(f"[...document.querySelectorAll('svg[data-kind={kind}] rect')].map(bar => "
+                            "[+bar.dataset.low, +bar.dataset.count, bar.getAttribute('fill'), bar.textContent, "
+                            "+bar.getAttribute('height')])")
         assert sum(bar[1] for bar in found) == len(slacks)
         step = min((b[0] - a[0] for a, b in zip(found, found[1:])), default=10 ** 9)
         for low, number, colour, words, high in found:
@@ -212,8 +215,8 @@ def bars(browser, lines):
 
 def sorting(browser, lines):
     """The table of checks by each column, up and down, at its first page, its second and its last."""
-    keys = [lambda check: check[0], lambda check: EDGES.index(check[1]), lambda check: ["setup", "hold"].index(check[2]),
-            lambda check: value(check[3]), lambda check: value(check[4]) if check[3] != "idle" else None,
+    keys = [lambda check: check[0], lambda check: EDGES.index(check[1]),
+            lambda check: ["setup", "hold"].index(check[2]), lambda check: value(check[3]), lambda check: value(check[4]) if check[3] != "idle" else None,
             lambda check: value(check[4]) - value(check[3]) if check[3] != "idle" else None]
     for column, key in enumerate(keys):
         for down in (False, True):
@@ -276,11 +279,11 @@ def paths(browser, lines):
 
 
 def lane_corners(browser):
-    """The bands of the picture of a net in time, by the scale that the numbers above it give; and half a pixel of it."""
+    """The bands of the picture of a net in time, by the scale that the numbers above it give; and that scale."""
     marks, bands = browser.run(
         "(() => { const drawing = document.querySelector('#net-picture svg'); return ["
-        "[...drawing.querySelectorAll('text[text-anchor=middle]')].map(text => [+text.getAttribute('x'), +text.textContent]),"
-        "[...drawing.querySelectorAll('[data-lane]')].map(band => [band.dataset.lane, band.firstChild.textContent, "
+        "[...drawing.querySelectorAll('text[text-anchor=middle]')].map(text => "
+        "[+text.getAttribute('x'), +text.textContent]), [...drawing.querySelectorAll('[data-lane]')].map(band => [band.dataset.lane, band.firstChild.textContent, "
         "[...band.querySelectorAll('polygon')].map(it => it.getAttribute('points'))])]; })()")
     (x0, t0), (x1, t1) = marks[0], marks[-1]
     scale = (t1 - t0) / (x1 - x0)
@@ -315,8 +318,9 @@ def net_by_name(browser, lines, names):
         for lane, (caption, bands) in corners.items():
             window = windows[tuple(lane.split(" "))]
             least, greatest = window[1:5], window[6:10]
-            assert caption == (f"{lane}\nleast: {least[0]} to {least[1]} ps, slew {least[2]} to {least[3]} ps\ngreatest: "
-                               f"{greatest[0]} to {greatest[1]} ps, slew {greatest[2]} to {greatest[3]} ps"), caption
+            assert caption == (f"{lane}\nleast: {least[0]} to {least[1]} ps, slew {least[2]} to {least[3]} ps\n"
+                               f"greatest: {greatest[0]} to {greatest[1]} ps, "
+                               f"slew {greatest[2]} to {greatest[3]} ps"), caption
             for band, numbers in zip(bands, (greatest, least)):
                 first, last, _, slew = map(float, numbers)
                 wanted = [first - slew / 2, first + slew / 2, last + slew / 2, last - slew / 2]
@@ -357,8 +361,8 @@ def bounded(browser, lines, report, folder):
     slacks = sorted(value(check[3]) for check in lines.checks if check[3] != "idle")
     assert browser.run("checkRows.map(row => row.slack).sort((a, b) => a - b)") == slacks[:there["checks"]]
     on_paths = [row[1] for row in lines.path_rows if row[0] in ("from", "step")]
-    net_by_windows = [name for name in on_paths if browser.run(f"windowsOf(netNumber.get({json.dumps(name)}))[0]") == "none"]
-    assert not net_by_windows, net_by_windows
+    for name in on_paths:
+        assert browser.run(f"windowsOf(netNumber.get({json.dumps(name)}))[0]") != "none", name
     return there
 
 
@@ -390,8 +394,8 @@ def markup(browser, folder):
         text += [f"net {name} {edge} least 1.000 2.000 3.000 4.000 greatest 0.500 2.500 3.000 4.000" for edge in EDGES]
     text += [f"guilty {a} rise {b} 1.000 fast possible slow sure" for a, b in zip(names, names[1:])]
     text += [f"check {name} rise setup {number}.000 {number}.500" for number, name in enumerate(names)]
-    text += [f"path setup {names[0]} rise 0.000", f"from {names[1]} rise 1.000", f"step {names[2]} fall wire 0.100 delay 2.000",
-             "to wire 0.200", "end", ""]
+    text += [f"path setup {names[0]} rise 0.000", f"from {names[1]} rise 1.000",
+             f"step {names[2]} fall wire 0.100 delay 2.000", "to wire 0.200", "end", ""]
     (folder / "markup.report").write_text("\n".join(text))
     make_page(folder / "markup.report", folder / "markup.html")
     browser.open(folder / "markup.html")
@@ -431,8 +435,8 @@ def main():
         try:
             seconds = browser.open(folder / "page.html")
             print(f"{report.stat().st_size / 1e6:.1f} MB of report with {len(lines.nets) // 2:,} nets and "
-                  f"{len(lines.checks):,} checks: a page of {(folder / 'page.html').stat().st_size / 1e6:.1f} MB, made in "
-                  f"{made:.1f} s, open after {seconds:.1f} s", flush=True)
+                  f"{len(lines.checks):,} checks: a page of {(folder / 'page.html').stat().st_size / 1e6:.1f} MB, "
+                  f"made in {made:.1f} s, open after {seconds:.1f} s", flush=True)
             assert seconds < MOST_SECONDS
             head(browser, lines)
             print("head: well", flush=True)

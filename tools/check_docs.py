@@ -23,6 +23,7 @@ from pathlib import Path
 
 TOP = Path(__file__).resolve().parent.parent
 DOCS = [TOP / "README.md", TOP / "CHANGELOG.md", *sorted((TOP / "docs").glob("*.md")), TOP / "examples/README.md"]
+FOLDERS = r"crates|docs|tools|bench|examples|specs|proofs|src|must-fail|\.ci"
 KINDS = "md|py|rt|antt|svg|png|bash|html"
 # Files that the documents speak of and that are not this repository's: the toolchain's, and what a user makes.
 OTHERS = {"block.html", "windows.svg", "page.html"}
@@ -64,7 +65,7 @@ def words_by_crate():
 
 
 def crate_lines():
-    """The crates of crates.txt with what they stand on."""
+    """The crates of crates.txt with what they depend on."""
     lines = [line.partition("#")[0].partition(":") for line in (TOP / "crates.txt").read_text().splitlines()]
     return {head.split()[0]: rest.split() for head, colon, rest in lines if colon}
 
@@ -116,7 +117,7 @@ def check_files(path, files):
             name = "crates/" + name.rstrip("/")
             if not any(name + end in files for end in ("", ".antt", ".rt", ".edit")):
                 find(path, number, f"there is no {name}")
-        for name in re.findall(r"`((?:crates|docs|tools|bench|examples|specs|proofs|src|must-fail|\.ci)/[\w./-]*)`", line):
+        for name in re.findall(rf"`((?:{FOLDERS})/[\w./-]*)`", line):
             if name.rstrip("/") not in ends:
                 find(path, number, f"there is no {name}")
 

@@ -9,8 +9,9 @@ quiet in one report alone; couplings that can matter now or did before (`guilty`
 lines that are higher, lower, new or gone; inputs without a window. Numbers are in ps and fF, as in the reports.
 
 The status is 0 where nothing got worse and 1 where something did: a check has less slack, is gone or is idle now; a new
-check is below 0; a noise line is higher or new; an input has no window that had one. Windows and couplings are shown and
-not judged: a slower cell moves windows too, and what it costs is in the slacks. Status 2: one of the files is no report.
+check is below 0; a noise line is higher or new; an input has no window that had one. Windows and couplings are shown
+and not judged: a slower cell moves windows too, and what it costs is in the slacks. The status is 2 where one of the
+files is not a report.
 """
 import argparse
 import sys
@@ -24,7 +25,7 @@ def signed(number):
 
 
 def by_key(rows, length):
-    """Rows by their first words; of several rows with the same words those behind the first are numbered."""
+    """Rows by their first words; of several rows with the same words those after the first are numbered."""
     found, counts = {}, {}
     for row in rows:
         key = row[:length]
@@ -61,11 +62,13 @@ def compare_heads(a, b, write):
         if getattr(a, what) != getattr(b, what):
             write(f"{what} {getattr(a, what):,} -> {getattr(b, what):,}")
     if a.period != b.period:
-        write("period {} -> {}".format(*("none" if period is None else shown(period) for period in (a.period, b.period))))
+        periods = ["none" if report.period is None else shown(report.period) for report in (a, b)]
+        write("period {} -> {}".format(*periods))
     if a.miller != b.miller:
         write("miller {} -> {}".format(*(" ".join(map(str, miller)) for miller in (a.miller, b.miller))))
     for kind in KINDS:
-        slacks = [[check[3] for check in report.checks if check[2] == kind and check[3] is not None] for report in (a, b)]
+        slacks = [[check[3] for check in report.checks if check[2] == kind and check[3] is not None]
+                  for report in (a, b)]
         if any(slacks):
             worst = [shown(min(own)) if own else "none" for own in slacks]
             below = [sum(slack < 0 for slack in own) for own in slacks]
@@ -97,8 +100,8 @@ def compare_checks(a, b, to):
 
 
 def compare_windows(a, b, to):
-    live = [{key: quads[1] for key, quads in report.windows.items() if quads and is_live(quads[1])} for report in (a, b)]
-    before, after = live
+    before, after = ({key: quads[1] for key, quads in report.windows.items() if quads and is_live(quads[1])}
+                     for report in (a, b))
     rows = []
     for key, quad in before.items():
         moves = [(name, x, y) for name, x, y in zip(("earliest", "latest", "least slew", "greatest slew"),
@@ -107,11 +110,11 @@ def compare_windows(a, b, to):
             told = ", ".join(f"{name} {shown(x)} -> {shown(y)} ({signed(y - x)})" for name, x, y in moves)
             rows.append((max(abs(y - x) for _, x, y in moves), f"{' '.join(key)}: {told}"))
     to.section("greatest windows moved", rows)
-    there = [{name for name, _ in report.windows} for report in (a, b)]
-    to.section("edges that can switch now", [(0, " ".join(key)) for key in after if key not in before and key[0] in there[0]])
-    to.section("edges that are quiet now", [(0, " ".join(key)) for key in before if key not in after and key[0] in there[1]])
-    to.section("nets new", [(0, name) for name in dict.fromkeys(name for name, _ in b.windows) if name not in there[0]])
-    to.section("nets gone", [(0, name) for name in dict.fromkeys(name for name, _ in a.windows) if name not in there[1]])
+    old, new = (dict.fromkeys(name for name, _ in report.windows) for report in (a, b))
+    to.section("edges that can switch now", [(0, " ".join(key)) for key in after if key not in before and key[0] in old])
+    to.section("edges that are quiet now", [(0, " ".join(key)) for key in before if key not in after and key[0] in new])
+    to.section("nets new", [(0, name) for name in new if name not in old])
+    to.section("nets gone", [(0, name) for name in old if name not in new])
 
 
 def compare_couplings(a, b, to):
@@ -134,7 +137,8 @@ def compare_couplings(a, b, to):
 def compare_noise(a, b, to):
     before, after = by_key(a.noise, 2), by_key(b.noise, 2)
     both = [(key, *before[key], *after[key]) for key in before if key in after]
-    row = lambda key, p, t, q, u: (abs(q - p), f"{q - p:+}  {words_of(key)}: ppm {p} at {shown(t)} -> {q} at {shown(u)}")
+    row = lambda key, p, t, q, u: (
+        abs(q - p), f"{q - p:+}  {words_of(key)}: ppm {p} at {shown(t)} -> {q} at {shown(u)}")
     text = lambda key, ppm, moment: (ppm, f"{words_of(key)}: ppm {ppm} at {shown(moment)}")
     to.section("noise higher", [row(*it) for it in both if it[3] > it[1]], is_worse=True)
     to.section("noise lower", [row(*it) for it in both if it[3] < it[1]])

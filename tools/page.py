@@ -26,7 +26,7 @@ MOST_BINS, MOST_STEPS, MOST_UNCONSTRAINED = 48, 200, 1000
 
 
 def kept(rows, most, rank):
-    """As many of the rows as have no more than so many bytes, those of the lowest rank first, in the rows' order."""
+    """As many of the rows as have no more than `most` bytes, those of the lowest rank first, in the rows' order."""
     if sum(len(row) + 1 for row in rows) <= most:
         return list(range(len(rows)))
     chosen = []
@@ -81,7 +81,7 @@ def shape_of(path):
 
 def net_rows(report, names):
     """A row for each net: its name, and for both edges `q` where it is quiet, `-` where the report has no line, the
-    numbers of the greatest window where it has no least one, or those of the least and by how much the greatest differ."""
+    numbers of the greatest window where it has no least one, or those of the least one and the differences to them."""
     def of_edge(key):
         quads = report.windows.get(key, ())
         if not quads:
@@ -93,7 +93,7 @@ def net_rows(report, names):
 
 
 def widening(report, name):
-    """By how much crosstalk widens both windows of a net in time; an edge that only the greatest windows have is first."""
+    """By how much crosstalk widens both windows of a net in time, most where only the greatest windows have the edge."""
     wider = 0
     for edge in EDGES:
         least, greatest = report.windows.get((name, edge)) or (None, None)
@@ -156,7 +156,8 @@ def parts(report, title, wanted, most):
     texts = {"FACTS": [json.dumps(facts)], "NETS": nets, "COUPLINGS": couplings,
              "CHECKS": [checks[number] for number in chosen], "NOISE": [noise[number] for number in peaks]}
     # A name may have any printable bytes, so the one that could end a script is another character in the page.
-    return {place: "\n".join(rows).replace("<", "\u2039") for place, rows in texts.items()} | {"TITLE": html.escape(title)}
+    filled = {place: "\n".join(rows).replace("<", "\u2039") for place, rows in texts.items()}
+    return filled | {"TITLE": html.escape(title)}
 
 
 def page(report, title, wanted=frozenset(), most=MOST):

@@ -49,7 +49,7 @@ class NoReport(Exception):
 
 
 def thousandths(text):
-    """The whole number of thousandths that a number with three digits behind its point is."""
+    """The whole number of thousandths that a number with three digits after its point is."""
     if not NUMBER.fullmatch(text):
         raise ValueError(text)
     return int(text[:-4] + text[-3:])
