@@ -11,7 +11,7 @@ use Rattle.xt_model.proofs.WorkedDesigns.{cross, cross_windows, load_pair, on_ri
 use Rattle.slack_report.specs.Slacks.{slacks}
 use Rattle.xt_number.specs.Thousandths.{thousandths}
 use Rattle.text_lines.specs.Lines.{text_of}
-use Rattle.report_text.specs.declared.kind.ReportKind.TheVariants.{All, Checks}
+use Rattle.report_kind.specs.declared.kind.ReportKind.TheVariants.{All, Checks}
 use Rattle.report_text.specs.declared.checked.Checked.{Checked}
 use Rattle.report_text.specs.declared.worst.WorstPath.{WorstPath}
 use Rattle.report_text.specs.Report.{report}

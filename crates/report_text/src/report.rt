@@ -13,10 +13,10 @@ ghost use Rattle.report_text.specs.Report.{IsReportOf, guilty_line, report, unle
 
 use crate::checked::{Checked, push_checked};
 use crate::guilty::push_guilty;
-use crate::kind::ReportKind;
 use crate::size::{push_clock, push_size, push_title};
 use crate::unconstrained::push_unconstrained;
 use crate::windows::push_windows;
+use report_kind::ReportKind;
 use std::alloc::{AllocError, Global};
 use text_lines::{push_miller, push_word};
 use xt_model::{Design, NoMemory, Windows};
