@@ -12,7 +12,7 @@ use Rattle.clap.specs.Walk.{Rule, arg_by_id, arg_by_index, arg_by_long}
 use Rattle.clap.specs.Simple.{Shape, new_rule, new_shape, built, filled_from}
 use Rattle.clap.specs.declared.builder.action.ArgAction.TheVariants.{Set}
 use Rattle.clap.specs.declared.builder.value_parser.ValueParser.TheVariants as vp
-use Rattle.command_line.specs.Grammar.{Text, CommandForm, OptionForm, has_option}
+use Rattle.command_line.specs.Grammar.{Text, CommandForm, has_option}
 use Rattle.command_line.specs.Reading.{app_of_form, option_rule, positional_rule}
 
 -- an argument that takes one value
@@ -20,7 +20,6 @@ pub record Argument : Type 0 where
   pub name : Text
   pub long : Option Text
   pub index : Option ℕ
-  pub required : Bool
 
 abbrev pub rule_of_argument : Argument → Rule
 rule_of_argument s = record (new_rule s.name) {
@@ -29,14 +28,13 @@ rule_of_argument s = record (new_rule s.name) {
   action = Some Set;
   range = Some (record { start_inclusive = 1; end_inclusive = 1 });
   parser = Some vp.String;
-  required = s.required;
 }
 
-abbrev pub option_argument : OptionForm → Argument
-option_argument o = record { name = o.name; long = Some o.name; index = None; required = o.is_required }
+abbrev pub option_argument : Text → Argument
+option_argument name = record { name = name; long = Some name; index = None }
 
 abbrev pub positional_argument : ℕ → Text → Argument
-positional_argument i name = record { name = name; long = None; index = Some i; required = true }
+positional_argument i name = record { name = name; long = None; index = Some i }
 
 abbrev pub next : ℕ → ℕ
 next i = min (i + 1) usize_max
@@ -69,7 +67,7 @@ filled_positionals : (i : ℕ) (names : List Text) → filled_from i (map positi
 filled_positionals i [] = refl
 filled_positionals i (name ∷ rest) = ap (λ rs. rule_of_argument (positional_argument i name) ∷ rs) (filled_positionals (next i) rest)
 
-filled_options : (options : List OptionForm) (names : List Text) → filled_from 1 (map option_rule options ++ map positional_rule names) ≡ map rule_of_argument (map option_argument options ++ positional_arguments 1 names)
+filled_options : (options : List Text) (names : List Text) → filled_from 1 (map option_rule options ++ map positional_rule names) ≡ map rule_of_argument (map option_argument options ++ positional_arguments 1 names)
 filled_options [] names = filled_positionals 1 names
 filled_options (o ∷ rest) names = ap (λ rs. rule_of_argument (option_argument o) ∷ rs) (filled_options rest names)
 
@@ -102,9 +100,9 @@ found_by_id (s ∷ rest) name e = elim (cases_Bool (bytes_eq s.name name)) [
       record { argument = more.argument; found = rw other more.found; called = more.called }
 ]
 
-option_there : (options : List OptionForm) (more : List Argument) (name : Text) → has_option options name ≡ true → list_any (λ s. bytes_eq s.name name) (map option_argument options ++ more) ≡ true
+option_there : (options : List Text) (more : List Argument) (name : Text) → has_option options name ≡ true → list_any (λ s. bytes_eq s.name name) (map option_argument options ++ more) ≡ true
 option_there [] more name e = absurd (true≢false (sym e))
-option_there (o ∷ rest) more name e = elim (cases_Bool (bytes_eq o.name name)) [
+option_there (o ∷ rest) more name e = elim (cases_Bool (bytes_eq o name)) [
   | inl same ↦ rw same refl
   | inr other ↦ rw other (option_there rest more name (rw other at e))
 ]
@@ -118,10 +116,10 @@ pub record IsLong (args : List Rule) (name : Text) : Type 0 where
   pub found : arg_by_long args name ≡ Some (rule_of_argument argument)
   pub called : argument.name ≡ name
 
-found_by_long : (options : List OptionForm) (more : List Argument) (name : Text) → has_option options name ≡ true → IsLong (map rule_of_argument (map option_argument options ++ more)) name
+found_by_long : (options : List Text) (more : List Argument) (name : Text) → has_option options name ≡ true → IsLong (map rule_of_argument (map option_argument options ++ more)) name
 found_by_long [] more name e = absurd (true≢false (sym e))
-found_by_long (o ∷ rest) more name e = elim (cases_Bool (bytes_eq o.name name)) [
-  | inl same ↦ record { argument = option_argument o; found = rw same refl; called = (bytes_eq-Decides o.name name).0 same }
+found_by_long (o ∷ rest) more name e = elim (cases_Bool (bytes_eq o name)) [
+  | inl same ↦ record { argument = option_argument o; found = rw same refl; called = (bytes_eq-Decides o name).0 same }
   | inr other ↦
       let later = found_by_long rest more name (rw other at e) in
       record { argument = later.argument; found = rw other later.found; called = later.called }
@@ -183,7 +181,7 @@ places before p (name ∷ left) room b =
     let rest = places (before ++ positional_argument p name ∷ []) (p + 1) left (omega (arith, room)) (below_end p before name b) in
     (here, found_by_id (before ++ positional_argument p name ∷ more) name (there before p name more), subst P (sym n) (subst Q (append_assoc before (positional_argument p name ∷ []) (positional_arguments (p + 1) left)) rest))
 
-no_places : (options : List OptionForm) → Below 1 (map option_argument options)
+no_places : (options : List Text) → Below 1 (map option_argument options)
 no_places [] = tt
 no_places (o ∷ rest) = (λ q l. refl, no_places rest)
 

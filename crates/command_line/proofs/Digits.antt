@@ -8,7 +8,7 @@ use Rattle.std.specs.Str.Parse.{AllDigits, IsNumeral, ParsesUnsigned, digits_val
 use Rattle.std.proofs.lemmas.Bool.{and_parts, cases_Bool, leb-true, ltb-true}
 use Rattle.std.proofs.lemmas.Str.{digit_value_digit}
 use Rattle.std.proofs.lemmas.Str.Parse.{without_leading_plus_none}
-use Rattle.command_line.specs.Grammar.{is_number, number_of}
+use Rattle.command_line.specs.Values.{is_number, number_of}
 
 digit_below : (c : ℕ) → is_ascii_digit c ≡ true → (digit_value c < 10) × (48 ≤ c)
 digit_below c e =

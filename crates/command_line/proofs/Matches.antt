@@ -1,4 +1,4 @@
--- The command of a form takes exactly the words of the form, values aside, and finds what they say.
+-- The command of a form takes exactly the words of the form, and finds what they say.
 use Rattle.std.proofs.Common.{◌≡◌, ◌∙◌, ◌<◌, ◌⊎◌, ℕ, Bool, true, false, cond, not, ◌&&◌, ◌||◌, ◌==◌, ◌^◌, arith, refl, sym, ap, ap₂, subst, List, [], ◌∷◌, ◌++◌, map, fold, drop, length, Option, Some, None, inl, inr, true≢false}
 use Rattle.std.proofs.Math.Path.{fun_ext}
 use Rattle.std.proofs.lemmas.Bool.{and_parts, cases_Bool}
@@ -23,8 +23,8 @@ use Rattle.clap.specs.declared.error.Error.{Error}
 use Rattle.clap.specs.declared.parser.matches.ArgMatches.{ArgMatches}
 use Rattle.clap.proofs.OnLiterals.{clap_on_literals}
 use Rattle.clap.proofs.WalkLemmas.{first_value-rows}
-use Rattle.command_line.specs.Grammar.{Text, Item, CommandForm, OptionForm, are_once, has_name, has_option, has_required, in_front, is_option, is_plain, items_from, option_of, value_of}
-use Rattle.command_line.specs.Reading.{app_of_form, found_items, is_listed, option_rule, positional_rule}
+use Rattle.command_line.specs.Grammar.{Text, Item, CommandForm, are_once, given_of, has_name, has_option, in_front, is_option, is_plain, items_from, option_of, value_of}
+use Rattle.command_line.specs.Reading.{app_of_form, is_listed, option_rule, positional_rule}
 use Rattle.command_line.proofs.Arguments.{IsKnown, Places, Argument, all_places, rules_of, filled_args, known_option, long_option, next, option_argument, positional_arguments, rule_of_argument, shape_of, arguments_of}
 use Rattle.command_line.proofs.Steps.{attached_held, attached_turn, attached_walked, given_held, missed_turn, never, new_row, no_repeat, open_is, opened, option_turn, option_walked, positional_turn, positional_walked, repeat, ready, row, settle_is, settled_is, stray_turn, used_as_new, value_turn, value_walked}
 use Rattle.command_line.proofs.Once.{found_after, found_end, found_more, found_twice, once_more, whole}
@@ -180,60 +180,12 @@ module _ (form : CommandForm) where
 
   -- ---- the end of the words
 
-  abbrev missing : Kinds
-  missing = fault_kind.MissingRequiredArgument ∷ []
+  lacks_none : (items : List Item) (arguments : List Argument) → list_any (λ a. a.required && not (is_given a.id (map row items))) (map rule_of_argument arguments) ≡ false
+  lacks_none items [] = refl
+  lacks_none items (s ∷ rest) = lacks_none items rest
 
-  given_is : (name : Text) (items : List Item) → is_given name (map row items) ≡ has_name name items
-  given_is name [] = refl
-  given_is name (i ∷ rest) = go (bytes_eq i.0 name) (given_is name rest)
-    where
-      go : (b : Bool) → is_given name (map row rest) ≡ has_name name rest
-          → option_map_or (λ (r : Row). explicit_source r.source) (cond b (Some (row i)) (find (λ r. bytes_eq r.id name) (map row rest))) false ≡ (b || has_name name rest)
-      go true e = refl
-      go false e = e
-
-  abbrev lacks : List Item → List Rule → Bool
-  lacks items rules = list_any (λ a. a.required && not (is_given a.id (map row items))) rules
-
-  abbrev options_there : List Item → List OptionForm → Bool
-  options_there items options = list_all (λ o. not o.is_required || has_name o.name items) options
-
-  abbrev words_there : List Item → List Text → Bool
-  words_there items names = list_all (λ name. has_name name items) names
-
-  lacks_words : (items : List Item) (p : ℕ) (names : List Text) → lacks items (map rule_of_argument (positional_arguments p names)) ≡ not (words_there items names)
-  lacks_words items p [] = refl
-  lacks_words items p (name ∷ rest) = rw (given_is name items, lacks_words items (next p) rest) (go (has_name name items) (words_there items rest))
-    where
-      go : (a b : Bool) → (not a || not b) ≡ not (a && b)
-      go true b = refl
-      go false b = refl
-
-  lacks_options : (items : List Item) (options : List OptionForm) (more : List Argument)
-      → lacks items (map rule_of_argument (map option_argument options ++ more)) ≡ (not (options_there items options) || lacks items (map rule_of_argument more))
-  lacks_options items [] more = refl
-  lacks_options items (o ∷ rest) more = rw (given_is o.name items, lacks_options items rest more) (go o.is_required (has_name o.name items) (options_there items rest) (lacks items (map rule_of_argument more)))
-    where
-      go : (r h a b : Bool) → ((r && not h) || (not a || b)) ≡ (not ((not r || h) && a) || b)
-      go true true a b = refl
-      go true false a b = refl
-      go false h a b = refl
-
-  lacks_is : (items : List Item) → lacks items c ≡ not (has_required form items)
-  lacks_is items =
-      lacks_options items form.options (positional_arguments 1 form.positionals) ∙ ap (λ b. not (options_there items form.options) || b) (lacks_words items 1 form.positionals)
-      ∙ go (options_there items form.options) (words_there items form.positionals)
-    where
-      go : (a b : Bool) → (not a || not b) ≡ not (a && b)
-      go true b = refl
-      go false b = refl
-
-  check_is : (items : List Item) → check_fault (shape_of form) (map row items) false ≡ cond (has_required form items) [] missing
-  check_is items = ap (λ b. cond b missing []) (lacks_is items) ∙ go (has_required form items)
-    where
-      go : (b : Bool) → cond (not b) missing [] ≡ cond b [] missing
-      go true = refl
-      go false = refl
+  check_is : (items : List Item) → check_fault (shape_of form) (map row items) false ≡ []
+  check_is items = ap (λ b. cond b (fault_kind.MissingRequiredArgument ∷ []) []) (lacks_none items (arguments_of form))
 
   same_either : {X : Type 0} (b : Bool) (x : X) → cond b x x ≡ x
   same_either true x = refl
@@ -256,19 +208,15 @@ module _ (form : CommandForm) where
   finished_is : (h : Held) → finished c h ≡ (settled c h).rows
   finished_is h = no_more (arguments_of form) (settled c h).rows
 
-  end_is : (h : Held) (items : List Item) → IsReady h items → end_fault form h ≡ cond (has_required form items) [] missing
+  end_is : (h : Held) (items : List Item) → IsReady h items → end_fault form h ≡ []
   end_is h items r =
       ap (λ ks. or_else ks (or_else (defaults_fault (settled c h).rows c) (check_fault (shape_of form) (finished c h) false))) r.settles
       ∙ ap (λ ks. or_else ks (check_fault (shape_of form) (finished c h) false)) (no_defaults (arguments_of form) (settled c h).rows)
       ∙ ap (λ rows. check_fault (shape_of form) rows false) (finished_is h ∙ r.rows) ∙ check_is items
 
-  at_end : (h : Held) (p : ℕ) (items : List Item) → IsReady h items → Agrees (fault_from form (ready h p) []) (rows_from form (ready h p) []) (whole form items)
+  at_end : (h : Held) (p : ℕ) (items : List Item) → IsReady h items → Agrees (fault_from form (ready h p) []) (rows_from form (ready h p) []) (whole items)
   unfolding clap_on_literals
-  at_end h p items r = rw r.once (go (has_required form items) (end_is h items r))
-    where
-      go : (given : Bool) → end_fault form h ≡ cond given [] missing → Agrees (end_fault form h) (finished c h) (cond given (Some items) None)
-      go true e = (e, finished_is h ∙ r.rows)
-      go false e = (fault_kind.MissingRequiredArgument, [], e)
+  at_end h p items r = rw r.once (end_is h items r, finished_is h ∙ r.rows)
 
   open_end : (name : Text) (h : Held) (p : ℕ) → IsKnown c name → Fails (fault_from form (opened c name h p) [])
   unfolding clap_on_literals
@@ -290,24 +238,24 @@ module _ (form : CommandForm) where
   -- wherever the walk stands, these words come to what they say
   abbrev AgreesOn : List Text → Type 0
   AgreesOn words = (waits : Option Text) (h : Held) (p : ℕ) (left : List Text) (items : List Item) → IsReady h items → Known waits → Places c p left
-      → Agrees (fault_from form (state waits h p) words) (rows_from form (state waits h p) words) (found_after form items (items_from form.options waits left words))
+      → Agrees (fault_from form (state waits h p) words) (rows_from form (state waits h p) words) (found_after items (items_from form.options waits left words))
 
   module _ (words : List Text) (listed : list_all (is_listed form.options) words ≡ true) (later : AgreesOn words) (h : Held) (p : ℕ) (left : List Text) (items : List Item) (r : IsReady h items) where
     -- behind a use that is pending, whether it is the first of its name or not
     behind : (name v : Text) (q : ℕ) (rest : List Text) → IsKnown c name → Places c q rest
-        → Agrees (fault_from form (ready (given_held c name v h) q) words) (rows_from form (ready (given_held c name v h) q) words) (found_after form items (in_front (name, v) (items_from form.options None rest words)))
+        → Agrees (fault_from form (ready (given_held c name v h) q) words) (rows_from form (ready (given_held c name v h) q) words) (found_after items (in_front (name, v) (items_from form.options None rest words)))
     behind name v q rest known there =
         let o = items_from form.options None rest words in
         let fault = fault_from form (ready (given_held c name v h) q) words in
         let rows = rows_from form (ready (given_held c name v h) q) words in
         let Q : Option (List Item) → Type 0 = λ o. Agrees fault rows o in
         elim (cases_Bool (has_name name items)) [
-          | inl again ↦ subst Q (sym (found_twice form (name, v) items o again)) (repeat_fails (given_held c name v h) q rest words (pending_repeat name v h items known r again) there listed)
-          | inr first ↦ subst Q (sym (found_more form (name, v) items o)) (later None (given_held c name v h) q rest (items ++ (name, v) ∷ []) (pending_ready name v h items known r first) tt there)
+          | inl again ↦ subst Q (sym (found_twice (name, v) items o again)) (repeat_fails (given_held c name v h) q rest words (pending_repeat name v h items known r again) there listed)
+          | inr first ↦ subst Q (sym (found_more (name, v) items o)) (later None (given_held c name v h) q rest (items ++ (name, v) ∷ []) (pending_ready name v h items known r first) tt there)
         ]
 
     by_plain : (word : Text) (left : List Text) → is_plain word ≡ true → Places c p left
-        → Agrees (fault_from form (ready h p) (word ∷ words)) (rows_from form (ready h p) (word ∷ words)) (found_after form items (items_from form.options None left (word ∷ words)))
+        → Agrees (fault_from form (ready h p) (word ∷ words)) (rows_from form (ready h p) (word ∷ words)) (found_after items (items_from form.options None left (word ∷ words)))
     by_plain [] left plain places = absurd (true≢false (sym plain))
     by_plain (b ∷ more) [] plain places = rw plain (fails_at (ready h p) (b ∷ more) words fault_kind.UnknownArgument (stray_turn c h p b more (not_dash b plain) places))
     by_plain (b ∷ more) (name ∷ rest) plain places =
@@ -316,7 +264,7 @@ module _ (form : CommandForm) where
         (behind name (b ∷ more) (next p) rest places.1 places.2))
 
     by_option : (word name : Text) (value : Option Text) → Places c p left → IsOptionWord form word name value → is_plain word ≡ false → option_of form.options word ≡ Some (name, value)
-        → Agrees (fault_from form (ready h p) (word ∷ words)) (rows_from form (ready h p) (word ∷ words)) (found_after form items (items_from form.options None left (word ∷ words)))
+        → Agrees (fault_from form (ready h p) (word ∷ words)) (rows_from form (ready h p) (word ∷ words)) (found_after items (items_from form.options None left (word ∷ words)))
     by_option word name None places o other is =
         let long = long_option form name o.there in
         rw (other, is) (passes_at (ready h p) (opened c name h p) word words _
@@ -329,16 +277,16 @@ module _ (form : CommandForm) where
         let rows = rows_from form (ready h p) (word ∷ words) in
         let Q : Option (List Item) → Type 0 = λ o. Agrees fault rows o in
         rw (other, is) (elim (cases_Bool (has_name name items)) [
-          | inl again ↦ subst Q (sym (found_twice form (name, v) items rest again)) (fails_at (ready h p) word words fault_kind.ArgumentConflict
+          | inl again ↦ subst Q (sym (found_twice (name, v) items rest again)) (fails_at (ready h p) word words fault_kind.ArgumentConflict
               (attached_fault h p word name v items o r ∙ ap (λ ks. or_else (or_else ks []) []) (repeat name items again)))
-          | inr first ↦ subst Q (sym (found_more form (name, v) items rest)) (passes_at (ready h p) (ready (attached_held c name v h) p) word words _
+          | inr first ↦ subst Q (sym (found_more (name, v) items rest)) (passes_at (ready h p) (ready (attached_held c name v h) p) word words _
               (attached_fault h p word name v items o r ∙ ap (λ ks. or_else (or_else ks []) []) (no_repeat name items first))
               (attached_walked c h p word name v long.argument o.long long.found long.called)
               (later None (attached_held c name v h) p left (items ++ (name, v) ∷ []) (attached_ready name v h items r first) tt places))
         ])
 
     by_value : (waits word : Text) → IsKnown c waits → Places c p left → is_plain word ≡ true
-        → Agrees (fault_from form (opened c waits h p) (word ∷ words)) (rows_from form (opened c waits h p) (word ∷ words)) (found_after form items (items_from form.options (Some waits) left (word ∷ words)))
+        → Agrees (fault_from form (opened c waits h p) (word ∷ words)) (rows_from form (opened c waits h p) (word ∷ words)) (found_after items (items_from form.options (Some waits) left (word ∷ words)))
     by_value waits [] k places plain = absurd (true≢false (sym plain))
     by_value waits (b ∷ more) k places plain =
         rw plain (passes_at (opened c waits h p) (ready (given_held c waits (b ∷ more) h) p) (b ∷ more) words _
@@ -346,7 +294,7 @@ module _ (form : CommandForm) where
         (behind waits (b ∷ more) p left k places))
 
     by_missed : (waits word name : Text) (value : Option Text) → IsKnown c waits → IsOptionWord form word name value → is_plain word ≡ false
-        → Agrees (fault_from form (opened c waits h p) (word ∷ words)) (rows_from form (opened c waits h p) (word ∷ words)) (found_after form items (items_from form.options (Some waits) left (word ∷ words)))
+        → Agrees (fault_from form (opened c waits h p) (word ∷ words)) (rows_from form (opened c waits h p) (word ∷ words)) (found_after items (items_from form.options (Some waits) left (word ∷ words)))
     by_missed waits word name value k o other =
         let long = long_option form name o.there in
         rw other (fails_at (opened c waits h p) word words fault_kind.InvalidValue (missed_turn c h p waits word name value long.argument k o.long long.found))
@@ -354,7 +302,7 @@ module _ (form : CommandForm) where
   agrees : (words : List Text) → list_all (is_listed form.options) words ≡ true → AgreesOn words
   agrees [] listed None h p left items r k places =
       let P : Option (List Item) → Type 0 = λ o. Agrees (fault_from form (ready h p) []) (rows_from form (ready h p) []) o in
-      subst P (sym (found_end form items)) (at_end h p items r)
+      subst P (sym (found_end items)) (at_end h p items r)
   agrees [] listed (Some name) h p left items r k places = open_end name h p k
   agrees (word ∷ words) listed None h p left items r k places =
       let parts = and_parts _ _ listed in
@@ -398,11 +346,11 @@ module _ (form : CommandForm) where
 
   -- the command fails at the words behind the program's where they give no items, and else finds those
   command_agrees : length form.positionals < usize_max → (all : List Text) → list_all (is_listed form.options) (drop 1 all) ≡ true
-      → Agrees (fault_of (app_of_form form) all) (matches_of (app_of_form form) all) (found_items form (drop 1 all))
+      → Agrees (fault_of (app_of_form form) all) (matches_of (app_of_form form) all) (given_of form (drop 1 all))
   command_agrees room all e =
       let words = drop 1 all in
-      let P : Kinds → Type 0 = λ ks. Agrees ks (matches_of (app_of_form form) all) (found_items form words) in
-      let Q : List Row → Type 0 = λ rows. Agrees (fault_from form (ready nothing_held 1) words) rows (found_items form words) in
+      let P : Kinds → Type 0 = λ ks. Agrees ks (matches_of (app_of_form form) all) (given_of form words) in
+      let Q : List Row → Type 0 = λ rows. Agrees (fault_from form (ready nothing_held 1) words) rows (given_of form words) in
       subst P (sym (fault_is all)) (subst Q (sym (matches_are all)) (agrees words e None nothing_held 1 form.positionals [] nothing_ready tt (all_places form room)))
 
   -- ---- the command is one of which `clap` says all this
@@ -411,7 +359,7 @@ module _ (form : CommandForm) where
   simple_words [] = refl
   simple_words (name ∷ rest) = simple_words rest
 
-  simple_before : (options : List OptionForm) (names : List Text) → list_all (λ (a : Rule). a.is_simple) (map option_rule options ++ map positional_rule names) ≡ true
+  simple_before : (options : List Text) (names : List Text) → list_all (λ (a : Rule). a.is_simple) (map option_rule options ++ map positional_rule names) ≡ true
   simple_before [] names = simple_words names
   simple_before (o ∷ rest) names = simple_before rest names
 
@@ -447,11 +395,11 @@ first_is name (i ∷ rest) = go (bytes_eq i.0 name) (first_is name rest)
 -- where the command succeeds, its matches are what the words say
 pub found : (form : CommandForm) (app : App) (all : List Text) (m : ArgMatches) → length form.positionals < usize_max → app ≡ app_of_form form
     → list_all (is_listed form.options) (drop 1 all) ≡ true → HasMatchesOf app all m → (is_simple_and_free app ≡ true → fault_of app all ≡ [])
-    → IsSomeAnd (found_items form (drop 1 all)) (λ items. first_value (found_of m) ≡ value_of items)
+    → IsSomeAnd (given_of form (drop 1 all)) (λ items. first_value (found_of m) ≡ value_of items)
 found form app all m room is e matches quiet =
     let none : fault_of (app_of_form form) all ≡ [] = ap (λ a. fault_of a all) (sym is) ∙ quiet (ap is_simple_and_free is ∙ app_is_free form) in
     let rows : rows_of (found_of m) ≡ matches_of (app_of_form form) all = (matches (ap is_simple is ∙ app_is_simple form)).0 ∙ ap (λ a. matches_of a all) is in
-    go (found_items form (drop 1 all)) (command_agrees form room all e) none rows
+    go (given_of form (drop 1 all)) (command_agrees form room all e) none rows
   where
     filled : (k : ErrorKind) (ks : Kinds) → k ∷ ks ≡ [] → ⊥
     filled k ks e = true≢false (ap (λ (l : Kinds). elim l as (λ _. Bool) [ [] ↦ false | x ∷ xs ↦ true ]) e)
@@ -464,11 +412,11 @@ found form app all m room is e matches quiet =
 -- where it fails, and not for want of memory, the words are no such words
 pub refused : (form : CommandForm) (app : App) (all : List Text) (e : Error) → length form.positionals < usize_max → app ≡ app_of_form form
     → list_all (is_listed form.options) (drop 1 all) ≡ true → (is_simple_and_free app ≡ true → HasKind (fault_of app all) e)
-    → (kind_of e ≡ fault_kind.OutOfMemory → ⊥) → found_items form (drop 1 all) ≡ None
+    → (kind_of e ≡ fault_kind.OutOfMemory → ⊥) → given_of form (drop 1 all) ≡ None
 refused form app all e room is listed fails memory =
     let R : Kinds → Type 0 = λ ks. HasKind ks e in
     let has : HasKind (fault_of (app_of_form form) all) e = subst R (ap (λ a. fault_of a all) is) (fails (ap is_simple_and_free is ∙ app_is_free form)) in
-    go (found_items form (drop 1 all)) (command_agrees form room all listed) has
+    go (given_of form (drop 1 all)) (command_agrees form room all listed) has
   where
     among : (o : (kind_of e ≡ fault_kind.OutOfMemory) ⊎ ⊥) → ⊥
     among (inl m) = memory m

@@ -6,8 +6,7 @@ use Rattle.std.proofs.lemmas.Slice.Eq.{bytes_eq-Decides}
 use Rattle.std.proofs.Math.Bool.{or-false}
 use Rattle.std.specs.Option.{option_and_then}
 use Rattle.std.specs.Str.{bytes_eq}
-use Rattle.command_line.specs.Grammar.{Text, Item, CommandForm, are_once, has_name, has_required, in_front, items_of}
-use Rattle.command_line.specs.Reading.{found_items}
+use Rattle.command_line.specs.Grammar.{Text, Item, are_once, has_name, in_front}
 
 true_back : (a b : Text) → bytes_eq a b ≡ true → bytes_eq b a ≡ true
 true_back a b e = (bytes_eq-Decides b a).1 (sym ((bytes_eq-Decides a b).0 e))
@@ -51,22 +50,19 @@ once_more i (j ∷ rest) o e =
 
 -- ---- the items of the words, behind those of the words before them
 
-abbrev pub whole : CommandForm → List Item → Option (List Item)
-whole form items = cond (are_once items && has_required form items) (Some items) None
+abbrev pub whole : List Item → Option (List Item)
+whole items = cond (are_once items) (Some items) None
 
-abbrev pub found_after : CommandForm → List Item → Option (List Item) → Option (List Item)
-found_after form items rest = option_and_then (λ more. whole form (items ++ more)) rest
+abbrev pub found_after : List Item → Option (List Item) → Option (List Item)
+found_after items rest = option_and_then (λ more. whole (items ++ more)) rest
 
-pub found_more : (form : CommandForm) (i : Item) (items : List Item) (rest : Option (List Item)) → found_after form items (in_front i rest) ≡ found_after form (items ++ i ∷ []) rest
-found_more form i items None = refl
-found_more form i items (Some more) = ap (whole form) (sym (append_assoc items (i ∷ []) more))
+pub found_more : (i : Item) (items : List Item) (rest : Option (List Item)) → found_after items (in_front i rest) ≡ found_after (items ++ i ∷ []) rest
+found_more i items None = refl
+found_more i items (Some more) = ap whole (sym (append_assoc items (i ∷ []) more))
 
-pub found_twice : (form : CommandForm) (i : Item) (items : List Item) (rest : Option (List Item)) → has_name i.0 items ≡ true → found_after form items (in_front i rest) ≡ None
-found_twice form i items None e = refl
-found_twice form i items (Some more) e = rw (twice i items more e) refl
+pub found_twice : (i : Item) (items : List Item) (rest : Option (List Item)) → has_name i.0 items ≡ true → found_after items (in_front i rest) ≡ None
+found_twice i items None e = refl
+found_twice i items (Some more) e = rw (twice i items more e) refl
 
-pub found_first : (form : CommandForm) (words : List Text) → found_after form [] (items_of form words) ≡ found_items form words
-found_first form words = refl
-
-pub found_end : (form : CommandForm) (items : List Item) → found_after form items (Some []) ≡ whole form items
-found_end form items = ap (whole form) (append-nil items)
+pub found_end : (items : List Item) → found_after items (Some []) ≡ whole items
+found_end items = ap whole (append-nil items)

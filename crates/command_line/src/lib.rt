@@ -3,6 +3,7 @@
 
 mod file_name;
 mod grammar;
+mod values;
 mod words;
 
 pub use file_name::FileName;

@@ -1,6 +1,6 @@
 //! The commands, and the jobs that they ask for.
 
-ghost use Rattle.std.specs.Prelude.{◌≡◌, ◌⊎◌, IfOk, None, Some, option_map};
+ghost use Rattle.std.specs.Prelude.{◌≡◌, ◌⊎◌, IfOk, None, Some, codes, option_map};
 ghost use Rattle.clap.specs.Words.{first_value, found_of};
 ghost use Rattle.command_line.specs.Forms.{form_of};
 ghost use Rattle.command_line.specs.Words;
@@ -8,12 +8,12 @@ ghost use Rattle.command_line.specs.Words.{bytes_of, job_of};
 
 use crate::file_name::FileName;
 pub use crate::grammar::WordsFault;
-use crate::grammar::{CommandRule, OptionRule, ValueRule, number, read, three_numbers};
+use crate::grammar::{CommandRule, read};
+use crate::values::{kind_or_all, miller_if_said, net_count, number, worker_count, workers_or_one};
 use clap::ArgMatches;
 use report_kind::ReportKind;
 use std::alloc::{AllocError, Global};
 use xt_model::Miller;
-use xt_model::limits::{MOST_FACTOR, MOST_GENERATED, MOST_WORKERS};
 
 /// What the words ask for.
 #[derive(Debug, Drop)]
@@ -95,92 +95,31 @@ enum CommandName {
 
 // ---- the table
 
-const WORKERS: OptionRule = OptionRule {
-    name: "workers",
-    is_required: false,
-    value: ValueRule::Number {
-        least: 1,
-        most: MOST_WORKERS as u64,
-    },
-};
-
-const KIND: OptionRule = OptionRule {
-    name: "kind",
-    is_required: false,
-    value: ValueRule::OneOf {
-        words: &["all", "checks"],
-    },
-};
-
-const MILLER: OptionRule = OptionRule {
-    name: "miller",
-    is_required: false,
-    value: ValueRule::RisingThree {
-        most: MOST_FACTOR as u64,
-    },
-};
-
-const SOLVE: CommandRule = CommandRule {
-    positionals: &["file"],
-    options: &[WORKERS, KIND, MILLER],
-};
-
 const BLOCK: &'static [&'static str] = &["lib", "netlist", "spef", "sdc"];
 
 const REPORT: CommandRule = CommandRule {
     positionals: BLOCK,
-    options: &[WORKERS, KIND, MILLER],
+    options: &["workers", "kind", "miller"],
 };
 
-const LINK: CommandRule = CommandRule {
-    positionals: BLOCK,
-    options: &[MILLER],
-};
-
-const ORDER: OptionRule = OptionRule {
-    name: "order",
-    is_required: true,
-    value: ValueRule::Number {
-        least: 0,
-        most: 18_446_744_073_709_551_615,
-    },
-};
-
-const SOME_WORKERS: OptionRule = OptionRule {
-    name: "workers",
-    is_required: true,
-    value: ValueRule::Number {
-        least: 1,
-        most: MOST_WORKERS as u64,
-    },
+const SOLVE: CommandRule = CommandRule {
+    positionals: &["file"],
+    options: &["workers", "kind", "miller"],
 };
 
 const REPLAY: CommandRule = CommandRule {
     positionals: &["file"],
-    options: &[ORDER, SOME_WORKERS, MILLER],
+    options: &["order", "workers", "miller"],
 };
 
-const NUMBER: OptionRule = OptionRule {
-    name: "number",
-    is_required: true,
-    value: ValueRule::Number {
-        least: 0,
-        most: 18_446_744_073_709_551_615,
-    },
-};
-
-const NETS: OptionRule = OptionRule {
-    name: "nets",
-    is_required: true,
-    value: ValueRule::Number {
-        least: 1,
-        most: MOST_GENERATED as u64,
-    },
+const LINK: CommandRule = CommandRule {
+    positionals: BLOCK,
+    options: &["miller"],
 };
 
 const GEN: CommandRule = CommandRule {
     positionals: &[],
-    options: &[NUMBER, NETS, WORKERS],
+    options: &["number", "nets", "workers"],
 };
 
 // The command of this name.
@@ -210,151 +149,108 @@ fn rule_of(command: CommandName) -> CommandRule
     }
 }
 
-// ---- values
-
-// The number that is given, or one.
-fn number_or_one(text: Option<&str>) -> u32
-    ensures { result ≡ Words.number_or_one (option_map (λ t. t.now) text.entry) }
-{
-    match text {
-        Some(text) => u32::try_from(number(text).unwrap_or(1)).unwrap_or(1),
-        None => 1,
-    }
-}
-
-// The report that is given, or the whole one.
-fn kind_or_all(text: Option<&str>) -> ReportKind
-    ensures { result ≡ Words.kind_or_all (option_map (λ t. t.now) text.entry) }
-{
-    match text {
-        Some("checks") => ReportKind::Checks,
-        _ => ReportKind::All,
-    }
-}
-
-// The Miller numbers that are given, if any are.
-fn miller_or_none(text: Option<&str>) -> Option<Miller>
-    ensures { result ≡ Words.miller_or_none (option_map (λ t. t.now) text.entry) }
-{
-    let (low, mid, high) = three_numbers(text?)?;
-    Miller::from_numbers(low, mid, high)
-}
-
-// The number that is given, or zero.
-fn number_or_zero(text: Option<&str>) -> u64
-    ensures { result ≡ Words.number_or_zero (option_map (λ t. t.now) text.entry) }
-{
-    match text {
-        Some(text) => number(text).unwrap_or(0),
-        None => 0,
-    }
-}
-
-// The count of workers that is given: from 1 to 64.
-fn workers_or_one(text: Option<&str>) -> u32
-    ensures { result ≡ Words.workers_or_one (option_map (λ t. t.now) text.entry) }
-{
-    let count = number_or_one(text);
-    if 1 <= count && count <= MOST_WORKERS {
-        count
-    } else {
-        1
-    }
-}
-
-// The count of nets that is given: from 1 to 100,000.
-fn count_or_one(text: Option<&str>) -> u32
-    ensures { result ≡ Words.count_or_one (option_map (λ t. t.now) text.entry) }
-{
-    let count = number_or_one(text);
-    if 1 <= count && count <= MOST_GENERATED {
-        count
-    } else {
-        1
-    }
-}
-
-fn file_name(alloc: Global, text: Option<&str>) -> Result<FileName, AllocError>
-    ensures { IfOk result (λ name. name ≡ Words.text_or_empty (option_map (λ t. t.now) text.entry)) }
-{
-    Ok(FileName::new(String::from_str(alloc, text.unwrap_or(""))?))
-}
-
 // ---- jobs
 
-fn block_files(alloc: Global, matches: &ArgMatches) -> Result<BlockFiles, AllocError>
-    ensures { IfOk result (λ files. files ≡ Words.block_files (first_value (found_of matches.now))) }
+// The name of a file, if the words have one.
+fn file_name(alloc: Global, word: Option<&str>) -> Result<Option<FileName>, AllocError>
+    ensures { IfOk result (λ name. name ≡ option_map (λ w. w.now) word.entry) }
 {
-    Ok(BlockFiles {
-        lib: file_name(alloc, matches.get_str("lib"))?,
-        netlist: file_name(alloc, matches.get_str("netlist"))?,
-        spef: file_name(alloc, matches.get_str("spef"))?,
-        sdc: file_name(alloc, matches.get_str("sdc"))?,
-    })
-}
-
-fn report_job(alloc: Global, matches: &ArgMatches) -> Result<ReportJob, AllocError>
-    ensures { IfOk result (λ job. job ≡ Words.report_job (first_value (found_of matches.now))) }
-{
-    Ok(ReportJob {
-        files: block_files(alloc, matches)?,
-        workers: workers_or_one(matches.get_str("workers")),
-        kind: kind_or_all(matches.get_str("kind")),
-        miller: miller_or_none(matches.get_str("miller")),
-    })
-}
-
-fn link_job(alloc: Global, matches: &ArgMatches) -> Result<LinkJob, AllocError>
-    ensures { IfOk result (λ job. job ≡ Words.link_job (first_value (found_of matches.now))) }
-{
-    Ok(LinkJob {
-        files: block_files(alloc, matches)?,
-        miller: miller_or_none(matches.get_str("miller")),
-    })
-}
-
-fn solve_job(alloc: Global, matches: &ArgMatches) -> Result<SolveJob, AllocError>
-    ensures { IfOk result (λ job. job ≡ Words.solve_job (first_value (found_of matches.now))) }
-{
-    Ok(SolveJob {
-        file: file_name(alloc, matches.get_str("file"))?,
-        workers: workers_or_one(matches.get_str("workers")),
-        kind: kind_or_all(matches.get_str("kind")),
-        miller: miller_or_none(matches.get_str("miller")),
-    })
-}
-
-fn replay_job(alloc: Global, matches: &ArgMatches) -> Result<ReplayJob, AllocError>
-    ensures { IfOk result (λ job. job ≡ Words.replay_job (first_value (found_of matches.now))) }
-{
-    Ok(ReplayJob {
-        file: file_name(alloc, matches.get_str("file"))?,
-        order: number_or_zero(matches.get_str("order")),
-        workers: workers_or_one(matches.get_str("workers")),
-        miller: miller_or_none(matches.get_str("miller")),
-    })
-}
-
-fn gen_job(matches: &ArgMatches) -> GenJob
-    ensures { result ≡ Words.gen_job (first_value (found_of matches.now)) }
-{
-    GenJob {
-        number: number_or_zero(matches.get_str("number")),
-        nets: count_or_one(matches.get_str("nets")),
-        workers: workers_or_one(matches.get_str("workers")),
+    match word {
+        Some(word) => Ok(Some(FileName::new(String::from_str(alloc, word)?))),
+        None => Ok(None),
     }
 }
 
-// The job of a command whose words give this.
-fn job_for(alloc: Global, command: CommandName, matches: &ArgMatches) -> Result<Job, AllocError>
-    ensures { IfOk result (λ job. job ≡ Words.job_for command (first_value (found_of matches.now))) }
+// The files of a block, if the words have all four.
+fn block_files(alloc: Global, given: &ArgMatches) -> Result<Option<BlockFiles>, AllocError>
+    ensures { IfOk result (λ files. files ≡ Words.block_files (first_value (found_of given.now))) }
+{
+    let Some(lib) = file_name(alloc, given.get_str("lib"))? else {
+        return Ok(None);
+    };
+    let Some(netlist) = file_name(alloc, given.get_str("netlist"))? else {
+        return Ok(None);
+    };
+    let Some(spef) = file_name(alloc, given.get_str("spef"))? else {
+        return Ok(None);
+    };
+    let Some(sdc) = file_name(alloc, given.get_str("sdc"))? else {
+        return Ok(None);
+    };
+    Ok(Some(BlockFiles {
+        lib,
+        netlist,
+        spef,
+        sdc,
+    }))
+}
+
+fn report_job(files: Option<BlockFiles>, given: &ArgMatches) -> Option<Job>
+    requires { files ≡ Words.block_files (first_value (found_of given.now)) }
+    ensures { result ≡ Words.report_job (first_value (found_of given.now)) }
+{
+    Some(Job::Report(ReportJob {
+        files: files?,
+        workers: workers_or_one(given.get_str("workers"))?,
+        kind: kind_or_all(given.get_str("kind"))?,
+        miller: miller_if_said(given.get_str("miller"))?,
+    }))
+}
+
+fn link_job(files: Option<BlockFiles>, given: &ArgMatches) -> Option<Job>
+    requires { files ≡ Words.block_files (first_value (found_of given.now)) }
+    ensures { result ≡ Words.link_job (first_value (found_of given.now)) }
+{
+    Some(Job::Link(LinkJob {
+        files: files?,
+        miller: miller_if_said(given.get_str("miller"))?,
+    }))
+}
+
+fn solve_job(file: Option<FileName>, given: &ArgMatches) -> Option<Job>
+    requires { file ≡ first_value (found_of given.now) (codes "file") }
+    ensures { result ≡ Words.solve_job (first_value (found_of given.now)) }
+{
+    Some(Job::Solve(SolveJob {
+        file: file?,
+        workers: workers_or_one(given.get_str("workers"))?,
+        kind: kind_or_all(given.get_str("kind"))?,
+        miller: miller_if_said(given.get_str("miller"))?,
+    }))
+}
+
+fn replay_job(file: Option<FileName>, given: &ArgMatches) -> Option<Job>
+    requires { file ≡ first_value (found_of given.now) (codes "file") }
+    ensures { result ≡ Words.replay_job (first_value (found_of given.now)) }
+{
+    Some(Job::Replay(ReplayJob {
+        file: file?,
+        order: number(given.get_str("order")?)?,
+        workers: worker_count(given.get_str("workers")?)?,
+        miller: miller_if_said(given.get_str("miller"))?,
+    }))
+}
+
+fn gen_job(given: &ArgMatches) -> Option<Job>
+    ensures { result ≡ Words.gen_job (first_value (found_of given.now)) }
+{
+    Some(Job::Gen(GenJob {
+        number: number(given.get_str("number")?)?,
+        nets: net_count(given.get_str("nets")?)?,
+        workers: workers_or_one(given.get_str("workers"))?,
+    }))
+}
+
+// The job of a command whose words are these, if they say one.
+fn job_for(alloc: Global, command: CommandName, given: &ArgMatches) -> Result<Option<Job>, AllocError>
+    ensures { IfOk result (λ job. job ≡ Words.job_for command (first_value (found_of given.now))) }
 {
     match command {
-        CommandName::Report => Ok(Job::Report(report_job(alloc, matches)?)),
-        CommandName::Solve => Ok(Job::Solve(solve_job(alloc, matches)?)),
-        CommandName::Replay => Ok(Job::Replay(replay_job(alloc, matches)?)),
-        CommandName::Link => Ok(Job::Link(link_job(alloc, matches)?)),
-        CommandName::Gen => Ok(Job::Gen(gen_job(matches))),
+        CommandName::Report => Ok(report_job(block_files(alloc, given)?, given)),
+        CommandName::Solve => Ok(solve_job(file_name(alloc, given.get_str("file"))?, given)),
+        CommandName::Replay => Ok(replay_job(file_name(alloc, given.get_str("file"))?, given)),
+        CommandName::Link => Ok(link_job(block_files(alloc, given)?, given)),
+        CommandName::Gen => Ok(gen_job(given)),
     }
 }
 
@@ -372,8 +268,9 @@ pub fn parse_words(alloc: Global, words: &[String]) -> Result<Job, WordsFault>
         return Err(WordsFault::Bad);
     };
     match read(alloc, &rule_of(command), words) {
-        Ok(matches) => match job_for(alloc, command, &matches) {
-            Ok(job) => Ok(job),
+        Ok(given) => match job_for(alloc, command, &given) {
+            Ok(Some(job)) => Ok(job),
+            Ok(None) => Err(WordsFault::Bad),
             Err(_) => Err(WordsFault::NoMemory),
         },
         Err(fault) => Err(fault),

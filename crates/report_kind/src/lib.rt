@@ -1,4 +1,4 @@
-//! The kinds of a report.
+//! The kinds of a report, and the word of each.
 #![tactic(auto)]
 
 mod kind;

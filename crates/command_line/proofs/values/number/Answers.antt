@@ -1,6 +1,6 @@
 use Rattle.std.proofs.Common.{◌∙◌, sym}
 use Rattle.command_line.proofs.Digits.{number_of_parse}
-use Rattle.command_line.proofs.grammar.number.Goals as goal
+use Rattle.command_line.proofs.values.number.Goals as goal
 
 pub returns-then-is_number : goal.returns-then-is_number
 returns-then-is_number c =
