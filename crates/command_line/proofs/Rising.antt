@@ -1,16 +1,20 @@
 -- The Miller numbers of each job rise.
-use Rattle.std.proofs.Common.{◌≡◌, ℕ, ◌≤◌, Bool, true, false, ◌&&◌, List, [], ◌∷◌, codes, Option, Some, None, IfSome, refl}
-use Rattle.std.specs.Prelude.{if◌then◌else◌, nat_le}
-use Rattle.std.specs.Option.{option_and_then}
+use Rattle.std.proofs.Common.{◌≡◌, ℕ, ◌≤◌, Bool, true, false, ◌&&◌, List, codes, Option, Some, None, IfSome, refl}
+use Rattle.std.specs.Prelude.{if◌then◌else◌, nat_le, option_map}
 use Rattle.std.proofs.lemmas.Bool.{leb-true}
 use Rattle.xt_model.specs.Limits.{most_factor}
-use Rattle.xt_model.specs.Miller.{IsMiller, miller_of}
-use Rattle.command_line.specs.Grammar.{Text, Item, given_of, three_of, value_of}
-use Rattle.command_line.specs.Words.{command_named, form_of_command, job_for, job_of, miller_or_none}
+use Rattle.xt_model.specs.Miller.{MillerNumbers, IsMiller, miller_of}
+use Rattle.xt_model.specs.Options.{◌>>=◌}
+use Rattle.report_kind.specs.Kind.{kind_of}
+use Rattle.report_kind.specs.declared.kind.ReportKind.TheVariants.{All}
+use Rattle.command_line.specs.Grammar.{Text}
+use Rattle.command_line.specs.Values.{if_said, miller_numbers, net_count, number_of, said_or, three_of, worker_count}
+use Rattle.command_line.specs.Words.{block_files, job_for, job_of}
 use Rattle.command_line.specs.declared.words.CommandName.{CommandName}
 use Rattle.command_line.specs.declared.words.CommandName.TheVariants as command
 use Rattle.command_line.specs.declared.words.Job.{Job}
 use Rattle.command_line.specs.declared.words.Job.TheVariants.{Gen, Link, Replay, Report, Solve}
+use Rattle.command_line.proofs.Counts.{if_both, if_second, of_words}
 
 -- three numbers that are Miller numbers rise
 rises : (t : ℕ × ℕ × ℕ) → IfSome (miller_of t) IsMiller
@@ -23,13 +27,16 @@ rises t = go (nat_le t.0 t.1) (nat_le t.1 t.2) (nat_le t.2 most_factor) (leb-tru
     go true false c p q r = tt
     go false b c p q r = tt
 
-given_rises : (text : Option Text) → IfSome (miller_or_none text) IsMiller
-given_rises None = tt
-given_rises (Some text) = go (three_of text)
+abbrev AreMiller : Option MillerNumbers → Type 0
+AreMiller miller = IfSome miller IsMiller
+
+said_rises : (word : Option Text) → IfSome (if_said miller_numbers word) AreMiller
+said_rises None = tt
+said_rises (Some text) = go (miller_numbers text) (if_second IsMiller (three_of text) miller_of rises)
   where
-    go : (t : Option (ℕ × ℕ × ℕ)) → IfSome (option_and_then miller_of t) IsMiller
-    go None = tt
-    go (Some t) = rises t
+    go : (o : Option MillerNumbers) → IfSome o IsMiller → IfSome (option_map Some o) AreMiller
+    go None h = tt
+    go (Some m) h = h
 
 -- the Miller numbers of a job, if it has any, rise
 abbrev pub HasRising : Job → Type 0
@@ -39,18 +46,20 @@ HasRising (Solve job) = IfSome job.miller IsMiller
 HasRising (Replay job) = IfSome job.miller IsMiller
 HasRising (Gen job) = Unit {0}
 
-pub job_rises : (words : List Text) → IfSome (job_of words) HasRising
-job_rises [] = tt
-job_rises (word ∷ rest) = by_name (command_named word)
-  where
-    by_items : (name : CommandName) (items : Option (List Item)) → IfSome (option_and_then (λ is. Some (job_for name (value_of is))) items) HasRising
-    by_items name None = tt
-    by_items command.Report (Some items) = given_rises (value_of items (codes "miller"))
-    by_items command.Link (Some items) = given_rises (value_of items (codes "miller"))
-    by_items command.Solve (Some items) = given_rises (value_of items (codes "miller"))
-    by_items command.Replay (Some items) = given_rises (value_of items (codes "miller"))
-    by_items command.Gen (Some items) = tt
+job_rise : (name : CommandName) (get : Text → Option Text) → IfSome (job_for name get) HasRising
+job_rise command.Report get =
+    if_second HasRising (block_files get) _ (λ files. if_second HasRising (said_or 1 worker_count (get (codes "workers"))) _ (λ workers. if_second HasRising (said_or All kind_of (get (codes "kind"))) _ (λ kind.
+    if_both AreMiller HasRising (if_said miller_numbers (get (codes "miller"))) _ (said_rises (get (codes "miller"))) (λ miller rise. rise))))
+job_rise command.Link get =
+    if_second HasRising (block_files get) _ (λ files. if_both AreMiller HasRising (if_said miller_numbers (get (codes "miller"))) _ (said_rises (get (codes "miller"))) (λ miller rise. rise))
+job_rise command.Solve get =
+    if_second HasRising (get (codes "file")) _ (λ file. if_second HasRising (said_or 1 worker_count (get (codes "workers"))) _ (λ workers. if_second HasRising (said_or All kind_of (get (codes "kind"))) _ (λ kind.
+    if_both AreMiller HasRising (if_said miller_numbers (get (codes "miller"))) _ (said_rises (get (codes "miller"))) (λ miller rise. rise))))
+job_rise command.Replay get =
+    if_second HasRising (get (codes "file")) _ (λ file. if_second HasRising (get (codes "order") >>= number_of 64) _ (λ order. if_second HasRising (get (codes "workers") >>= worker_count) _ (λ workers.
+    if_both AreMiller HasRising (if_said miller_numbers (get (codes "miller"))) _ (said_rises (get (codes "miller"))) (λ miller rise. rise))))
+job_rise command.Gen get =
+    if_second HasRising (get (codes "number") >>= number_of 64) _ (λ number. if_second HasRising (get (codes "nets") >>= net_count) _ (λ nets. if_second HasRising (said_or 1 worker_count (get (codes "workers"))) _ (λ workers. tt)))
 
-    by_name : (name : Option CommandName) → IfSome (option_and_then (λ n. option_and_then (λ is. Some (job_for n (value_of is))) (given_of (form_of_command n) rest)) name) HasRising
-    by_name None = tt
-    by_name (Some name) = by_items name (given_of (form_of_command name) rest)
+pub job_rises : (words : List Text) → IfSome (job_of words) HasRising
+job_rises words = of_words HasRising job_rise words
