@@ -261,7 +261,7 @@ def check_examples():
             find(text, 1, "has no report beside it")
     for crate in (TOP / "crates").iterdir():
         words = (crate / "args").read_text().split() if (crate / "args").is_file() else []
-        if not words or not (crate / "data").is_dir():
+        if not words or not (crate / "data").is_dir() or not (crate / "stdout").is_file():
             continue
         for data in (crate / "data").iterdir():
             twin = examples / data.name
