@@ -6,9 +6,10 @@
 runs `PROGRAM report` on a block of 20,000 cells of block.py, makes the page and opens it: nothing is fetched, no script
 fails, counts, bars and worst slacks are those of the report; the table of checks sorts by each column and filters; nets
 are looked up by name, and their windows, their picture and their couplings are compared with the report's lines; so are
-the paths. Then a page that is bounded to few bytes, one of noise lines, and one whose names are markup. PROGRAM is by
-default the launcher `xtalk` at the top; with --report it is not run. What is expected is read from the report by the few
-lines below, not by tools/. It prints a line for each test, and the seconds after which the page stood.
+the paths. Then a page that is bounded to few bytes, one of noise lines, one whose names are markup, and those of the
+reports of examples/. PROGRAM is by default the launcher `xtalk` at the top; with --report it is not run. What is expected
+is read from the report by the few lines below, not by tools/. It prints a line for each test, and after how many seconds
+the page was open.
 """
 import argparse
 import base64
@@ -408,6 +409,21 @@ def markup(browser, folder):
         browser.run("document.querySelectorAll('.tile b').length")
 
 
+def examples(browser, folder):
+    """The pages of the reports of examples/, also of those without a check or without a net."""
+    for report in sorted((TOP / "examples").glob("*.report")):
+        make_page(report, folder / "example.html")
+        browser.open(folder / "example.html")
+        lines = Lines(report)
+        net_by_name(browser, lines, list(dict.fromkeys(net[0] for net in lines.nets)))
+        paths(browser, lines)
+        assert browser.cells("#check-rows") == [as_cells(check) for check in sorted(
+            lines.checks, key=lambda check: (check[3] == "idle", value(check[3]) or 0))][:ROWS]
+        assert browser.run("document.getElementById('nets').hidden") == (not lines.nets)
+        assert browser.run("document.getElementById('checks').hidden") == (not lines.checks)
+        assert not browser.faults(), browser.faults()
+
+
 def report_of_block(args, folder):
     """The report of a block, by the program."""
     subprocess.run([sys.executable, TOP / "bench/block.py", str(args.cells), folder / "block"], check=True)
@@ -463,6 +479,8 @@ def main():
             print("noise: well", flush=True)
             markup(browser, folder)
             print("markup: well", flush=True)
+            examples(browser, folder)
+            print("examples: well", flush=True)
         finally:
             browser.end()
 
