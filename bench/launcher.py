@@ -257,7 +257,7 @@ def failing(at):
         path.write_text(before + "// NO PROOF OF THIS\n")
         status, shown, log = at.call("a")
         assert status == 125 and shown == "" and "\nerror: a goal is open\nonly=0\n" in log, (status, shown, log)
-        assert log.endswith(f"\nxtalk: crate {crate} could not be proved; the last lines stand above\n"), log
+        assert log.endswith(f"\nxtalk: crate {crate} could not be proved; its last lines are above\n"), log
         assert len(log.splitlines()) < 70, log
         path.write_text(before)
         assert at.work_of(lambda: at.call("a")) == (1, 0)
@@ -313,7 +313,7 @@ def old_find(at):
 
 
 def installed(at):
-    """The program, its page and the completion stand where they belong, and the program runs without the checkout."""
+    """The program, its page and the completion are where they belong, and the program runs without the checkout."""
     prefix = at.kit / "a prefix"
     call = lambda *words: subprocess.run([at.top / "tools/install", *words], cwd=at.kit, env=at.environment(),
                                          capture_output=True, text=True)

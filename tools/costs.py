@@ -5,9 +5,9 @@
 
 prints a table, in processor minutes, from three logs of timed commands: `rt check` in each crate, from nothing;
 `rt check --test` in each crate with tests, from nothing; `rt must-fail NAME`. A line of a log that counts has the name of a
-crate and behind it `TIMES` with the seconds of the clock, of the user and of the system, as bash prints them where
+crate and after it `TIMES` with the seconds of the clock, of the user and of the system, as bash prints them where
 TIMEFORMAT is 'TIMES %R %U %S'. Of several lines of a crate the dearest counts: a check that begins with what an earlier
-one kept is cheap. A minus stands where nothing was measured.
+one kept is cheap. A minus means that nothing was measured.
 
     python3 tools/costs.py parts [SECONDS [CRATE ..]]
 

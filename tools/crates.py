@@ -1,11 +1,11 @@
 #!/usr/bin/env python3
-"""Draws what stands on what, from crates.txt, as an SVG picture.
+"""Draws what depends on what, from crates.txt, as an SVG picture.
 
     python3 tools/crates.py [CRATES] > docs/crates.svg
 
 A box for each crate of the repository, with the crates of the kit that it uses in small letters. A row has the
-crates whose longest chain down to the lowest row is equally long. A line goes down from a crate to one that it stands
-on; it is left out where it stands on that one through another already.
+crates whose longest chain down to the lowest row is equally long. A line goes down from a crate to one that it depends
+on; it is left out where it depends on that one through another already.
 """
 import sys
 from pathlib import Path
@@ -17,7 +17,7 @@ SWEEPS = 24
 
 
 def read(path):
-    """What each crate is said to stand on, by its name: crates of the file, and those of the kit."""
+    """What each crate is said to depend on, by its name: crates of the file, and those of the kit."""
     listed = {}
     for line in path.read_text(encoding="utf-8").splitlines():
         name, colon, libraries = line.partition("#")[0].partition(":")
@@ -29,19 +29,19 @@ def read(path):
 
 
 def rows_of(own):
-    """The crates in rows, those that stand on no other first."""
+    """The crates in rows, those that depend on no other first."""
     level = {}
     while len(level) < len(own):
         ready = [name for name in own if name not in level and all(below in level for below in own[name])]
         if not ready:
-            sys.exit("crates.py: crates stand on one another in a ring")
+            sys.exit("crates.py: crates depend on one another in a ring")
         for name in ready:
             level[name] = 1 + max((level[below] for below in own[name]), default=-1)
     return [[name for name in own if level[name] == row] for row in range(max(level.values()) + 1)]
 
 
 def direct(own):
-    """What each crate stands on through no other."""
+    """What each crate depends on through no other."""
     reached = {}
     for row in rows_of(own):
         for name in row:
@@ -72,7 +72,7 @@ def wide(item):
 
 
 def places(rows, down):
-    """Where each crate and each bend stands across, near those that its lines go to and come from."""
+    """Where each crate and each bend is across, near those that its lines go to and come from."""
     up = {item: [other for other in down if item in down[other]] for item in down}
     width = max(sum(map(wide, row)) for row in rows)
     across = {}
