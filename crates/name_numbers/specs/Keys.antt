@@ -10,6 +10,14 @@ use Rattle.name_numbers.specs.declared.key.TextKey.{TextKey}
 abbrev pub key_state : TextKey → FoldHasher
 key_state key = key.first
 
+abbrev seeded : ℕ → FoldHasher
+seeded digest = folding.write folding.initial (to_le_bytes w64 digest)
+
 -- the state before a name: the digest of the whole text, in place of a seed that is the same for each text
 unfoldable pub first_state : List ℕ → FoldHasher
-first_state text = folding.write folding.initial (to_le_bytes w64 (sip.finish (sip.write sip.initial text)))
+first_state text = seeded (sip.finish (sip.write sip.initial text))
+
+-- the state that two others give together
+unfoldable pub joined_state : FoldHasher → FoldHasher → FoldHasher
+joined_state a b =
+    seeded (sip.finish (sip.write (sip.write sip.initial (to_le_bytes w64 (folding.finish a))) (to_le_bytes w64 (folding.finish b))))

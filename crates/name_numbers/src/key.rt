@@ -1,5 +1,5 @@
 ghost use Rattle.std.specs.Prelude.{◌≡◌};
-ghost use Rattle.name_numbers.specs.Keys.{first_state, key_state};
+ghost use Rattle.name_numbers.specs.Keys.{first_state, joined_state, key_state};
 
 use std::hash::{BuildHasher, DefaultHasher, FoldHasher, Hasher};
 
@@ -20,6 +20,19 @@ impl TextKey {
         whole.write(text);
         let mut first = FoldHasher::default();
         first.write(&whole.finish().to_le_bytes());
+        TextKey { first }
+    }
+
+    /// A key that depends on both, for a table whose names come from two texts.
+    #[tactic(auto, unfolding(crate::specs::Keys::joined_state))]
+    pub fn joined(self, other: TextKey) -> TextKey
+        ensures { key_state result ≡ joined_state (key_state self) (key_state other) }
+    {
+        let mut both = DefaultHasher::new();
+        both.write(&self.first.finish().to_le_bytes());
+        both.write(&other.first.finish().to_le_bytes());
+        let mut first = FoldHasher::default();
+        first.write(&both.finish().to_le_bytes());
         TextKey { first }
     }
 }
