@@ -50,11 +50,7 @@ pub struct CellPlaces<'a> {
 }
 
 /// What is kept of one cell.
-fn kept_of<'a>(
-    alloc: Global,
-    key: TextKey,
-    cell: &'a Cell,
-) -> Result<CellPlaces<'a>, AllocError>
+fn kept_of<'a>(alloc: Global, key: TextKey, cell: &'a Cell) -> Result<CellPlaces<'a>, AllocError>
     ensures { IfOk result (IsKept cell.entry.now) }
 {
     let pins = pin_places(alloc, key, cell.pins.as_slice())?;

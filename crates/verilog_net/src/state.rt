@@ -40,7 +40,7 @@ pub struct Progress<'a> {
     role: PortRole,
     left: u32,
     range: Option<(u32, u32)>,
-    cell: &'a [u8],
+    cell: Name,
     instance: &'a [u8],
     line: u32,
     pin_names: Names<'a>,
@@ -67,7 +67,7 @@ impl<'a> Model for Progress<'a> {
       role = s.role;
       left = s.left;
       range = s.range;
-      cell = s.cell.now;
+      cell = s.cell;
       instance = s.instance.now;
       line = s.line;
       pin_names = s.pin_names;
@@ -110,7 +110,7 @@ impl<'a> Progress<'a> {
             role: PortRole::Inner,
             left: 0,
             range: None,
-            cell: b"",
+            cell: Name::empty(),
             instance: b"",
             line: 0,
             pin_names: Names::new(alloc, key),
@@ -295,7 +295,7 @@ impl<'a> Progress<'a> {
     ) -> Result<(), Stop>
         ensures { Changes result self.new (begin_instance cell.entry.now name.entry.now line self.old) }
     {
-        self.cell = cell;
+        self.cell = Name::copied(alloc, cell)?;
         self.begin_further(alloc, name, line)
     }
 
@@ -373,7 +373,8 @@ impl<'a> Progress<'a> {
     fn end_instance(&mut self, alloc: Global) -> Result<(), Stop>
         ensures { Changes result self.new (Ok (end_instance self.old)) }
     {
-        let cell = Name::copied(alloc, self.cell)?;
+        // Its bytes are kept once for all instances of a statement.
+        let cell = self.cell.shared()?;
         let name = Name::copied(alloc, self.instance)?;
         // A list of just their number: to shrink the other one would leave a hole behind each instance.
         let mut pins = Vec::with_capacity(alloc, self.pins.len())?;
