@@ -3,8 +3,8 @@ ghost use Rattle.name_numbers.specs.Keys.{first_state, joined_state, key_state};
 
 use std::hash::{BuildHasher, DefaultHasher, FoldHasher, Hasher};
 
-/// What the names of a text are hashed under. It depends on every byte of the text, so that no one can write a text whose
-/// names collide: what they are hashed under is known once the text stands. Nothing that is read depends on it.
+/// What the names of a text are hashed under. It depends on every byte of the text, so that names which collide can't be
+/// chosen: a text with other names has another key. Nothing that is read depends on it.
 #[derive(Clone, Copy)]
 pub struct TextKey {
     first: FoldHasher,
