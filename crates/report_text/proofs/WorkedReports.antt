@@ -13,7 +13,7 @@ use Rattle.xt_number.specs.Thousandths.{thousandths}
 use Rattle.text_lines.specs.Lines.{Line, text_of}
 use Rattle.text_lines.specs.Miller.{miller_lines}
 use Rattle.aggressor_report.specs.Guilt.{guilty}
-use Rattle.report_text.specs.declared.kind.ReportKind.TheVariants.{All, Checks}
+use Rattle.report_kind.specs.declared.kind.ReportKind.TheVariants.{All, Checks}
 use Rattle.report_text.specs.declared.checked.Checked.{Checked}
 use Rattle.report_text.specs.declared.worst.WorstPath.{WorstPath}
 use Rattle.report_text.specs.Worst.{IsChecked}

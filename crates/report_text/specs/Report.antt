@@ -23,8 +23,8 @@ use Rattle.aggressor_report.specs.declared.mark.Mark.TheVariants.{No, Possible, 
 use Rattle.aggressor_report.specs.declared.guilt.Guilt.{Guilt}
 use Rattle.aggressor_report.specs.Guilt.{coupling_of, guilty}
 use Rattle.report_text.specs.declared.checked.Checked.{Checked}
-use Rattle.report_text.specs.declared.kind.ReportKind.{ReportKind}
-use Rattle.report_text.specs.declared.kind.ReportKind.TheVariants.{All, Checks}
+use Rattle.report_kind.specs.declared.kind.ReportKind.{ReportKind}
+use Rattle.report_kind.specs.declared.kind.ReportKind.TheVariants.{All, Checks}
 use Rattle.report_text.specs.declared.sections.Section.{Section}
 use Rattle.report_text.specs.declared.sections.Section.TheVariants as section
 use Rattle.report_text.specs.Names.{name_at}

@@ -7,9 +7,9 @@ ghost use Rattle.xt_meaning.specs.Barrier.{IsWithinEnvelope};
 ghost use Rattle.xt_meaning.specs.Operator.{step};
 ghost use Rattle.report_text.specs.Report.{Appends, IsHead, IsReportOf};
 
-use crate::kind::ReportKind;
 use crate::sections::{push_sections, sections_of};
 use crate::size::{push_clock, push_size, push_title};
+use report_kind::ReportKind;
 use std::alloc::{AllocError, Global};
 use text_lines::{push_miller, push_word};
 use xt_model::{Design, NoMemory, Windows};

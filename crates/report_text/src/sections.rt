@@ -9,9 +9,9 @@ ghost use Rattle.report_text.specs.Report.{Appends, AreSections, IsSection, sect
 
 use crate::checked::push_checked;
 use crate::guilty::push_guilty;
-use crate::kind::ReportKind;
 use crate::unconstrained::push_unconstrained;
 use crate::windows::push_windows;
+use report_kind::ReportKind;
 use std::alloc::Global;
 use xt_model::{Design, NoMemory, Windows};
 
