@@ -6,16 +6,16 @@ mod checks;
 mod edge_windows;
 mod fields;
 mod guilty;
-mod kind;
 mod paths;
 mod points;
 mod report;
+mod sections;
 mod size;
 mod summary;
 mod unconstrained;
 mod windows;
 mod worst;
 
-pub use kind::ReportKind;
 pub use report::write_report;
+pub use report_kind::ReportKind;
 pub use summary::write_summary;

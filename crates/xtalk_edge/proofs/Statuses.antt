@@ -1,7 +1,7 @@
 -- The status of a call, by what the call promises.
 use Rattle.std.proofs.Common.{◌≡◌, ◌⊎◌, ℕ, List, sym, ◌∙◌, inl, inr, arith}
 use Rattle.std.specs.Prelude.{◌≢◌, ⊤}
-use Rattle.xtalk_top.specs.Words.{Text}
+use Rattle.command_line.specs.Words.{Text}
 use Rattle.xtalk_top.specs.Outcome.{Contents, Outcome, prints, refuses, unread}
 use Rattle.xtalk_top.specs.Call.{AreKnown, IsFailure, Means, status_of}
 use Rattle.xtalk_top.specs.declared.refusal.Refusal.{Refusal}

@@ -1,6 +1,6 @@
 -- What the status of a run tells.
 use Rattle.std.specs.Prelude.{◌≡◌, ◌≢◌, ⊤, ℕ, ◌⊎◌, List, Option, IfSome, MatchOption}
-use Rattle.xtalk_top.specs.Words.{Text}
+use Rattle.command_line.specs.Words.{Text}
 use Rattle.xtalk_top.specs.Outcome.{Contents, prints, refuses}
 use Rattle.xtalk_top.specs.Call.{AreKnown, IsFailure, Means, status_of}
 use Rattle.xtalk_top.specs.declared.refusal.Refusal.{Refusal}

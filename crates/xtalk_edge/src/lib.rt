@@ -1,15 +1,15 @@
 //! The edge of the program: it brings the words, files and streams together for the top call.
 #![tactic(auto)]
 
-mod command_line;
+mod words;
 
 ghost use Rattle.std.specs.Prelude.{◌≡◌, IsNone, option_map};
-ghost use Rattle.xtalk_top.specs.Words.{bytes_of};
+ghost use Rattle.command_line.specs.Words.{bytes_of};
 ghost use Rattle.xtalk_edge.specs.Run.{IsRunStatus, IsStatusOf};
 
-pub use command_line::CommandLine;
 use std::alloc::Global;
 use std::thread::Threads;
+pub use words::CommandLine;
 use xt_io::{Directory, DirectoryFiles, Files, HostStream, Sink, Stream};
 use xtalk_top::xtalk;
 

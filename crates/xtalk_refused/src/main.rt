@@ -1,10 +1,9 @@
-//! The program with its two streams exchanged: the line of a refusal goes to standard output, so that a stored run
-//! compares it.
+//! The program `xtalk`: its report goes to standard output, and the line of a refusal to standard error.
 #![tactic(auto)]
 
 use std::process::ExitCode;
 use xtalk_edge::run;
 
 fn main(rt: HostRuntime) -> ExitCode {
-    ExitCode::from(run(&rt, rt, rt, rt.stderr(), rt.stdout()))
+    ExitCode::from(run(&rt, rt, rt, rt.stdout(), rt.stderr()))
 }

@@ -1,7 +1,7 @@
 -- Outcomes that agree, and files that hold one content where it is known.
 use Rattle.std.proofs.Common.{◌≡◌, ◌<◌, ◌≤◌, length, Option, Some, None, IfSome, refl, sym, ◌∙◌, subst, inl, inr, arith, true≢false}
 use Rattle.std.specs.Prelude.{IsSome}
-use Rattle.xtalk_top.specs.Words.{Text}
+use Rattle.command_line.specs.Words.{Text}
 use Rattle.xtalk_top.specs.Outcome.{Contents, Outcome, prints, refuses, unread, FileMeans, most_bytes}
 use Rattle.xtalk_top.specs.Call.{status_of}
 use Rattle.xtalk_top.specs.declared.refusal.Stop.TheVariants.{Refused}

@@ -9,24 +9,25 @@ use Rattle.linked_text.proofs.WholeLaws.{means_design, means_one, same_texts}
 use Rattle.design_gen.specs.Laws.{IsCount}
 use Rattle.design_gen.specs.Generated.{generated}
 use Rattle.design_gen.proofs.Soundness.{sound}
-use Rattle.report_text.specs.declared.kind.ReportKind.{ReportKind}
-use Rattle.report_text.specs.declared.kind.ReportKind.TheVariants.{All}
-use Rattle.xtalk_top.specs.Words.{Text, HasCount, job_of}
+use Rattle.report_kind.specs.declared.kind.ReportKind.{ReportKind}
+use Rattle.report_kind.specs.declared.kind.ReportKind.TheVariants.{All}
+use Rattle.command_line.specs.Words.{Text, HasCount, job_of}
 use Rattle.xtalk_top.specs.Outcome.{Contents, Outcome, prints, refuses, unread, LinkedMeans, DesignMeans, SolvedMeans, IsSolution, IsDesignText, TextReportMeans, why_refused, counted_by}
 use Rattle.xtalk_top.specs.Gen.{GenMeans, IsSummed}
 use Rattle.xtalk_top.specs.Call.{JobMeans, Means, AreKnown, IsStop, status_of}
-use Rattle.xtalk_top.specs.declared.words.Job.{Job}
-use Rattle.xtalk_top.specs.declared.words.Job.TheVariants.{Report, Solve, Replay, Link, Gen}
-use Rattle.xtalk_top.specs.declared.words.GenJob.{GenJob}
+use Rattle.command_line.specs.declared.words.Job.{Job}
+use Rattle.command_line.specs.declared.words.Job.TheVariants.{Report, Solve, Replay, Link, Gen}
+use Rattle.command_line.specs.declared.words.GenJob.{GenJob}
 use Rattle.xtalk_top.specs.declared.refusal.Refusal.{Refusal}
 use Rattle.xtalk_top.specs.declared.refusal.FileRefusal.TheVariants.{Content}
 use Rattle.xtalk_top.specs.declared.refusal.Refusal.TheVariants.{Words, File}
 use Rattle.xtalk_top.specs.declared.refusal.Stop.{Stop}
 use Rattle.xtalk_top.specs.declared.refusal.Stop.TheVariants.{Refused, Unread, NoMemory}
 use Rattle.xtalk_top.specs.declared.refusal.Failure.TheVariants.{NoText}
-use Rattle.xtalk_top.proofs.Given.{HasRising, counted_sound, job_rises}
+use Rattle.command_line.proofs.Rising.{HasRising, job_rises}
+use Rattle.xtalk_top.proofs.Given.{counted_sound}
 use Rattle.xtalk_top.proofs.Within.{within_or_passed}
-use Rattle.xtalk_top.proofs.Counts.{job_counts}
+use Rattle.command_line.proofs.Counts.{job_counts}
 use Rattle.text_lines.specs.Lines.{text_of}
 use Rattle.linked_text.specs.Linked.{linked}
 pub use Rattle.xtalk_top.proofs.Agreeing.{Agree, LeavesOne, agree_as, unread_agrees, one_of_file}
@@ -79,7 +80,7 @@ one_outcome words content known = go (job_of words) (job_rises words) (job_count
     go None rising counts known o p a b = agree_as o p _ _ a b refl
     go (Some (Solve job)) rising counts known o p a b = one_of_text job.file job.miller job.kind content rising known o p a b
     go (Some (Replay job)) rising counts known o p a b = one_of_text job.file job.miller All content rising known o p a b
-    go (Some (Gen job)) rising counts known o p a b = one_of_gen job counts.0 o p a b
+    go (Some (Gen job)) rising counts known o p a b = one_of_gen job (record { some = counts.0.some; most = counts.0.most }) o p a b
     go (Some (Report job)) rising counts known o p a b =
         one_of_block job.files content (λ d. DesignMeans job.kind (counted_by job.miller d)) known (λ d s. one_of_design job.kind (counted_by job.miller d) (counted_sound job.miller d rising s)) o p a b
     go (Some (Link job)) rising counts known o p a b =

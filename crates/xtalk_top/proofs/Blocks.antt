@@ -8,14 +8,14 @@ use Rattle.verilog_net.specs.declared.netlist.Netlist.{Netlist}
 use Rattle.spef_read.specs.Reading.{parasitics_of}
 use Rattle.link_rules.specs.Bare.{Inputs}
 use Rattle.xt_io.specs.Outside.{KeepsCounts, Rose}
-use Rattle.xtalk_top.specs.Words.{Text}
+use Rattle.command_line.specs.Words.{Text}
 use Rattle.xtalk_top.specs.Outcome.{Contents, Outcome, refuses, most_bytes}
 use Rattle.xtalk_top.specs.declared.refusal.TextRefusal.TheVariants.{At}
 use Rattle.xtalk_top.specs.declared.refusal.FileRefusal.TheVariants.{Content}
 use Rattle.xtalk_top.specs.declared.refusal.Refusal.TheVariants.{File}
 use Rattle.xtalk_top.specs.Call.{HasFault}
 use Rattle.xtalk_top.specs.Linking.{BlockMeans, FileAndText, FilesMean, HoldInputs, HoldsText, LastFilesMean, LinkingMeans, MakeDesign, SourceMeans, constraints_for}
-use Rattle.xtalk_top.specs.declared.words.BlockFiles.{BlockFiles}
+use Rattle.command_line.specs.declared.words.BlockFiles.{BlockFiles}
 
 -- a text that is refused, wherever a value would lead
 source_stops : {V : Type 0} (file : Text) (r : Result V (Place Code)) (Leads : V → Type 0) (o : Outcome) → SourceMeans file r (λ _. ⊥) o → SourceMeans file r Leads o

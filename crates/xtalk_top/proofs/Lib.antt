@@ -6,14 +6,4 @@ mod Pieces
 mod Within
 mod Lifts
 mod Agreement
-mod Arguments
-mod Steps
-mod Once
-mod Matches
-mod Builds
-mod Cuts
-mod Digits
-mod Accepted
 mod Given
-mod Jobs
-mod Counts

@@ -2,8 +2,8 @@
 use Rattle.std.proofs.Common.{◌≡◌, ◌≤◌, List, length, Some, IfSome, sym, subst, inl, inr}
 use Rattle.xt_model.specs.Parts.{Parts}
 use Rattle.std.specs.Prelude.{MatchOption}
-use Rattle.xtalk_top.specs.Words.{Text, job_of}
-use Rattle.xtalk_top.specs.declared.words.Job.{Job}
+use Rattle.command_line.specs.Words.{Text, job_of}
+use Rattle.command_line.specs.declared.words.Job.{Job}
 use Rattle.xtalk_top.specs.declared.refusal.Refusal.TheVariants.{Words}
 use Rattle.xtalk_top.specs.Outcome.{Contents, Outcome, refuses, unread, FileMeans, LinkedMeans, most_bytes}
 use Rattle.xtalk_top.specs.Call.{JobMeans, Means, IsStop}

@@ -13,7 +13,7 @@ use Rattle.linked_text.specs.Meaning.{with_line}
 use Rattle.xtalk_top.specs.Outcome.{refuses, why_refused, LinkedMeans}
 use Rattle.xtalk_top.specs.declared.refusal.FileRefusal.TheVariants.{Content}
 use Rattle.xtalk_top.specs.declared.refusal.Refusal.TheVariants.{File}
-use Rattle.xtalk_top.specs.Words.{Text}
+use Rattle.command_line.specs.Words.{Text}
 use Rattle.xtalk_top.specs.declared.refusal.TextRefusal.{TextRefusal}
 use Rattle.xtalk_top.specs.declared.refusal.TextRefusal.TheVariants.{At, Beyond}
 

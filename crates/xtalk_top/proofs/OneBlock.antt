@@ -10,11 +10,11 @@ use Rattle.verilog_net.specs.Reading.{netlist_of_text}
 use Rattle.spef_read.specs.Reading.{parasitics_of}
 use Rattle.link_rules.specs.Bare.{Inputs}
 use Rattle.link_rules.proofs.OneOutcome.{design_is_one, fault_is_one, linked_is_accepted}
-use Rattle.xtalk_top.specs.Words.{Text}
+use Rattle.command_line.specs.Words.{Text}
 use Rattle.xtalk_top.specs.Outcome.{Contents, Outcome, unread, most_bytes}
 use Rattle.xtalk_top.specs.Linking.{BlockMeans, FileAndText, HoldsText, LinkingMeans, SourceMeans, constraints_for, fault_of}
 use Rattle.xtalk_top.specs.Call.{status_of}
-use Rattle.xtalk_top.specs.declared.words.BlockFiles.{BlockFiles}
+use Rattle.command_line.specs.declared.words.BlockFiles.{BlockFiles}
 use Rattle.xtalk_top.specs.declared.refusal.Unlinked.{Unlinked}
 use Rattle.xtalk_top.specs.declared.refusal.Unlinked.TheVariants as unlinked
 use Rattle.xtalk_top.specs.declared.refusal.Refusal.TheVariants.{Linking}

@@ -11,9 +11,9 @@ use Rattle.xtalk_top.specs.Replay.{ReplayMeans}
 use Rattle.xtalk_top.specs.Link.{LinkMeans}
 use Rattle.xtalk_top.specs.Gen.{GenMeans}
 use Rattle.xtalk_top.specs.FailureWords.{beyond_words, limit_words, link_words}
-use Rattle.xtalk_top.specs.Words.{Text, job_of}
-use Rattle.xtalk_top.specs.declared.words.Job.{Job}
-use Rattle.xtalk_top.specs.declared.words.Job.TheVariants.{Report, Solve, Replay, Link, Gen}
+use Rattle.command_line.specs.Words.{Text, job_of}
+use Rattle.command_line.specs.declared.words.Job.{Job}
+use Rattle.command_line.specs.declared.words.Job.TheVariants.{Report, Solve, Replay, Link, Gen}
 use Rattle.xtalk_top.specs.declared.refusal.DesignRefusal.TheVariants.{Limit}
 use Rattle.xtalk_top.specs.declared.refusal.Unlinked.TheVariants as unlinked
 use Rattle.xtalk_top.specs.declared.refusal.TextRefusal.TheVariants.{At, Beyond}

@@ -7,7 +7,7 @@ use Rattle.envelope.specs.declared.fault.What.{What}
 use Rattle.envelope.specs.declared.fault.What.TheVariants.{Time, Slew}
 use Rattle.link_rules.specs.declared.fault.LinkRefusal.{LinkRefusal}
 use Rattle.link_rules.specs.declared.fault.LinkRefusal.TheVariants as refusals
-use Rattle.xtalk_top.specs.Words.{Text}
+use Rattle.command_line.specs.Words.{Text}
 use Rattle.xtalk_top.specs.declared.refusal.PassedLimit.{PassedLimit}
 
 -- the word for what is too great in an envelope

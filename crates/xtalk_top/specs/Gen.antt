@@ -2,9 +2,9 @@
 use Rattle.xt_model.specs.Parts.{Parts}
 use Rattle.design_gen.specs.Generated.{generated}
 use Rattle.report_text.specs.Summary.{IsSummary}
-use Rattle.xtalk_top.specs.Words.{Text}
+use Rattle.command_line.specs.Words.{Text}
 use Rattle.xtalk_top.specs.Outcome.{Outcome, AreBounds, SolvedMeans}
-use Rattle.xtalk_top.specs.declared.words.GenJob.{GenJob}
+use Rattle.command_line.specs.declared.words.GenJob.{GenJob}
 
 -- the text is the summary of the design's least and greatest fixpoint; every fixpoint contains the least and lies
 -- within the greatest; and all transitions that explain one another lie within the greatest

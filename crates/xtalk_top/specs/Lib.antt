@@ -1,7 +1,3 @@
-pub mod Grammar
-pub mod Forms
-pub mod Reading
-pub mod Words
 pub mod Outcome
 pub mod Linking
 pub mod Report

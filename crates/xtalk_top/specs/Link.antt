@@ -4,7 +4,7 @@ use Rattle.text_lines.specs.Lines.{text_of}
 use Rattle.linked_text.specs.Linked.{linked}
 use Rattle.xtalk_top.specs.Outcome.{Contents, Outcome, counted_by, prints}
 use Rattle.xtalk_top.specs.Linking.{BlockMeans}
-use Rattle.xtalk_top.specs.declared.words.LinkJob.{LinkJob}
+use Rattle.command_line.specs.declared.words.LinkJob.{LinkJob}
 
 -- the linked text of the design that the four files make, by the Miller numbers of the words where they give any
 abbrev pub LinkMeans : LinkJob → Contents → Outcome → Type 0

@@ -17,9 +17,9 @@ use Rattle.link_rules.specs.Bare.{Inputs}
 use Rattle.link_rules.specs.Link.{IsLinked, IsRefused}
 use Rattle.link_rules.specs.declared.fault.LinkFault.{LinkFault}
 use Rattle.link_rules.specs.declared.fault.LinkFault.TheVariants as faults
-use Rattle.xtalk_top.specs.Words.{Text}
+use Rattle.command_line.specs.Words.{Text}
 use Rattle.xtalk_top.specs.Outcome.{Contents, Outcome, refuses, FileMeans, most_bytes}
-use Rattle.xtalk_top.specs.declared.words.BlockFiles.{BlockFiles}
+use Rattle.command_line.specs.declared.words.BlockFiles.{BlockFiles}
 use Rattle.xtalk_top.specs.declared.refusal.Unlinked.{Unlinked}
 use Rattle.xtalk_top.specs.declared.refusal.Unlinked.TheVariants as unlinked
 use Rattle.xtalk_top.specs.declared.refusal.TextRefusal.TheVariants.{At}

@@ -15,10 +15,10 @@ use Rattle.xt_meaning.specs.Envelope.{IsWidest, IsAccepted}
 use Rattle.xt_meaning.specs.Fixpoint.{IsContained, IsFixpoint}
 use Rattle.report_text.specs.Report.{IsReport}
 use Rattle.envelope.specs.Firsts.{IsFirstPassed}
-use Rattle.report_text.specs.declared.kind.ReportKind.{ReportKind}
+use Rattle.report_kind.specs.declared.kind.ReportKind.{ReportKind}
 use Rattle.run_laws.specs.Transitions.{Transition, AreConsistent}
 use Rattle.run_laws.specs.Laws.{LieWithin}
-use Rattle.xtalk_top.specs.Words.{Text}
+use Rattle.command_line.specs.Words.{Text}
 use Rattle.xtalk_top.specs.declared.refusal.PassedLimit.{PassedLimit}
 use Rattle.xtalk_top.specs.declared.refusal.Refusal.{Refusal}
 use Rattle.xtalk_top.specs.declared.refusal.DesignRefusal.TheVariants.{Limit}

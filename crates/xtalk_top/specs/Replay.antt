@@ -1,7 +1,7 @@
 -- The command `replay`.
-use Rattle.report_text.specs.declared.kind.ReportKind.TheVariants.{All}
+use Rattle.report_kind.specs.declared.kind.ReportKind.TheVariants.{All}
 use Rattle.xtalk_top.specs.Outcome.{Contents, Outcome, TextReportMeans}
-use Rattle.xtalk_top.specs.declared.words.ReplayJob.{ReplayJob}
+use Rattle.command_line.specs.declared.words.ReplayJob.{ReplayJob}
 
 -- the whole report of the file's design, whatever the workers and their order: what `solve` means for the same file and
 -- the same Miller numbers

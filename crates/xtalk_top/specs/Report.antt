@@ -1,7 +1,7 @@
 -- The command `report`.
 use Rattle.xtalk_top.specs.Outcome.{Contents, Outcome, DesignMeans, counted_by}
 use Rattle.xtalk_top.specs.Linking.{BlockMeans}
-use Rattle.xtalk_top.specs.declared.words.ReportJob.{ReportJob}
+use Rattle.command_line.specs.declared.words.ReportJob.{ReportJob}
 
 -- the report of the design that the four files make, of the kind that is asked for, by the Miller numbers of the words
 -- where they give any

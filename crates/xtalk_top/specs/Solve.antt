@@ -1,6 +1,6 @@
 -- The command `solve`.
 use Rattle.xtalk_top.specs.Outcome.{Contents, Outcome, TextReportMeans}
-use Rattle.xtalk_top.specs.declared.words.SolveJob.{SolveJob}
+use Rattle.command_line.specs.declared.words.SolveJob.{SolveJob}
 
 -- the report of the file's design, of the kind that is asked for, by the Miller numbers of the words where they give
 -- any

@@ -3,7 +3,7 @@
 ghost use Rattle.std.specs.Prelude.{IfOk, IfErr};
 ghost use Rattle.xt_model.specs.Levels.{AreLevelled};
 ghost use Rattle.xt_model.specs.Sound.{IsSound};
-ghost use Rattle.xtalk_top.specs.Words.{IsWorkerCount};
+ghost use Rattle.command_line.specs.Words.{IsWorkerCount};
 ghost use Rattle.xtalk_top.specs.Outcome.{DesignMeans, prints};
 ghost use Rattle.xtalk_top.specs.Call.{IsStop};
 

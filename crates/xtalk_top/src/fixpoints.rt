@@ -3,7 +3,7 @@ ghost use Rattle.xt_model.specs.declared.direction.Direction.TheVariants.{Narrow
 ghost use Rattle.xt_meaning.specs.Barrier.{IsFittingStart};
 ghost use Rattle.xt_meaning.specs.Fixpoint.{IsLeastFixpoint, IsGreatestFixpoint};
 ghost use Rattle.net_eval.specs.ReadLists.{AreReadLists};
-ghost use Rattle.xtalk_top.specs.Words.{IsWorkerCount};
+ghost use Rattle.command_line.specs.Words.{IsWorkerCount};
 
 use chaos_core::{Gate, settle_picked};
 use chaos_run::run_both;

@@ -2,12 +2,12 @@
 
 ghost use Rattle.std.specs.Prelude.{◌≡◌, ◌≢◌, ◌≤◌, length, IfOk, IfErr, IfSome};
 ghost use Rattle.xt_io.specs.Outside.{KeepsCounts};
-ghost use Rattle.xtalk_top.specs.Words.{Text};
+ghost use Rattle.command_line.specs.Words.{Text};
 ghost use Rattle.xtalk_top.specs.Outcome.{FileMeans, LinkedMeans, IsDesignText, most_bytes};
 ghost use Rattle.xtalk_top.specs.Call.{HasFault, IsStop, status_of};
 ghost use Rattle.xtalk_top.specs.declared.refusal.Failure.TheVariants.{NoText};
 
-use crate::file_name::FileName;
+use command_line::FileName;
 use crate::refusal::{FileRefusal, Refusal, Stop, TextRefusal};
 use linked_text::{LinkedFault, read_linked_text};
 use std::alloc::Global;

@@ -4,10 +4,8 @@
 mod block;
 mod counted;
 mod design_report;
-mod file_name;
 mod fixpoints;
 mod generated;
-mod grammar;
 mod input;
 mod link;
 mod refusal;
@@ -18,10 +16,9 @@ mod solution;
 mod solve;
 mod text_report;
 mod top;
-mod words;
 
-pub use file_name::FileName;
-pub use top::{xtalk, xtalk_gated};
-pub use words::{
-    BlockFiles, GenJob, Job, LinkJob, ReplayJob, ReportJob, SolveJob, WordsFault, parse_words,
+pub use command_line::{
+    BlockFiles, FileName, GenJob, Job, LinkJob, ReplayJob, ReportJob, SolveJob, WordsFault,
+    parse_words,
 };
+pub use top::{xtalk, xtalk_gated};

@@ -12,7 +12,7 @@ ghost use Rattle.xtalk_top.specs.Link.{LinkMeans};
 use crate::block::read_block;
 use crate::counted::counted_by;
 use crate::refusal::Stop;
-use crate::words::LinkJob;
+use command_line::LinkJob;
 use linked_text::write_linked;
 use std::alloc::Global;
 use xt_io::Files;

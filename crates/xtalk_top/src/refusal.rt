@@ -1,7 +1,7 @@
 //! Why a call does not print its text, by layer: refusals of a design, of a text, of a file and of the call, each with
 //! what its line prints.
 
-use crate::file_name::FileName;
+use command_line::FileName;
 use envelope::What;
 use link_rules::LinkRefusal;
 use xt_model::{Code, LimitKind, Name};

@@ -12,7 +12,7 @@ ghost use Rattle.xtalk_top.specs.declared.refusal.FileRefusal.TheVariants.{Conte
 ghost use Rattle.xtalk_top.specs.declared.refusal.TextRefusal.TheVariants.{At, Beyond};
 ghost use Rattle.xtalk_top.specs.declared.refusal.DesignRefusal.TheVariants.{Limit};
 
-use crate::file_name::FileName;
+use command_line::FileName;
 use crate::refusal::{
     DesignRefusal, Failure, FileRefusal, PassedLimit, Refusal, Stop, TextRefusal, Unlinked,
 };

@@ -2,7 +2,7 @@
 
 ghost use Rattle.std.specs.Prelude.{◌≢◌, IfOk, IfErr};
 ghost use Rattle.xt_io.specs.Outside.{KeepsCounts};
-ghost use Rattle.xtalk_top.specs.Words.{IsWorkerCount};
+ghost use Rattle.command_line.specs.Words.{IsWorkerCount};
 ghost use Rattle.xtalk_top.specs.Outcome.{prints};
 ghost use Rattle.xtalk_top.specs.Call.{HasFault, IsStop, status_of};
 ghost use Rattle.xtalk_top.specs.declared.refusal.Failure.TheVariants.{NoText};
@@ -11,7 +11,7 @@ ghost use Rattle.xtalk_top.specs.Replay.{ReplayMeans};
 use crate::fixpoints::Runs;
 use crate::refusal::Stop;
 use crate::text_report::report_of_text;
-use crate::words::ReplayJob;
+use command_line::ReplayJob;
 use chaos_core::Gate;
 use report_text::ReportKind;
 use std::alloc::Global;

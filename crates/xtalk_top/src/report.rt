@@ -2,7 +2,7 @@
 
 ghost use Rattle.std.specs.Prelude.{◌≢◌, IfOk, IfErr};
 ghost use Rattle.xt_io.specs.Outside.{KeepsCounts};
-ghost use Rattle.xtalk_top.specs.Words.{IsWorkerCount};
+ghost use Rattle.command_line.specs.Words.{IsWorkerCount};
 ghost use Rattle.xtalk_top.specs.Outcome.{prints};
 ghost use Rattle.xtalk_top.specs.Call.{HasFault, IsStop, status_of};
 ghost use Rattle.xtalk_top.specs.declared.refusal.Failure.TheVariants.{NoText};
@@ -13,7 +13,7 @@ use crate::counted::counted_by;
 use crate::design_report::report;
 use crate::fixpoints::Runs;
 use crate::refusal::Stop;
-use crate::words::ReportJob;
+use command_line::ReportJob;
 use chaos_core::Gate;
 use std::alloc::Global;
 use std::thread::Threads;

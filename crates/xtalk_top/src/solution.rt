@@ -6,7 +6,7 @@ ghost use Rattle.xt_meaning.specs.Barrier.{IsWithinEnvelope};
 ghost use Rattle.xt_meaning.specs.Fixpoint.{IsLeastFixpoint, IsGreatestFixpoint};
 ghost use Rattle.xt_model.specs.Levels.{AreLevelled};
 ghost use Rattle.xt_model.specs.Sound.{IsSound};
-ghost use Rattle.xtalk_top.specs.Words.{IsWorkerCount};
+ghost use Rattle.command_line.specs.Words.{IsWorkerCount};
 ghost use Rattle.xtalk_top.specs.Outcome.{AreBounds, KeepsLimits, SolvedMeans};
 ghost use Rattle.xtalk_top.specs.Call.{IsStop};
 

@@ -2,14 +2,14 @@
 
 ghost use Rattle.std.specs.Prelude.{◌≡◌, ◌≢◌, IfOk, IfErr};
 ghost use Rattle.xt_io.specs.Outside.{KeepsCounts};
-ghost use Rattle.xtalk_top.specs.Words.{IsWorkerCount};
+ghost use Rattle.command_line.specs.Words.{IsWorkerCount};
 ghost use Rattle.xtalk_top.specs.Outcome.{TextReportMeans, prints};
 ghost use Rattle.xtalk_top.specs.Call.{HasFault, IsStop, status_of};
 ghost use Rattle.xtalk_top.specs.declared.refusal.Failure.TheVariants.{NoText};
 
 use crate::counted::counted_by;
 use crate::design_report::report;
-use crate::file_name::FileName;
+use command_line::FileName;
 use crate::fixpoints::Runs;
 use crate::input::{read_design, read_file};
 use crate::refusal::Stop;

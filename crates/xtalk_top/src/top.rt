@@ -1,6 +1,6 @@
 ghost use Rattle.std.specs.Prelude.{◌≡◌, ◌≢◌, ◌⊎◌, IfOk, IfErr};
 ghost use Rattle.xt_io.specs.Outside.{Rose, KeepsCounts, appended};
-ghost use Rattle.xtalk_top.specs.Words.{Text, HasCount, bytes_of};
+ghost use Rattle.command_line.specs.Words.{Text, HasCount, bytes_of};
 ghost use Rattle.xtalk_top.specs.Outcome.{prints, refuses, unread};
 ghost use Rattle.xtalk_top.specs.Call.{JobMeans, Means, AreKnown, IsStop, IsFailure, HasFault, IsCutOff};
 ghost use Rattle.xtalk_top.specs.Call.{WritesLine, line_of, status_of};
@@ -16,7 +16,7 @@ use crate::refuse::refuse;
 use crate::replay::replay;
 use crate::report::report_of_block;
 use crate::solve::solve;
-use crate::words::{Job, WordsFault, parse_words};
+use command_line::{Job, WordsFault, parse_words};
 use chaos_core::{Gate, OpenGate};
 use std::alloc::Global;
 use std::thread::Threads;

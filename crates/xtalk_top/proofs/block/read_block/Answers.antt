@@ -6,9 +6,9 @@ use Rattle.spef_read.specs.Reading.{parasitics_of}
 use Rattle.liberty_cells.specs.declared.library.Library.{Library}
 use Rattle.verilog_net.specs.declared.netlist.Netlist.{Netlist}
 use Rattle.xt_model.specs.Parts.{Parts}
-use Rattle.xtalk_top.specs.Words.{Text}
+use Rattle.command_line.specs.Words.{Text}
 use Rattle.xtalk_top.specs.Outcome.{Contents, Outcome}
-use Rattle.xtalk_top.specs.declared.words.BlockFiles.{BlockFiles}
+use Rattle.command_line.specs.declared.words.BlockFiles.{BlockFiles}
 use Rattle.xtalk_top.specs.Call.{HasFault}
 use Rattle.xtalk_top.specs.Linking.{BlockMeans, FileAndText, FinishDesign, HoldsText, LastFilesMean, LinkingMeans, MakeDesign, constraints_for}
 use Rattle.xtalk_top.proofs.Blocks.{fault_later, holds_as, kept_trans, last_as, text_as, text_leads, text_stops}

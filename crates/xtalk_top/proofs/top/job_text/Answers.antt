@@ -1,3 +1,4 @@
+use Rattle.command_line.specs.Words.{HasCount}
 use Rattle.xtalk_top.proofs.top.job_text.Goals as goal
 
 pub returns-in-Report-clause-ok : goal.returns-in-Report-clause-ok
@@ -47,6 +48,12 @@ returns-in-Link-clause-calm g c = c.text_of_block.ensures.calm
 
 pub returns-in-Link-clause-read : goal.returns-in-Link-clause-read
 returns-in-Link-clause-read g c = c.text_of_block.ensures.read
+
+pub summary_of_generated-requires-clause-nets : goal.summary_of_generated-requires-clause-nets
+summary_of_generated-requires-clause-nets g c =
+    let counts : HasCount c.args.job = c.requires.count in
+    let of_gen = rw c.in-Gen.is at counts in
+    record { some = of_gen.0.some; most = of_gen.0.most }
 
 pub returns-in-Gen-clause-ok : goal.returns-in-Gen-clause-ok
 returns-in-Gen-clause-ok g c = rw c.in-Gen.is c.summary_of_generated.ensures.ok

@@ -1,8 +1,8 @@
 use Rattle.std.proofs.lemmas.Result.{IfOk-weaker, IfErr-weaker}
 use Rattle.std.proofs.Common.{Option, IfSome, subst}
-use Rattle.xtalk_top.specs.Words.{HasCount, bytes_of}
-use Rattle.xtalk_top.specs.declared.words.Job.{Job}
-use Rattle.xtalk_top.proofs.Counts.{job_counts}
+use Rattle.command_line.specs.Words.{HasCount, bytes_of}
+use Rattle.command_line.specs.declared.words.Job.{Job}
+use Rattle.command_line.proofs.Counts.{job_counts}
 use Rattle.xtalk_top.specs.Outcome.{prints}
 use Rattle.xtalk_top.specs.Call.{JobMeans, Means, HasFault}
 use Rattle.xtalk_top.proofs.Lifts.{job_means, lift_stop}

@@ -1,7 +1,7 @@
 use Rattle.std.proofs.Common.{◌≡◌, ◌≢◌, ◌⊎◌, ℕ, zero, suc, inl, refl, arith}
 use Rattle.xt_io.specs.Outside.{Rose}
 use Rattle.xtalk_top.specs.declared.refusal.Failure.TheVariants.{Unwritten}
-use Rattle.xtalk_top.specs.Words.{bytes_of}
+use Rattle.command_line.specs.Words.{bytes_of}
 use Rattle.xtalk_top.specs.Call.{Means, HasFault}
 use Rattle.xtalk_top.proofs.Agreement.{one_outcome, refused, not_both, completed}
 use Rattle.xtalk_top.proofs.top.xtalk_gated.Goals as goal

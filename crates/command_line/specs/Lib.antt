@@ -1,0 +1,5 @@
+pub mod Grammar
+pub mod Forms
+pub mod Reading
+pub mod Values
+pub mod Words

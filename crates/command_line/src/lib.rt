@@ -1,0 +1,12 @@
+//! The words of the command line, and the job that they ask for.
+#![tactic(auto)]
+
+mod file_name;
+mod grammar;
+mod values;
+mod words;
+
+pub use file_name::FileName;
+pub use words::{
+    BlockFiles, GenJob, Job, LinkJob, ReplayJob, ReportJob, SolveJob, WordsFault, parse_words,
+};

@@ -1,0 +1,22 @@
+ghost use Rattle.std.specs.Prelude.{◌≡◌};
+ghost use Rattle.report_kind.specs.Kind;
+
+/// What a report is to have: all lines, or those on the checks alone.
+#[derive(Clone, Copy, Debug, PartialEq, Eq)]
+pub enum ReportKind {
+    All,
+    Checks,
+}
+
+impl ReportKind {
+    /// The kind that the word names: `all` or `checks`.
+    pub fn from_word(word: &str) -> Option<ReportKind>
+        ensures { result ≡ Kind.kind_of word.now }
+    {
+        match word {
+            "all" => Some(ReportKind::All),
+            "checks" => Some(ReportKind::Checks),
+            _ => None,
+        }
+    }
+}

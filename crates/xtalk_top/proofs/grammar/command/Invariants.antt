@@ -1,9 +1,0 @@
-use Rattle.std.proofs.Common.{◌≡◌, ◌++◌, map, take}
-use Rattle.clap.specs.Words.{app_of}
-use Rattle.xtalk_top.specs.Forms.{option_form}
-use Rattle.xtalk_top.specs.Reading.{app_with, option_rule, positional_rule}
-use Rattle.xtalk_top.proofs.grammar.command.Given as goal
-
--- the command has the options, and the positional words so far
-abbrev pub invariant-loop-name : goal.invariant-loop-name
-invariant-loop-name l = app_of l.command ≡ app_with (map option_rule (map option_form l.fn.rule.options.now) ++ map positional_rule (map (λ name. name.now) (take l.name-index l.name-items)))
