@@ -1,5 +1,5 @@
 -- A turn of a run: a round, and the look after it.
-use Rattle.std.proofs.Common.{◌≡◌, ℕ, ◌+◌, ◌*◌, ◌<◌, ◌≤◌, ◌↔◌, inl, inr, refl, sym, ap, subst, ◌∙◌, List, length, arith}
+use Rattle.std.proofs.Common.{◌≡◌, ℕ, zero, suc, ◌+◌, ◌*◌, ◌<◌, ◌≤◌, ◌↔◌, inl, inr, refl, sym, ap, subst, ◌∙◌, List, length, arith}
 use Rattle.std.proofs.lemmas.Bool.{cases_lt}
 use Rattle.xt_model.specs.declared.direction.Direction.{Direction}
 use Rattle.xt_model.specs.declared.net.NetId.{NetId}
@@ -21,7 +21,7 @@ use Rattle.chaos_core.proofs.Chained.{AreCarried, carried_few, carried_fewer, ca
 use Rattle.chaos_core.proofs.Kept.{start_kept}
 use Rattle.chaos_core.proofs.Settling.{closed_from, steady_from}
 use Rattle.window_words.specs.Boards.{Holding, knowledge_of}
-use Rattle.chaos_run.specs.Rounds.{IsRested}
+use Rattle.chaos_run.specs.Rounds.{AreTurns, IsRested}
 use Rattle.chaos_run.proofs.Carried.{carried, made_few}
 
 -- ---- a round
@@ -50,6 +50,17 @@ made_more begin before after nets rounds h k =
 -- ---- all rounds
 closed_own : (a : Setting) (d : Parts) (words : List ℕ) → a.design ≡ d → (AreClosed d words → ⊥) → AreClosed a.design words → ⊥
 closed_own a d words own open_words closed = open_words (subst (λ x. AreClosed x words) own closed)
+
+pub turns_of : (a : Setting) (rounds : ℕ) (p q : List ℕ) → AreCarried a rounds p q → AreTurns a rounds p q
+turns_of a zero p q same = same
+turns_of a (suc rounds) p q h = (h.0, turns_of a rounds p h.0 h.1, h.2, h.3)
+
+-- the rounds of the machine
+pub turns_picked : (a : Setting) (lists : List (List NetId)) (order : List ℕ) (workers number : ℕ) (windows : List Pair) (rounds : ℕ) → 0 < workers → AreReadLists a.design lists → IsOrder a.design.nets order
+    → IsFittingStart a.way a.design a.start → Settles a lists order workers number windows rounds → AreTurns a rounds (numbers_of a.start) (numbers_of windows)
+turns_picked a lists order workers number windows rounds some are o start settles =
+    turns_of a rounds (numbers_of a.start) (numbers_of windows)
+    (rounds_carried a lists order workers rounds (record { source = number; words = numbers_of a.start }) (record { source = settles.source; words = numbers_of windows }) some are o (start_kept a are.sound start) settles.path)
 
 -- one step more, from words that are not closed
 pub turn_more : (a : Setting) (d : Parts) (rounds : ℕ) (p m q : List ℕ) → a.design ≡ d → AreCarried a rounds p m → (AreClosed d m → ⊥) → HasCarried a m q → AreCarried a (rounds + 1) p q

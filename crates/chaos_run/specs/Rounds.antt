@@ -1,5 +1,5 @@
 -- Rounds of workers in threads of their own, on one board.
-use Rattle.std.specs.Prelude.{◌≡◌, ℕ, ◌+◌, ◌≤◌, List, [], length, vec_capacity}
+use Rattle.std.specs.Prelude.{◌≡◌, ℕ, zero, suc, ◌+◌, ◌≤◌, List, [], length, vec_capacity}
 use Rattle.std.specs.List.{All}
 use Rattle.xt_model.specs.declared.direction.Direction.{Direction}
 use Rattle.xt_model.specs.declared.net.NetId.{NetId}
@@ -7,13 +7,14 @@ use Rattle.xt_model.specs.Parts.{Parts}
 use Rattle.xt_model.specs.Levels.{IsOrder}
 use Rattle.net_eval.specs.ReadLists.{AreReadLists}
 use Rattle.chaos_core.specs.Runs.{Ran}
-use Rattle.chaos_core.specs.Memories.{AreKept}
-use Rattle.chaos_core.specs.Rounds.{HasRoom}
+use Rattle.chaos_core.specs.declared.setting.Setting.{Setting}
+use Rattle.chaos_core.specs.Rounds.{AreClosed, HasCarried, HasRoom}
 use Rattle.window_words.specs.declared.view.View.{View}
-use Rattle.window_words.specs.Views.{times, sent_out}
-use Rattle.window_words.specs.Rule.{once_below}
+use Rattle.window_words.specs.Views.{sent_out}
+pub use Rattle.window_words.specs.Steps.{IsRested}
 use Rattle.window_words.specs.Boards.{BoardId, Holding, IsOf, knowledge_of}
 use Rattle.chaos_run.specs.declared.workers.SeatedWorker.{SeatedWorker}
+use Rattle.chaos_run.specs.declared.workers.RunRoom.{RunRoom}
 use Rattle.chaos_run.specs.declared.workers.Workers.{Workers}
 
 -- a board whose words are of this design and run this way, and the design's read lists
@@ -68,9 +69,18 @@ pub record IsBack (board : BoardId) (d : Parts) (lists : List (List NetId)) (fir
       → Ran order (knowledge_of (sent_of first)) (knowledge_of w.seated.pass)
   pub room : HasRoom lists w.worker
 
--- what the first pass knows while none is out, once it has loaded a word: what it has seen is what the words hold, so
--- it is no further than what the operator makes of it; and the drawn numbers are those below some number, each once
-pub record IsRested (v : View) : Type 0 where
-  pub kept : AreKept v.setting v.seen
-  pub next : ℕ
-  pub drawn : (x : ℕ) → times x v.drawn ≡ once_below next x
+-- from words p to words q in `rounds` rounds, one after another: each began at words that were not closed, and carried
+-- them at least as far as the operator does
+abbrev pub AreTurns : Setting → ℕ → List ℕ → List ℕ → Type 0
+AreTurns a zero p q = q ≡ p
+AreTurns a (suc rounds) p q =
+    (m : List ℕ) × AreTurns a rounds p m × (AreClosed a.design m → ⊥) × HasCarried a m q
+
+-- how many workers a room is for
+abbrev pub workers_in : RunRoom → ℕ
+workers_in room = length room.workers.idle.items
+
+-- a room for a run on a design with these read lists: all its workers are idle, and it has windows for each net
+pub record IsRoomFor (d : Parts) (lists : List (List NetId)) (room : RunRoom) : Type 0 where
+  pub idle : AreIdle lists room.workers
+  pub count : length room.windows ≡ length d.nets

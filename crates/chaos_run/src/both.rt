@@ -1,16 +1,18 @@
 //! The least and the greatest windows of a design, by two runs.
 
 ghost use Rattle.std.specs.Prelude.{◌≡◌, ◌↔◌, ℕ, ◌≤◌, List, IfOk};
-ghost use Rattle.xt_model.specs.declared.direction.Direction.TheVariants.{Narrow};
+ghost use Rattle.xt_model.specs.declared.direction.Direction.TheVariants.{Narrow, Widen};
 ghost use Rattle.xt_model.specs.Limits.{most_workers};
 ghost use Rattle.xt_model.specs.Build.{IsRoundBound};
 ghost use Rattle.xt_model.specs.Assign.{assigned};
 ghost use Rattle.xt_meaning.specs.Barrier.{IsFittingStart};
 ghost use Rattle.xt_meaning.specs.Fixpoint.{IsFixpoint, IsLeastFixpoint, IsGreatestFixpoint};
 ghost use Rattle.xt_meaning.specs.Laws.{IsExtremeFixpoint, quiet_windows};
+ghost use Rattle.xt_meaning.specs.Words.{numbers_of};
 ghost use Rattle.run_laws.specs.Transitions.{Transition, AreConsistent};
 ghost use Rattle.run_laws.specs.Laws.{LieWithin};
 ghost use Rattle.net_eval.specs.ReadLists.{AreReadLists};
+ghost use Rattle.chaos_run.specs.Rounds.{AreTurns};
 
 use crate::settling::settle;
 use chaos_core::{Gate, Settled, settle_picked};
@@ -52,6 +54,9 @@ pub fn settle_from<R: Threads + Sync, G: Gate>(
     ensures extreme { IfOk result (λ settled. IsExtremeFixpoint direction design.now settled.windows) }
     ensures closed { IfOk result (λ settled. (settled.rounds ≡ 0) ↔ IsFixpoint design.now start.now) }
     ensures few { IfOk result (λ settled. (bound : ℕ) → IsRoundBound design.now.nets bound → settled.rounds ≤ bound) }
+    ensures turns { IfOk result (λ settled. AreTurns
+        (record { design = design.now; way = direction; start = start.now }) settled.rounds
+        (numbers_of start.now) (numbers_of settled.windows)) }
     ensures consistent { direction ≡ Narrow → IfOk result (λ settled. (xs : List Transition)
         → AreConsistent design.now xs → LieWithin (assigned settled.windows) xs) }
 {
@@ -90,6 +95,12 @@ pub fn run_both<R: Threads + Sync, G: Gate>(
     ensures high_closed { IfOk result (λ both. (both.high_rounds ≡ 0) ↔ IsFixpoint design.now top.now) }
     ensures few { IfOk result (λ both. (bound : ℕ) → IsRoundBound design.now.nets bound
         → (both.low_rounds ≤ bound) × (both.high_rounds ≤ bound)) }
+    ensures low_turns { IfOk result (λ both. AreTurns
+        (record { design = design.now; way = Widen; start = quiet_windows design.now }) both.low_rounds
+        (numbers_of (quiet_windows design.now)) (numbers_of both.low)) }
+    ensures high_turns { IfOk result (λ both. AreTurns
+        (record { design = design.now; way = Narrow; start = top.now }) both.high_rounds
+        (numbers_of top.now) (numbers_of both.high)) }
     ensures consistent { IfOk result (λ both. (xs : List Transition) → AreConsistent design.now xs
         → LieWithin (assigned both.high) xs) }
 {

@@ -8,4 +8,5 @@ mod settling;
 mod workers;
 
 pub use both::{Both, run_both, settle_from};
-pub use settling::settle;
+pub use settling::{settle, settle_in};
+pub use workers::RunRoom;

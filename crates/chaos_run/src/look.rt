@@ -1,10 +1,10 @@
 //! A look at all words of a board: the windows that stand in them, and whether the operator gives these back.
 
-ghost use Rattle.std.specs.Prelude.{◌≡◌, ◌↔◌, ℕ, ◌+◌, ◌*◌, ◌<◌, ◌≤◌, length, IsTrue};
+ghost use Rattle.std.specs.Prelude.{◌≡◌, ◌↔◌, ℕ, ◌+◌, ◌*◌, ◌/◌, ◌<◌, ◌≤◌, length, IsTrue};
 ghost use Rattle.std.specs.List.{All};
 ghost use Rattle.std.specs.Thread.{IsSync};
 ghost use Rattle.xt_model.specs.declared.edge.Edge.{Edge};
-ghost use Rattle.xt_model.specs.Limits.{most_nets};
+ghost use Rattle.xt_model.specs.Limits.{most_nets, most_workers};
 ghost use Rattle.xt_model.specs.Quads.{IsBound, IsInRange, IsPairInRange, quad_at};
 ghost use Rattle.xt_model.specs.Assign.{quads_of};
 ghost use Rattle.xt_meaning.specs.Barrier.{IsFittingStart, IsWithinEnvelope};
@@ -14,7 +14,7 @@ ghost use Rattle.chaos_core.specs.Boards.{nets_of};
 ghost use Rattle.chaos_core.specs.Memories.{AreKept};
 ghost use Rattle.chaos_core.specs.Rounds.{AreClosed};
 ghost use Rattle.window_words.specs.Boards.{IsAlone, IsOf};
-ghost use Rattle.chaos_run.specs.Rounds.{IsRested};
+ghost use Rattle.window_words.specs.Steps.{IsRested};
 ghost use Rattle.chaos_run.specs.Looks.{quad_from};
 
 use chaos_core::bound_of;
@@ -99,7 +99,8 @@ fn load_all(board: &SharedBoard, first: &mut Pass, windows: &mut Windows)
 fn part(count: u32, some: u32, shares: u32) -> u32
     requires some { some ≤ shares }
     requires shares { 0 < shares }
-    ensures { result ≤ count }
+    ensures value { result ≡ count * some / shares }
+    ensures most { result ≤ count }
 {
     (u64::from(count) * u64::from(some) / u64::from(shares)) as u32
 }
@@ -118,6 +119,7 @@ fn closed_by<R: Threads + Sync>(
     requires within { IsWithinEnvelope design.now windows.now }
     requires order { from ≤ to }
     requires end { to ≤ length design.now.nets }
+    requires few { shares ≤ most_workers }
     ensures { IsTrue result ↔ ((n : ℕ) → from ≤ n → n < to → IsSteadyAt design.now windows.now n) }
 {
     if shares <= 1 {
@@ -130,13 +132,15 @@ fn closed_by<R: Threads + Sync>(
         rt,
         move || -> bool
             requires { IsSync R.row × (length windows.now ≡ length design.now.nets)
-                × IsWithinEnvelope design.now windows.now × (from ≤ middle) × (middle ≤ length design.now.nets) }
+                × IsWithinEnvelope design.now windows.now × (from ≤ middle) × (middle ≤ length design.now.nets)
+                × (some ≤ most_workers) }
             ensures { IsTrue result ↔ ((n : ℕ) → from ≤ n → n < middle
                 → IsSteadyAt design.entry.now windows.entry.now n) }
         { closed_by(rt, design, windows, from, middle, some) },
         move || -> bool
             requires { IsSync R.row × (length windows.now ≡ length design.now.nets)
-                × IsWithinEnvelope design.now windows.now × (middle ≤ to) × (to ≤ length design.now.nets) }
+                × IsWithinEnvelope design.now windows.now × (middle ≤ to) × (to ≤ length design.now.nets)
+                × (rest ≤ most_workers) }
             ensures { IsTrue result ↔ ((n : ℕ) → middle ≤ n → n < to
                 → IsSteadyAt design.entry.now windows.entry.now n) }
         { closed_by(rt, design, windows, middle, to, rest) },
@@ -158,6 +162,7 @@ pub(crate) fn look<R: Threads + Sync>(
     requires alone { IsAlone first.old.view }
     requires design { board.now.setting.design ≡ design.now }
     requires count { length windows.old ≡ length design.now.nets }
+    requires few { shares ≤ most_workers }
     ensures own { IsOf board.now first.new }
     ensures view { first.new.view ≡ first.old.view }
     ensures numbers { numbers_of windows.new ≡ first.old.view.seen }

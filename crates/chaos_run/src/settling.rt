@@ -13,13 +13,12 @@ ghost use Rattle.run_laws.specs.Laws.{LieWithin};
 ghost use Rattle.net_eval.specs.ReadLists.{AreReadLists};
 ghost use Rattle.chaos_core.specs.Rounds.{AreClosed};
 ghost use Rattle.window_words.specs.Boards.{IsAlone, IsOf};
-ghost use Rattle.chaos_run.specs.Rounds.{AreIdle, IsRun};
+ghost use Rattle.chaos_run.specs.Rounds.{AreIdle, AreTurns, IsRoomFor, IsRun, workers_in};
 
 use crate::look::look;
 use crate::round::round;
-use crate::workers::{Run, Workers};
+use crate::workers::{Run, RunRoom, Workers};
 use chaos_core::{Gate, Settled};
-use envelope::quiet;
 use net_eval::ReadLists;
 use std::alloc::Global;
 use std::thread::Threads;
@@ -51,8 +50,9 @@ fn run_rounds<'a, R: Threads + Sync, G: Gate>(
     ensures split { 0 < result → first.new.view.split ≡ length workers.old.idle.items }
     ensures few { (bound : ℕ) → IsRoundBound run.now.design.now.nets bound → result ≤ bound }
     ensures made { first.new.view.made ≤ first.old.view.made + 8 * length run.now.design.now.nets * result }
+    ensures turns { AreTurns run.now.board.now.setting result first.old.view.seen first.new.view.seen }
 {
-    let shares = workers.idle.len() as u32;
+    let shares = workers.idle.as_slice().len() as u32;
     let mut done = look(rt, run.board, first, run.design, windows, shares);
     let mut rounds: u64 = 0;
     'rounds: while !done {
@@ -64,11 +64,57 @@ fn run_rounds<'a, R: Threads + Sync, G: Gate>(
     rounds
 }
 
+/// A run as by [`settle`], in a room that is there already: it takes no memory.
+pub fn settle_in<'a, R: Threads + Sync, G: Gate>(
+    rt: &R,
+    room: RunRoom<'a>,
+    board: &'a SharedBoard,
+    first: &mut Pass,
+    design: &'a Design,
+    lists: &'a ReadLists,
+    direction: Direction,
+    gate: &'a G,
+) -> Settled
+    requires room { IsRoomFor design.now lists.now room }
+    requires own { IsOf board.now first.old }
+    requires alone { IsAlone first.old.view }
+    requires design { board.now.setting.design ≡ design.now }
+    requires direction { board.now.setting.way ≡ direction }
+    requires lists { AreReadLists design.now lists.now }
+    requires some { 1 ≤ workers_in room }
+    requires few { workers_in room ≤ most_workers }
+    ensures own { IsOf board.now first.new }
+    ensures alone { IsAlone first.new.view }
+    ensures extreme { IsExtremeFixpoint direction design.now result.windows }
+    ensures seen { first.new.view.seen ≡ numbers_of result.windows }
+    ensures closed { (result.rounds ≡ 0) ↔ AreClosed design.now first.old.view.seen }
+    ensures split { 0 < result.rounds → first.new.view.split ≡ workers_in room.entry }
+    ensures few { (bound : ℕ) → IsRoundBound design.now.nets bound → result.rounds ≤ bound }
+    ensures made { first.new.view.made ≤ first.old.view.made + 8 * length design.now.nets * result.rounds }
+    ensures turns { AreTurns board.now.setting result.rounds first.old.view.seen (numbers_of result.windows) }
+    ensures consistent { direction ≡ Narrow → (xs : List Transition) → AreConsistent design.now xs
+        → LieWithin (assigned result.windows) xs }
+{
+    let RunRoom { workers, windows } = room;
+    let mut workers = workers;
+    let mut windows = windows;
+    let run = Run {
+        board,
+        design,
+        lists,
+        direction,
+        gate,
+    };
+    let rounds = run_rounds(rt, &run, &mut workers, first, &mut windows);
+    Settled { windows, rounds }
+}
+
 /// Looks at all words of a board by its first pass, and while they are not closed makes a round of so many workers in
 /// threads of their own. The windows that then stand in the words are the least fixpoint in widening and the greatest
 /// in narrowing, whatever the workers do when, and in narrowing all transitions that explain one another lie within
 /// them. No run makes more rounds than the design's bound, and none publishes more than the words of all nets once a
-/// round. All memory is taken before the first look: where there is none, nothing was done.
+/// round. The count of rounds is that of the rounds made: each began at words that were not closed. All memory is taken
+/// before the first look: where there is none, nothing was done.
 pub fn settle<R: Threads + Sync, G: Gate>(
     rt: &R,
     alloc: Global,
@@ -96,19 +142,12 @@ pub fn settle<R: Threads + Sync, G: Gate>(
     ensures few { IfOk result (λ settled. (bound : ℕ) → IsRoundBound design.now.nets bound → settled.rounds ≤ bound) }
     ensures made { IfOk result (λ settled. first.new.view.made
         ≤ first.old.view.made + 8 * length design.now.nets * settled.rounds) }
+    ensures turns { IfOk result (λ settled. AreTurns board.now.setting settled.rounds first.old.view.seen
+        (numbers_of settled.windows)) }
     ensures consistent { direction ≡ Narrow → IfOk result (λ settled. (xs : List Transition)
         → AreConsistent design.now xs → LieWithin (assigned settled.windows) xs) }
     ensures untouched { IfErr result (λ _. first.new ≡ first.old) }
 {
-    let mut idle = Workers::new(alloc, lists, workers)?;
-    let mut windows = quiet(alloc, design)?;
-    let run = Run {
-        board,
-        design,
-        lists,
-        direction,
-        gate,
-    };
-    let rounds = run_rounds(rt, &run, &mut idle, first, &mut windows);
-    Ok(Settled { windows, rounds })
+    let room = RunRoom::new(alloc, design, lists, workers)?;
+    Ok(settle_in(rt, room, board, first, design, lists, direction, gate))
 }

@@ -5,10 +5,11 @@ ghost use Rattle.xt_model.specs.Limits.{most_workers};
 ghost use Rattle.chaos_run.specs.Rounds.{AreIdle};
 
 use chaos_core::Worker;
+use envelope::quiet;
 use net_eval::ReadLists;
 use std::alloc::Global;
 use window_words::{Seated, SharedBoard};
-use xt_model::{Design, Direction, NoMemory};
+use xt_model::{Design, Direction, NoMemory, Windows};
 
 /// What the workers of a run work on, and the gate that each of them passes before it draws.
 #[derive(Drop)]
@@ -46,5 +47,31 @@ impl<'a> Workers<'a> {
             idle.push(Worker::new(alloc, lists)?)?;
         }
         Ok(Workers { idle, seated })
+    }
+}
+
+/// The room of a run: its workers, and windows for the look at its words. It serves a run on one board.
+#[derive(Drop)]
+pub struct RunRoom<'a> {
+    pub(crate) workers: Workers<'a>,
+    pub(crate) windows: Windows,
+}
+
+impl<'a> RunRoom<'a> {
+    ghost use Rattle.chaos_run.specs.Rounds.{IsRoomFor, workers_in};
+
+    /// Room for `workers` workers, from 1 to 64 of them.
+    pub fn new(
+        alloc: Global,
+        design: &Design,
+        lists: &ReadLists,
+        workers: u32,
+    ) -> Result<RunRoom<'a>, NoMemory>
+        ensures room { IfOk result (IsRoomFor design.now lists.now) }
+        ensures count { IfOk result (λ room. workers_in room ≡ workers) }
+    {
+        let workers = Workers::new(alloc, lists, workers)?;
+        let windows = quiet(alloc, design)?;
+        Ok(RunRoom { workers, windows })
     }
 }

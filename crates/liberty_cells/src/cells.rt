@@ -66,7 +66,7 @@ pub fn cells_of(
         (cells_of bytes.now scales templates.now (tree_of library.now)) }
 {
     let mut cells = Vec::new(alloc);
-    let mut seen = SeenNames::new(alloc);
+    let mut seen = SeenNames::new(alloc, templates.key());
     let mut rest = library.inner();
     'cells: while let Some((group, more)) = first_named(bytes, b"cell", rest) {
         add_cell(

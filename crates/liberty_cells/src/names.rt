@@ -9,6 +9,7 @@ ghost use Rattle.liberty_cells.specs.Names.{some_names};
 use indexmap::IndexSet;
 use liberty_groups::Span;
 use liberty_tables::{content, first_item};
+use name_numbers::TextKey;
 use std::alloc::{AllocError, Global};
 use std::marker::Model;
 use text_forms::is_name;
@@ -18,7 +19,7 @@ use xt_model::{Code, Name};
 /// Names that were seen, with their own bytes; contracts see the list of these. A look-up is by hash.
 #[derive(Drop)]
 pub struct SeenNames {
-    set: IndexSet<Vec<u8>>,
+    set: IndexSet<Vec<u8>, TextKey>,
 }
 
 impl Model for SeenNames {
@@ -30,12 +31,12 @@ impl Model for SeenNames {
 impl SeenNames {
     ghost use Rattle.std.specs.Prelude.{[]};
 
-    /// No name.
-    pub fn new(alloc: Global) -> SeenNames
+    /// No name, with the key of the text that the names come from.
+    pub fn new(alloc: Global, key: TextKey) -> SeenNames
         ensures { result ≡ [] }
     {
         SeenNames {
-            set: IndexSet::new(alloc),
+            set: IndexSet::with_hasher(alloc, key),
         }
     }
 

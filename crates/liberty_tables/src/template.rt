@@ -11,7 +11,7 @@ use crate::name::only_name;
 use crate::search::{attribute, first_named};
 use crate::units::Scales;
 use liberty_groups::Group;
-use name_numbers::NameTable;
+use name_numbers::{NameTable, TextKey};
 use std::alloc::{AllocError, Global};
 use xt_lex::TextFault;
 
@@ -127,7 +127,7 @@ pub fn templates_of(
     requires { AreScales scales }
     ensures { Gives (λ templates. templates) result (templates_of bytes.now scales (tree_of library.now)) }
 {
-    let mut templates = NameTable::new(alloc);
+    let mut templates = NameTable::new(alloc, TextKey::of(bytes));
     let mut rest = library.inner();
     'templates: while let Some((group, more)) = first_named(bytes, b"lu_table_template", rest) {
         add_template(alloc, bytes, scales, group, &mut templates)?;

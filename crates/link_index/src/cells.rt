@@ -2,7 +2,7 @@
 
 ghost use Rattle.std.specs.Prelude.{◌≡◌};
 
-use crate::places::{CellPlaces, all_kept, cell_places};
+use crate::places::{CellPlaces, all_kept, cell_places, names_key};
 use liberty_cells::Library;
 use name_numbers::Named;
 use std::alloc::{AllocError, Global};
@@ -40,8 +40,9 @@ impl<'a> CellIndex<'a> {
     pub fn new(alloc: Global, library: &'a Library) -> Result<CellIndex<'a>, AllocError>
         ensures { IfOk result (λ i. i ≡ library.entry.now) }
     {
-        let cells = cell_places(alloc, library.cells.as_slice())?;
-        let kept = all_kept(alloc, library.cells.as_slice())?;
+        let key = names_key(library.cells.as_slice());
+        let cells = cell_places(alloc, key, library.cells.as_slice())?;
+        let kept = all_kept(alloc, key, library.cells.as_slice())?;
         Ok(CellIndex {
             library,
             cells,

@@ -52,8 +52,9 @@ impl<'a> NetIndex<'a> {
     {
         let starts = starts(alloc, &netlist.nets)?;
         let names = names_of(alloc, netlist)?;
-        let instances = numbers_of(alloc, netlist.instances.as_slice())?;
-        let wires = all_wires(alloc, netlist.instances.as_slice())?;
+        let key = netlist.nets.key();
+        let instances = numbers_of(alloc, key, netlist.instances.as_slice())?;
+        let wires = all_wires(alloc, key, netlist.instances.as_slice())?;
         Ok(NetIndex {
             netlist,
             starts,

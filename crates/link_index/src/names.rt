@@ -82,7 +82,7 @@ pub fn names_of(alloc: Global, netlist: &Netlist) -> Result<NameTable<()>, Alloc
     ensures spelled { IfOk result AreNames }
 {
     let nets = &netlist.nets;
-    let mut names = NameTable::new(alloc);
+    let mut names = NameTable::new(alloc, nets.key());
     for number in 0..nets.len() {
         add_net(alloc, &mut names, nets, number)?;
     }

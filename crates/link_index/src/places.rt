@@ -8,14 +8,30 @@ ghost use Rattle.link_index.specs.Kept.{IsKept};
 use crate::first::set_first;
 use crate::odd::is_odd_cell;
 use liberty_cells::{Cell, Pin};
-use name_numbers::Named;
+use name_numbers::{Named, TextKey};
 use std::alloc::{AllocError, Global};
 
+/// A key that depends on the names of all cells and of their pins.
+pub fn names_key(cells: &[Cell]) -> TextKey {
+    let mut key = TextKey::of(b"");
+    for cell in cells {
+        key = key.joined(TextKey::of(cell.name.bytes()));
+        for pin in cell.pins.as_slice() {
+            key = key.joined(TextKey::of(pin.name().bytes()));
+        }
+    }
+    key
+}
+
 /// The places of the pins of a cell by name.
-fn pin_places<'a>(alloc: Global, pins: &'a [Pin]) -> Result<Named<'a, usize>, AllocError>
+fn pin_places<'a>(
+    alloc: Global,
+    key: TextKey,
+    pins: &'a [Pin],
+) -> Result<Named<'a, usize>, AllocError>
     ensures { IfOk result (HavePlaces pins.entry.now) }
 {
-    let mut places = Named::new(alloc);
+    let mut places = Named::new(alloc, key);
     let mut place = 0;
     let mut rest = pins;
     'pins: while let [pin, more @ ..] = rest {
@@ -34,32 +50,40 @@ pub struct CellPlaces<'a> {
 }
 
 /// What is kept of one cell.
-fn kept_of<'a>(alloc: Global, cell: &'a Cell) -> Result<CellPlaces<'a>, AllocError>
+fn kept_of<'a>(alloc: Global, key: TextKey, cell: &'a Cell) -> Result<CellPlaces<'a>, AllocError>
     ensures { IfOk result (IsKept cell.entry.now) }
 {
-    let pins = pin_places(alloc, cell.pins.as_slice())?;
+    let pins = pin_places(alloc, key, cell.pins.as_slice())?;
     let odd = is_odd_cell(cell, &pins);
     Ok(CellPlaces { pins, odd })
 }
 
 /// What is kept of all cells.
-pub fn all_kept<'a>(alloc: Global, cells: &'a [Cell]) -> Result<Vec<CellPlaces<'a>>, AllocError>
+pub fn all_kept<'a>(
+    alloc: Global,
+    key: TextKey,
+    cells: &'a [Cell],
+) -> Result<Vec<CellPlaces<'a>>, AllocError>
     ensures { IfOk result (λ v. AllZip IsKept cells.entry.now v.items) }
 {
     let mut kept = Vec::new(alloc);
     let mut rest = cells;
     'cells: while let [cell, more @ ..] = rest {
-        kept.push(kept_of(alloc, cell)?)?;
+        kept.push(kept_of(alloc, key, cell)?)?;
         rest = more;
     }
     Ok(kept)
 }
 
 /// The places of cells by name.
-pub fn cell_places<'a>(alloc: Global, cells: &'a [Cell]) -> Result<Named<'a, usize>, AllocError>
+pub fn cell_places<'a>(
+    alloc: Global,
+    key: TextKey,
+    cells: &'a [Cell],
+) -> Result<Named<'a, usize>, AllocError>
     ensures { IfOk result (HaveCellPlaces cells.entry.now) }
 {
-    let mut places = Named::new(alloc);
+    let mut places = Named::new(alloc, key);
     let mut place = 0;
     let mut rest = cells;
     'cells: while let [cell, more @ ..] = rest {

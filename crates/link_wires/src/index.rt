@@ -6,7 +6,7 @@ ghost use Rattle.link_wires.specs.Places.{HavePlaces};
 
 use link_index::{NetIndex, set_first};
 use link_rules::NetPins;
-use name_numbers::Named;
+use name_numbers::{Named, TextKey};
 use spef_read::{Name, Parasitics, WireText};
 use std::alloc::{AllocError, Global};
 use std::marker::Model;
@@ -25,7 +25,7 @@ pub fn text_of<'a>(parasitics: &'a Parasitics, name: Name) -> &'a [u8]
 fn places_of<'a>(alloc: Global, parasitics: &'a Parasitics) -> Result<Named<'a, usize>, AllocError>
     ensures { IfOk result (HavePlaces parasitics.entry.now) }
 {
-    let mut places = Named::new(alloc);
+    let mut places = Named::new(alloc, parasitics.names.key());
     let mut place = 0;
     let mut rest = parasitics.nets.as_slice();
     'wires: while let [wire, more @ ..] = rest {
@@ -79,6 +79,14 @@ impl<'a> WireIndex<'a> {
         ensures { result.now ≡ self.now.parasitics }
     {
         self.parasitics
+    }
+
+    /// A key that depends on both texts, for tables of nodes.
+    pub fn key(&self) -> TextKey {
+        self.parasitics
+            .names
+            .key()
+            .joined(self.nets.netlist().nets.key())
     }
 
     /// The net of a node.

@@ -10,7 +10,7 @@ ghost use Rattle.link_wires.specs.Wires.{HasNames};
 use crate::parts::WireParts;
 use link_index::set_first;
 use link_rules::{End, NetPins};
-use name_numbers::Named;
+use name_numbers::{Named, TextKey};
 use std::alloc::{AllocError, Global};
 use std::marker::Model;
 use xt_model::Name;
@@ -42,13 +42,13 @@ impl<'a> Nodes<'a> {
     ghost use Rattle.std.specs.Prelude.{Some};
     ghost use Rattle.std.specs.List.{slice_get};
 
-    /// No node.
-    pub fn new(alloc: Global) -> Nodes<'a>
+    /// No node, with the key of the texts that the names come from.
+    pub fn new(alloc: Global, key: TextKey) -> Nodes<'a>
         ensures { result ≡ [] }
     {
         Nodes {
             names: Vec::new(alloc),
-            numbers: Named::new(alloc),
+            numbers: Named::new(alloc, key),
         }
     }
 
@@ -136,13 +136,14 @@ pub fn end_nodes(alloc: Global, delimiter: u8, pins: &NetPins) -> Result<Vec<Nam
 /// The nodes of a net: those of its ends, then the others as they appear in its capacitors and resistors.
 pub fn nodes_of<'a>(
     alloc: Global,
+    key: TextKey,
     ends: &'a [Name],
     wire: &WireParts<'a>,
 ) -> Result<Nodes<'a>, AllocError>
     requires { HasNames wire.now }
     ensures { IfOk result (λ n. n ≡ fold (λ nodes name. with_name name nodes) ends.entry.now (names_on wire.now)) }
 {
-    let mut nodes = Nodes::new(alloc);
+    let mut nodes = Nodes::new(alloc, key);
     let mut left = ends;
     'ends: while let [end, more @ ..] = left {
         nodes.push(end.bytes())?;

@@ -113,7 +113,7 @@ fn wire_of<'a>(
     let listed = index.listed(pins);
     let parts = WireParts::of_net(alloc, index, net, listed)?;
     let ends = end_nodes(alloc, index.parasitics().delimiter, pins)?;
-    let nodes = nodes_of(alloc, &ends, &parts)?;
+    let nodes = nodes_of(alloc, index.key(), &ends, &parts)?;
     wire_within(alloc, pins, listed.is_some(), &nodes, &parts)
 }
 

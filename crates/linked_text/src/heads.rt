@@ -13,7 +13,7 @@ use crate::field::{count, is_name, kind, quantity};
 use crate::head::{NetHead, Sums};
 use crate::line::{cut, seven};
 use crate::read_line::refused;
-use name_numbers::Names;
+use name_numbers::{Names, TextKey};
 use std::alloc::{AllocError, Global};
 use xt_model::limits::{MOST_ARCS, MOST_CAP, MOST_COEFFICIENTS, MOST_COUPLINGS};
 use xt_model::{Code, LimitKind, Name};
@@ -149,7 +149,7 @@ pub fn heads<'a>(
 ) -> Result<(Vec<NetHead>, &'a [u8]), Stop>
     ensures { Gives (λ x. (x.0.items, x.1.now)) result (heads_at count [] no_sums bytes.entry.now) }
 {
-    let mut names = Names::new(alloc);
+    let mut names = Names::new(alloc, TextKey::of(bytes));
     let mut sums = Sums {
         couplings: 0,
         coefficients: 0,

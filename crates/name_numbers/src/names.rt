@@ -1,15 +1,16 @@
 ghost use Rattle.std.specs.Prelude.{◌≡◌, List, ℕ, not, length, map, option_map, IfOk, OnOk, OnErr};
 ghost use Rattle.name_numbers.specs.Names.{found, has_name, number_of, value_of, with_name, with_value};
 
+use crate::key::TextKey;
 use indexmap::{IndexMap, IndexSet};
 use std::alloc::{AllocError, Global};
 use std::marker::Model;
 
 /// Names in the order in which they were first seen, which contracts see as the list of their bytes. A name keeps its
-/// number: how many names were seen before it. A look-up is by hash, and takes no memory.
+/// number: how many names were seen before it. A look-up is by hash under a `TextKey`, and takes no memory.
 #[derive(Drop)]
 pub struct Names<'a> {
-    set: IndexSet<&'a [u8]>,
+    set: IndexSet<&'a [u8], TextKey>,
 }
 
 impl<'a> Model for Names<'a> {
@@ -21,12 +22,12 @@ impl<'a> Model for Names<'a> {
 impl<'a> Names<'a> {
     ghost use Rattle.std.specs.Prelude.{[]};
 
-    /// No name.
-    pub fn new(alloc: Global) -> Names<'a>
+    /// No name, with the key of the text that the names come from.
+    pub fn new(alloc: Global, key: TextKey) -> Names<'a>
         ensures { result ≡ [] }
     {
         Names {
-            set: IndexSet::new(alloc),
+            set: IndexSet::with_hasher(alloc, key),
         }
     }
 
@@ -58,7 +59,7 @@ impl<'a> Names<'a> {
 /// Values by name, in the order in which the names were first seen; contracts see the list of names with their values.
 #[derive(Drop)]
 pub struct Named<'a, V> {
-    table: IndexMap<&'a [u8], V>,
+    table: IndexMap<&'a [u8], V, TextKey>,
 }
 
 impl<'a, V> Model for Named<'a, V> {
@@ -70,12 +71,12 @@ impl<'a, V> Model for Named<'a, V> {
 impl<'a, V: Drop> Named<'a, V> {
     ghost use Rattle.std.specs.Prelude.{[]};
 
-    /// No name.
-    pub fn new(alloc: Global) -> Named<'a, V>
+    /// No name, with the key of the text that the names come from.
+    pub fn new(alloc: Global, key: TextKey) -> Named<'a, V>
         ensures { result ≡ [] }
     {
         Named {
-            table: IndexMap::new(alloc),
+            table: IndexMap::with_hasher(alloc, key),
         }
     }
 

@@ -1,6 +1,7 @@
 ghost use Rattle.std.specs.Prelude.{◌≡◌, ◌<◌, ◌^◌, List, ℕ, length, map, option_map, OnOk, OnErr};
 ghost use Rattle.name_numbers.specs.Names.{found, with_value};
 
+use crate::key::TextKey;
 use indexmap::IndexMap;
 use std::alloc::{AllocError, Global};
 use std::marker::Model;
@@ -13,7 +14,7 @@ const MOST_NAMES: usize = 4_294_967_295;
 /// for a further one.
 #[derive(Drop)]
 pub struct NameTable<V> {
-    table: IndexMap<Vec<u8>, V>,
+    table: IndexMap<Vec<u8>, V, TextKey>,
 }
 
 impl<V> Model for NameTable<V> {
@@ -28,12 +29,12 @@ impl<V: Drop> NameTable<V> {
     ghost use Rattle.std.specs.Prelude.{[]};
     ghost use Rattle.std.specs.List.{slice_get};
 
-    /// No name.
-    pub fn new(alloc: Global) -> NameTable<V>
+    /// No name, with the key of the text that the names come from.
+    pub fn new(alloc: Global, key: TextKey) -> NameTable<V>
         ensures { result ≡ [] }
     {
         NameTable {
-            table: IndexMap::new(alloc),
+            table: IndexMap::with_hasher(alloc, key),
         }
     }
 
@@ -68,6 +69,11 @@ impl<V: Drop> NameTable<V> {
         let kept = Vec::from_slice(alloc, name)?;
         self.table.insert(kept, value)?;
         Ok(())
+    }
+
+    /// The key that the names are hashed under, for a further table of names of the same text.
+    pub fn key(&self) -> TextKey {
+        *self.table.hasher()
     }
 
     /// How many names there are.

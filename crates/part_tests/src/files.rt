@@ -9,7 +9,7 @@ use std::test::Fail;
 use std::{fs, io, process};
 use xt_io::{
     Directory, DirectoryFiles, Failed, Files, HostErr, HostFiles, HostOut, HostStream, MemoryFiles,
-    MemorySink, ReadFail, RecordedFiles, Stream, read_whole, write_whole,
+    MemorySink, ReadFail, RecordedFiles, Source, Stream, read_whole, write_whole,
 };
 
 // Bytes of which no two nearby are alike.
@@ -231,12 +231,34 @@ impl Write for Trickle {
     }
 }
 
+impl Source for Trickle {
+    ghost use Rattle.std.specs.Prelude.{⊤};
+
+    ghost fails = { λ _. ⊤ };
+
+    fn read_some(&mut self, buffer: &mut [u8]) -> Result<usize, Failed> {
+        let Ok(count) = self.read(buffer) else {
+            return Err(Failed);
+        };
+        Ok(count)
+    }
+}
+
 impl Stream for Trickle {
-    ghost use Rattle.std.specs.Prelude.{false};
+    ghost use Rattle.std.specs.Prelude.{false, ⊤};
 
     ghost known = { false };
 
     ghost held = { λ _. tt };
+
+    ghost fails = { λ _. ⊤ };
+
+    fn write_some(&mut self, piece: &[u8]) -> Result<usize, Failed> {
+        match self.write(piece) {
+            Ok(count) if count > 0 => Ok(count),
+            _ => Err(Failed),
+        }
+    }
 }
 
 // One file, of the name `a`.
@@ -250,9 +272,11 @@ struct Trickles {
 impl Directory for Trickles {
     type Stream = Trickle;
 
-    ghost use Rattle.std.specs.Prelude.{None};
+    ghost use Rattle.std.specs.Prelude.{None, ⊤};
 
     ghost content = { λ _ _. None };
+
+    ghost refuses = { λ _ _. ⊤ };
 
     fn open(&self, name: &str) -> Option<Trickle> {
         if name != "a" {

@@ -10,13 +10,10 @@ use Rattle.verilog_net.specs.Nets.{Nets}
 use Rattle.verilog_net.specs.Ports.{bits_by}
 use Rattle.sdc_words.specs.Words.{Text}
 use Rattle.sdc_read.specs.declared.change.Bits as of_code
-use Rattle.sdc_read.specs.declared.change.Change.{Change}
-use Rattle.sdc_read.specs.declared.ports.PortBit.{PortBit}
 use Rattle.sdc_read.specs.declared.source.SourceBits.TheVariants as sources
-use Rattle.sdc_read.specs.Ports.{Ports}
-use Rattle.sdc_read.specs.Changes.{Bits, over_first, change_bits, role_for}
+use Rattle.sdc_read.specs.Changes.{Bits, over_first}
 use Rattle.sdc_read.specs.Objects.{bits_if, bits_in, net_bits, behind, ports_of, over_all, is_some_listed, any_below, has_role}
-use Rattle.sdc_read.specs.Objects.{change_if, change_all, source_if, source_all, with_bits}
+use Rattle.sdc_read.specs.Objects.{source_if, source_all, with_bits}
 use Rattle.sdc_read.specs.View.{bits_text}
 
 pub over_next : {A : Type 0} (f : ℕ → A → A) (i : ℕ) (s : A) → over_first f (i + 1) s ≡ f i (over_first f i s)
@@ -27,7 +24,7 @@ pub listed_push : (bs : List of_code.Bits) (b : of_code.Bits)
     → map bits_text (bs ++ b ∷ []) ≡ map bits_text bs ++ bits_text b ∷ []
 listed_push bs b = map-append bits_text bs (b ∷ [])
 
-over_last : {A : Type 0} (f : Bits → A → A) (bs : List Bits) (b : Bits) (s : A)
+pub over_last : {A B : Type 0} (f : B → A → A) (bs : List B) (b : B) (s : A)
     → over_all f (bs ++ b ∷ []) s ≡ f b (over_all f bs s)
 over_last f [] b s = refl
 over_last f (x ∷ xs) b s = over_last f xs b (f x s)
@@ -44,13 +41,6 @@ module _ {A : Type 0} (f : Option Bits → A → A) (g : Bits → A → A)
   over_listed at zero s = refl
   over_listed at (suc n) s =
       over_behind (at n) (over_first (λ i. behind (at i)) n []) s ∙ ap (f (at n)) (over_listed at n s)
-
--- all ports of a direction are changed
-pub change_listed : (nets : Nets) (clock : Option PortBit) (c : Change) (ps : Ports)
-    → over_all (change_bits clock c) (ports_of (role_for c) nets) ps ≡ change_all nets clock c ps
-unfolding change_all ports_of
-change_listed nets clock c ps =
-    over_listed (change_if clock c) (change_bits clock c) (λ b s. refl) (λ s. refl) (net_bits (role_for c) nets) (length nets) ps
 
 -- the bits of all inputs
 pub source_listed : (nets : Nets) → over_all with_bits (ports_of Input nets) sources.Nothing ≡ source_all nets

@@ -4,13 +4,16 @@
 mod change;
 mod clocks;
 mod constraints;
+mod levels;
 mod listed;
+mod mentions;
 mod numbers;
 mod objects;
 mod port_table;
 mod ports;
 mod progress;
 mod read;
+mod set_numbers;
 mod source;
 
 pub use constraints::{Clock, Constraints};

@@ -75,7 +75,7 @@ pub fn named_bits(wanted: PortRole, netlist: &Netlist, name: &[u8]) -> Option<Bi
 }
 
 /// The bits of a net: those of a bus, or the one of a port.
-fn bits_of(decl: u32, net: Net) -> PortFound
+pub fn bits_of(decl: u32, net: Net) -> PortFound
     ensures { result ≡ bits_of decl net }
 {
     match (net.range, net.role) {

@@ -3,16 +3,17 @@
 ghost use Rattle.std.specs.Prelude.{◌≡◌, option_map, map, OnOk};
 ghost use Rattle.sdc_words.specs.Items.{items_of};
 ghost use Rattle.sdc_words.specs.View.{word_text, names_text};
-ghost use Rattle.sdc_read.specs.Changes.{role_for, change_bits, IsChange};
+ghost use Rattle.sdc_read.specs.Changes.{role_for, IsChange};
 ghost use Rattle.sdc_read.specs.Objects.{names_in, port_names, clock_names, all_of, named_bits, is_some_listed};
-ghost use Rattle.sdc_read.specs.Objects.{has_role, over_all, change_found, change_names, change_all};
+ghost use Rattle.sdc_read.specs.Objects.{has_role, change_found, change_names, change_all};
 ghost use Rattle.sdc_read.specs.Objects.{change_role, change_objects};
+ghost use Rattle.sdc_read.specs.Mentions.{nets_of, told, AllFit};
 ghost use Rattle.text_forms.specs.Stops.{Changes};
 ghost use Rattle.sdc_read.specs.View.{bits_text};
 
-use crate::change::{Bits, Change, change_bits};
+use crate::change::{Bits, Change};
 use crate::listed::{ListedNetlist, named_bits, same_role};
-use crate::port_table::SetPorts;
+use crate::mentions::Mention;
 use crate::ports::PortBit;
 use sdc_words::{NameList, Word, first_item};
 use std::alloc::AllocError;
@@ -79,16 +80,23 @@ fn change_named(
     clock: Option<PortBit>,
     change: Change,
     name: &[u8],
-    ports: &mut SetPorts,
+    said: &mut Vec<Mention>,
 ) -> Result<(), Stop>
     requires { IsChange change }
-    ensures { Changes result ports.new
-        (change_found clock change (named_bits (role_for change) netlist.now name.now) ports.old) }
+    ensures value { Changes result (told (nets_of netlist.now) said.new.items)
+        (change_found clock change (named_bits (role_for change) netlist.now name.now)
+        (told (nets_of netlist.now) said.old.items)) }
+    ensures fits { OnOk result
+        (AllFit (nets_of netlist.now) clock said.old.items → AllFit (nets_of netlist.now) clock said.new.items) }
 {
     let Some(bits) = named_bits(change.role(), netlist.whole(), name) else {
         return Err(Stop::Refused(Code::C6));
     };
-    change_bits(clock, change, bits, ports)?;
+    said.push(Mention {
+        change,
+        clock,
+        bits: Some(bits),
+    })?;
     Ok(())
 }
 
@@ -98,14 +106,17 @@ fn change_many(
     clock: Option<PortBit>,
     change: Change,
     names: &[u8],
-    ports: &mut SetPorts,
+    said: &mut Vec<Mention>,
 ) -> Result<(), Stop>
     requires { IsChange change }
-    ensures { Changes result ports.new (change_names netlist.now clock change (items_of names.now) ports.old) }
+    ensures value { Changes result (told (nets_of netlist.now) said.new.items)
+        (change_names netlist.now clock change (items_of names.now) (told (nets_of netlist.now) said.old.items)) }
+    ensures fits { OnOk result
+        (AllFit (nets_of netlist.now) clock said.old.items → AllFit (nets_of netlist.now) clock said.new.items) }
 {
     let mut rest = names;
     'names: while let Some((name, more)) = first_item(rest) {
-        change_named(netlist, clock, change, name, ports)?;
+        change_named(netlist, clock, change, name, said)?;
         rest = more;
     }
     Ok(())
@@ -117,48 +128,41 @@ fn change_names(
     clock: Option<PortBit>,
     change: Change,
     names: NameList<'_>,
-    ports: &mut SetPorts,
+    said: &mut Vec<Mention>,
 ) -> Result<(), Stop>
     requires { IsChange change }
-    ensures { Changes result ports.new
-        (change_names netlist.now clock change (names_in (names_text names.entry)) ports.old) }
+    ensures value { Changes result (told (nets_of netlist.now) said.new.items)
+        (change_names netlist.now clock change (names_in (names_text names.entry))
+        (told (nets_of netlist.now) said.old.items)) }
+    ensures fits { OnOk result
+        (AllFit (nets_of netlist.now) clock said.old.items → AllFit (nets_of netlist.now) clock said.new.items) }
 {
     match names {
-        NameList::One(name) => change_named(netlist, clock, change, name, ports),
-        NameList::Many(names) => change_many(netlist, clock, change, names, ports),
+        NameList::One(name) => change_named(netlist, clock, change, name, said),
+        NameList::Many(names) => change_many(netlist, clock, change, names, said),
     }
-}
-
-/// Changes the bits of a list of ports.
-fn change_each(
-    clock: Option<PortBit>,
-    change: Change,
-    list: &[Bits],
-    ports: &mut SetPorts,
-) -> Result<(), AllocError>
-    requires { IsChange change }
-    ensures { OnOk result (ports.new ≡ over_all (change_bits clock change) (map bits_text list.now) ports.old) }
-{
-    let mut rest = list;
-    'list: while let [bits, more @ ..] = rest {
-        change_bits(clock, change, *bits, ports)?;
-        rest = more;
-    }
-    Ok(())
 }
 
 /// Changes all ports of the direction.
-#[tactic(auto, using(crate::proofs::Over::change_listed))]
+#[tactic(auto, using(crate::proofs::MentionLaws::all_told))]
 fn change_all(
     netlist: &ListedNetlist<'_>,
     clock: Option<PortBit>,
     change: Change,
-    ports: &mut SetPorts,
+    said: &mut Vec<Mention>,
 ) -> Result<(), AllocError>
     requires { IsChange change }
-    ensures { OnOk result (ports.new ≡ change_all netlist.now clock change ports.old) }
+    ensures value { OnOk result (told (nets_of netlist.now) said.new.items
+        ≡ change_all netlist.now clock change (told (nets_of netlist.now) said.old.items)) }
+    ensures fits { OnOk result
+        (AllFit (nets_of netlist.now) clock said.old.items → AllFit (nets_of netlist.now) clock said.new.items) }
 {
-    change_each(clock, change, netlist.ports(change.role()), ports)
+    said.push(Mention {
+        change,
+        clock,
+        bits: None,
+    })?;
+    Ok(())
 }
 
 /// Changes all ports of a direction, which is the one that is wanted unless there are none.
@@ -167,13 +171,16 @@ fn change_role(
     clock: Option<PortBit>,
     change: Change,
     role: PortRole,
-    ports: &mut SetPorts,
+    said: &mut Vec<Mention>,
 ) -> Result<(), Stop>
     requires { IsChange change }
-    ensures { Changes result ports.new (change_role netlist.now clock change role ports.old) }
+    ensures value { Changes result (told (nets_of netlist.now) said.new.items)
+        (change_role netlist.now clock change role (told (nets_of netlist.now) said.old.items)) }
+    ensures fits { OnOk result
+        (AllFit (nets_of netlist.now) clock said.old.items → AllFit (nets_of netlist.now) clock said.new.items) }
 {
     if same_role(change.role(), role) {
-        change_all(netlist, clock, change, ports)?;
+        change_all(netlist, clock, change, said)?;
         return Ok(());
     }
     if has_role(role, netlist) {
@@ -190,17 +197,19 @@ pub fn change_objects(
     clock: Option<PortBit>,
     change: Change,
     list: Word<'_>,
-    ports: &mut SetPorts,
+    said: &mut Vec<Mention>,
 ) -> Result<(), Stop>
     requires { IsChange change }
-    ensures { Changes result ports.new
-        (change_objects netlist.now clock change (word_text list.entry) ports.old) }
+    ensures value { Changes result (told (nets_of netlist.now) said.new.items)
+        (change_objects netlist.now clock change (word_text list.entry) (told (nets_of netlist.now) said.old.items)) }
+    ensures fits { OnOk result
+        (AllFit (nets_of netlist.now) clock said.old.items → AllFit (nets_of netlist.now) clock said.new.items) }
 {
     if let Some(names) = port_names(list) {
-        return change_names(netlist, clock, change, names, ports);
+        return change_names(netlist, clock, change, names, said);
     }
     match all_of(list) {
-        Some(role) => change_role(netlist, clock, change, role, ports),
+        Some(role) => change_role(netlist, clock, change, role, said),
         None => Err(Stop::Refused(Code::C6)),
     }
 }

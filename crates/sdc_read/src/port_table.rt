@@ -1,88 +1,120 @@
 //! Tables of the bits of ports.
 
-ghost use Rattle.std.specs.Prelude.{◌≡◌, OnOk, IfSome};
+ghost use Rattle.std.specs.Prelude.{◌≡◌, ◌<◌, ◌++◌, [], ◌∷◌, length, IfOk, IfSome, OnOk, map};
+ghost use Rattle.std.specs.List.{slice_get};
+ghost use Rattle.std.specs.Option.{IsSomeAnd};
+ghost use Rattle.sdc_read.specs.Mentions.{nets_of, told, AllFit};
+ghost use Rattle.sdc_read.specs.Levels.{set_by, known};
 
-use crate::ports::{PortBit, PortSet, PortSides};
-use indexmap::IndexMap;
+use crate::change::is_clock;
+use crate::levels::Levels;
+use crate::mentions::{Mention, set_by};
+use crate::ports::{PortBit, PortSet};
+use crate::set_numbers::SetNumbers;
 use std::alloc::{AllocError, Global};
 use std::marker::Model;
+use verilog_net::{Net, Netlist};
 
-/// What the commands of a text set, by the bits of ports.
-#[derive(Drop)]
-pub struct SetPorts {
-    table: IndexMap<PortBit, PortSides>,
-}
-
-impl Model for SetPorts {
-    ghost use Rattle.sdc_read.specs.Ports.{Ports, AllInRange};
-
-    ghost Value = { Ports };
-
-    ghost view = { λ p. p.table.entries };
-
-    ghost invariant = { λ p. AllInRange p.table.entries };
-}
-
-/// What constraints mean for the bits of ports that they name, in the order in which these are first named. A look-up
-/// is by hash, and takes no memory.
+/// What constraints mean for the bits of ports that they name, in the order in which these are first named. What is
+/// said of a whole port or of all ports is kept once. A look-up is by hash, and takes no memory.
 #[derive(Drop)]
 pub struct PortTable {
-    ports: SetPorts,
+    nets: Vec<Net>,
+    said: Vec<Mention>,
+    clock: Option<PortBit>,
+    own: Option<SetNumbers>,
+    levels: Levels,
 }
 
 impl Model for PortTable {
-    ghost use Rattle.std.specs.Prelude.{List, map};
-    ghost use Rattle.sdc_read.specs.Ports.{settled};
+    ghost use Rattle.std.specs.Prelude.{◌≡◌, List, map};
+    ghost use Rattle.sdc_read.specs.Ports.{settled, AllInRange};
+    ghost use Rattle.sdc_read.specs.Mentions.{told};
+    ghost use Rattle.sdc_read.specs.Levels.{known, set_by};
+    ghost use Rattle.sdc_read.specs.declared.ports.PortBit.{PortBit};
     ghost use Rattle.sdc_read.specs.declared.ports.PortSet.{PortSet};
 
     ghost Value = { List PortSet };
 
-    ghost view = { λ t. map settled t.ports };
+    ghost view = { λ t. map settled (told t.nets.items t.said.items) };
+
+    ghost invariant = { λ t. ((at : PortBit) → known t.nets.items t.clock t.own t.levels at ≡ set_by t.nets.items at t.said.items)
+        × AllInRange (told t.nets.items t.said.items) };
 }
 
-impl SetPorts {
-    ghost use Rattle.std.specs.Prelude.{[], option_map};
-    ghost use Rattle.sdc_read.specs.Ports.{found_sides, with_sides, AreInRange};
-
-    /// Nothing is set.
-    pub fn new(alloc: Global) -> SetPorts
-        ensures { result ≡ [] }
-    {
-        SetPorts {
-            table: IndexMap::new(alloc),
-        }
+/// Adds the net of this number.
+fn push_net(nets: &mut Vec<Net>, netlist: &Netlist, number: u32) -> Result<(), AllocError>
+    requires { number < length netlist.now.nets }
+    ensures { OnOk result
+        (IsSomeAnd (slice_get netlist.now.nets number) (λ e. nets.new.items ≡ nets.old.items ++ e.1 ∷ [])) }
+{
+    match netlist.nets.get(number) {
+        None => Ok(()),
+        Some((_, net)) => Ok(nets.push(*net)?),
     }
+}
 
-    /// What is set for a bit.
-    pub fn find(&self, at: PortBit) -> Option<PortSides>
-        ensures value { result ≡ found_sides at self.now }
-        ensures range { IfSome result AreInRange }
-    {
-        match self.table.get(&at) {
-            Some(sides) => Some(*sides),
-            None => None,
-        }
+/// The nets of a netlist, without their names.
+fn copied_nets(alloc: Global, netlist: &Netlist) -> Result<Vec<Net>, AllocError>
+    ensures { IfOk result (λ v. v.items ≡ nets_of netlist.now.nets) }
+{
+    let mut nets = Vec::new(alloc);
+    for number in 0..netlist.nets.len() {
+        push_net(&mut nets, netlist, number)?;
     }
+    Ok(nets)
+}
 
-    /// Sets this for a bit, in the place of what was set for it.
-    pub fn set(&mut self, at: PortBit, sides: PortSides) -> Result<(), AllocError>
-        requires { AreInRange sides }
-        ensures { OnOk result (self.new ≡ with_sides at sides self.old) }
-    {
-        self.table.insert(at, sides)?;
-        Ok(())
+/// What is set for the bit of the clock, if there is one.
+fn clock_numbers(nets: &[Net], clock: Option<PortBit>, said: &[Mention]) -> Option<SetNumbers>
+    ensures { IfSome clock (λ at. result ≡ set_by nets.now at said.now) }
+{
+    match clock {
+        Some(at) => set_by(nets, at, said),
+        None => None,
+    }
+}
+
+/// What is known to be set for a bit: the clock's is kept apart.
+fn known(
+    nets: &[Net],
+    clock: Option<PortBit>,
+    own: Option<SetNumbers>,
+    levels: &Levels,
+    at: PortBit,
+) -> Option<SetNumbers>
+    ensures { result ≡ known nets.now clock own levels.now at }
+{
+    if is_clock(clock, at) {
+        own
+    } else {
+        levels.for_bit(nets, at)
     }
 }
 
 impl PortTable {
-    ghost use Rattle.std.specs.Prelude.{map};
     ghost use Rattle.sdc_read.specs.Ports.{settled, port_at, IsInRange};
 
-    /// What is meant by what is set.
-    pub fn new(ports: SetPorts) -> PortTable
-        ensures { result ≡ map settled ports }
+    /// What is meant by what was said.
+    pub fn new(
+        alloc: Global,
+        netlist: &Netlist,
+        clock: Option<PortBit>,
+        said: Vec<Mention>,
+    ) -> Result<PortTable, AllocError>
+        requires { AllFit (nets_of netlist.now.nets) clock said.items }
+        ensures { IfOk result (λ t. t ≡ map settled (told (nets_of netlist.now.nets) said.items)) }
     {
-        PortTable { ports }
+        let nets = copied_nets(alloc, netlist)?;
+        let levels = Levels::of(alloc, &nets, &said)?;
+        let own = clock_numbers(&nets, clock, &said);
+        Ok(PortTable {
+            nets,
+            said,
+            clock,
+            own,
+            levels,
+        })
     }
 
     /// What constraints mean for a bit of a port, if they name it.
@@ -91,8 +123,8 @@ impl PortTable {
         ensures range { IfSome result IsInRange }
     {
         let at = PortBit { decl, bit };
-        match self.ports.find(at) {
-            Some(sides) => Some(sides.settled(at)),
+        match known(&self.nets, self.clock, self.own, &self.levels, at) {
+            Some(numbers) => Some(numbers.sides().settled(at)),
             None => None,
         }
     }

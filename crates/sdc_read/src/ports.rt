@@ -2,7 +2,7 @@
 
 ghost use Rattle.std.specs.Prelude.{◌≡◌};
 ghost use Rattle.std.specs.Option.{option_or};
-ghost use Rattle.sdc_read.specs.Ports.{filled, or_zero, no_sides, unset, settled, same_bit};
+ghost use Rattle.sdc_read.specs.Ports.{filled, or_zero, no_sides, settled, same_bit};
 ghost use Rattle.sdc_read.specs.Ports.{IsTime, IsSize, AreTimes, AreSizes, AreInRange, IsInRange};
 
 /// A bit of a port: the number `decl` of the port's net in its module, and the number of the bit as the range of a bus
@@ -45,7 +45,7 @@ pub struct PortSet {
 }
 
 /// The number, or the other one where there is none.
-fn or_other(number: Option<i64>, other: Option<i64>) -> Option<i64>
+pub fn or_other(number: Option<i64>, other: Option<i64>) -> Option<i64>
     ensures value { result ≡ option_or number other }
     ensures times { IsTime number → IsTime other → IsTime result }
     ensures sizes { IsSize number → IsSize other → IsSize result }
@@ -104,19 +104,6 @@ impl Sides {
 }
 
 impl PortSides {
-    /// Nothing is set.
-    pub fn unset() -> PortSides
-        ensures value { result ≡ unset }
-        ensures range { AreInRange result }
-    {
-        PortSides {
-            input: Sides::none(),
-            output: Sides::none(),
-            slew: Sides::none(),
-            load: 0,
-        }
-    }
-
     /// What is meant by what is set for a bit.
     pub fn settled(self, at: PortBit) -> PortSet
         requires { AreInRange self }

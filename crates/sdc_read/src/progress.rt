@@ -1,11 +1,12 @@
 //! What the commands of a text mean, one after another.
 
-ghost use Rattle.std.specs.Prelude.{◌≡◌, pos, option_map, map, IfSome, IfOk};
+ghost use Rattle.std.specs.Prelude.{◌≡◌, pos, [], None, option_map, map, IfSome, IfOk, OnOk};
 ghost use Rattle.sdc_words.specs.View.{word_text};
 ghost use Rattle.sdc_forms.specs.View.{statement_text, HasPowers, IsPower};
 ghost use Rattle.sdc_read.specs.Changes.{IsChange};
-ghost use Rattle.sdc_read.specs.Meaning.{nothing, or_same, with_units, create_clock, change_ports, means, bit_of};
+ghost use Rattle.sdc_read.specs.Meaning.{or_same, with_units, create_clock, change_ports, means, bit_of};
 ghost use Rattle.sdc_read.specs.Meaning.{if_known, or_name, IsScale, IsClock};
+ghost use Rattle.sdc_read.specs.Mentions.{Kept, nets_of, told, state_of, IsKept};
 ghost use Rattle.sdc_read.specs.Ports.{settled};
 ghost use Rattle.sdc_read.specs.Objects.{bit_name, knows_clock};
 ghost use Rattle.text_forms.specs.Stops.{Changes};
@@ -14,9 +15,10 @@ use crate::change::Change;
 use crate::clocks::knows_clock;
 use crate::constraints::{Clock, Constraints};
 use crate::listed::ListedNetlist;
+use crate::mentions::Mention;
 use crate::numbers::{fall_in, number_from, number_in};
 use crate::objects::change_objects;
-use crate::port_table::{PortTable, SetPorts};
+use crate::port_table::PortTable;
 use crate::ports::PortBit;
 use crate::source::{bit_name, source_of};
 use sdc_forms::Statement;
@@ -33,16 +35,17 @@ pub struct Progress {
     time: i32,
     cap: i32,
     clock: Option<Clock>,
-    ports: SetPorts,
+    said: Vec<Mention>,
 }
 
 impl Model for Progress {
     ghost use Rattle.std.specs.Prelude.{IfSome};
-    ghost use Rattle.sdc_read.specs.Meaning.{State, IsScale, IsClock};
+    ghost use Rattle.sdc_read.specs.Meaning.{IsScale, IsClock};
+    ghost use Rattle.sdc_read.specs.Mentions.{Kept};
 
-    ghost Value = { State };
+    ghost Value = { Kept };
 
-    ghost view = { λ p. record { time = p.time; cap = p.cap; clock = p.clock; ports = p.ports } };
+    ghost view = { λ p. record { time = p.time; cap = p.cap; clock = p.clock; said = p.said.items } };
 
     ghost invariant = { λ p. IsScale p.time × IsScale p.cap × IfSome p.clock IsClock };
 }
@@ -93,13 +96,13 @@ impl Progress {
     pub fn new(alloc: Global, time: i32, cap: i32) -> Progress
         requires time { IsScale time }
         requires cap { IsScale cap }
-        ensures { result ≡ nothing time cap }
+        ensures { result ≡ record { time = time; cap = cap; clock = None; said = [] } }
     {
         Progress {
             time,
             cap,
             clock: None,
-            ports: SetPorts::new(alloc),
+            said: Vec::new(alloc),
         }
     }
 
@@ -107,7 +110,8 @@ impl Progress {
     fn set_units(&mut self, time: Option<i32>, cap: Option<i32>)
         requires time { IfSome time IsPower }
         requires cap { IfSome cap IsPower }
-        ensures { self.new ≡ with_units time cap self.old }
+        ensures { self.new
+            ≡ record self.old { time = or_same time self.old.time; cap = or_same cap self.old.cap } }
     {
         self.time = or_same(time, self.time);
         self.cap = or_same(cap, self.cap);
@@ -124,8 +128,10 @@ impl Progress {
         waveform: Option<&[u8]>,
         source: Word<'_>,
     ) -> Result<(), Stop>
-        ensures { Changes result self.new (create_clock netlist.now (option_map (λ t. t.now) name.entry)
-            period.now (option_map (λ t. t.now) waveform.entry) (word_text source.entry) self.old) }
+        ensures value { Changes result (state_of netlist.now self.new)
+            (create_clock netlist.now (option_map (λ t. t.now) name.entry) period.now
+            (option_map (λ t. t.now) waveform.entry) (word_text source.entry) (state_of netlist.now self.old)) }
+        ensures kept { OnOk result (IsKept netlist.now self.old → IsKept netlist.now self.new) }
     {
         let period = number_from(1, period, self.time)?;
         let fall = fall_in(self.time, period, waveform)?;
@@ -153,10 +159,12 @@ impl Progress {
         list: Word<'_>,
     ) -> Result<(), Stop>
         requires { IsChange change }
-        ensures { Changes result self.new (change_ports netlist.now change (word_text list.entry) self.old) }
+        ensures value { Changes result (state_of netlist.now self.new)
+            (change_ports netlist.now change (word_text list.entry) (state_of netlist.now self.old)) }
+        ensures kept { OnOk result (IsKept netlist.now self.old → IsKept netlist.now self.new) }
     {
         let clock = bit_of(&self.clock);
-        change_objects(netlist, clock, change, list, &mut self.ports)
+        change_objects(netlist, clock, change, list, &mut self.said)
     }
 
     /// Changes the ports of a list, if the clock of another one is known.
@@ -168,8 +176,10 @@ impl Progress {
         list: Word<'_>,
     ) -> Result<(), Stop>
         requires { IsChange change }
-        ensures { Changes result self.new (if_known (knows_clock self.old.clock (word_text clock.entry))
-            (change_ports netlist.now change (word_text list.entry) self.old)) }
+        ensures value { Changes result (state_of netlist.now self.new)
+            (if_known (knows_clock self.old.clock (word_text clock.entry))
+            (change_ports netlist.now change (word_text list.entry) (state_of netlist.now self.old))) }
+        ensures kept { OnOk result (IsKept netlist.now self.old → IsKept netlist.now self.new) }
     {
         if !knows_clock(&self.clock, clock) {
             return Err(Stop::Refused(Code::C6));
@@ -186,7 +196,9 @@ impl Progress {
         statement: Statement<'_>,
     ) -> Result<(), Stop>
         requires { HasPowers statement }
-        ensures { Changes result self.new (means netlist.now (statement_text statement.entry) self.old) }
+        ensures value { Changes result (state_of netlist.now self.new)
+            (means netlist.now (statement_text statement.entry) (state_of netlist.now self.old)) }
+        ensures kept { OnOk result (IsKept netlist.now self.old → IsKept netlist.now self.new) }
     {
         match statement {
             Statement::Nothing => Ok(()),
@@ -217,19 +229,23 @@ impl Progress {
     }
 
     /// The constraints.
-    pub fn into_constraints(self) -> Constraints
-        ensures value { result ≡ record { clock = self.clock; ports = map settled self.ports } }
-        ensures clock { IfSome result.clock IsClock }
+    pub fn into_constraints(
+        self,
+        alloc: Global,
+        netlist: &ListedNetlist<'_>,
+    ) -> Result<Constraints, AllocError>
+        requires { IsKept netlist.now self }
+        ensures value { IfOk result (λ c. c
+            ≡ record { clock = self.clock; ports = map settled (told (nets_of netlist.now) self.said) }) }
+        ensures clock { IfOk result (λ c. IfSome c.clock IsClock) }
     {
         let Progress {
             time: _,
             cap: _,
             clock,
-            ports,
+            said,
         } = self;
-        Constraints {
-            clock,
-            ports: PortTable::new(ports),
-        }
+        let ports = PortTable::new(alloc, netlist.whole(), bit_of(&clock), said)?;
+        Ok(Constraints { clock, ports })
     }
 }

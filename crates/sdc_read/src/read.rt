@@ -1,8 +1,9 @@
 //! From the bytes of a text to its constraints.
 
-ghost use Rattle.std.specs.Prelude.{◌≤◌, length, IfSome, IfOk};
+ghost use Rattle.std.specs.Prelude.{◌≤◌, length, IfSome, IfOk, OnOk};
 ghost use Rattle.sdc_words.specs.View.{command_text};
 ghost use Rattle.sdc_read.specs.Meaning.{IsScale, IsClock};
+ghost use Rattle.sdc_read.specs.Mentions.{state_of, IsKept};
 ghost use Rattle.sdc_read.specs.Reading.{command_means, commands_mean, constraints_of};
 ghost use Rattle.text_forms.specs.Stops.{Changes, Gives};
 
@@ -24,7 +25,9 @@ fn act_on(
     command: &Command<'_>,
     state: &mut Progress,
 ) -> Result<(), Stop>
-    ensures { Changes result state.new (command_means netlist.now (command_text command.now) state.old) }
+    ensures value { Changes result (state_of netlist.now state.new)
+        (command_means netlist.now (command_text command.now) (state_of netlist.now state.old)) }
+    ensures kept { OnOk result (IsKept netlist.now state.old → IsKept netlist.now state.new) }
 {
     let statement = statement_of_words(alloc, command.words.as_ref())?;
     state.act(alloc, netlist, statement)
@@ -37,7 +40,9 @@ fn read_all(
     commands: &mut Commands<'_>,
     state: &mut Progress,
 ) -> Result<(), TextFault>
-    ensures { Gives (λ _. state.new) result (commands_mean netlist.now commands.old state.old) }
+    ensures value { Gives (λ _. state_of netlist.now state.new) result
+        (commands_mean netlist.now commands.old (state_of netlist.now state.old)) }
+    ensures kept { OnOk result (IsKept netlist.now state.old → IsKept netlist.now state.new) }
 {
     'commands: while let Some(command) = commands.next_command(alloc)? {
         if let Err(stop) = act_on(alloc, netlist, &command, state) {
@@ -62,8 +67,8 @@ fn read_all(
 /// clock that is not there, a port of the other direction, or a source of a clock that is not exactly one bit; `C5` a
 /// second clock. Of one command the first of these, in this order, counts, and of the text the first command.
 ///
-/// Takes time linear in the bytes, in the nets of the netlist and, for each command, in the bits of the ports that it
-/// names, and memory linear in the bytes, in the ports of the netlist and in the bits that are named.
+/// A name of a whole bus, and a list of all ports, cost no more than another word: time and memory grow with the bytes
+/// and with the nets of the netlist, whatever the widths of these.
 #[tactic(auto, unfolding(crate::specs::Reading::constraints_of))]
 pub fn read_sdc(
     alloc: Global,
@@ -84,5 +89,5 @@ pub fn read_sdc(
     let netlist = ListedNetlist::new(alloc, netlist)?;
     let mut state = Progress::new(alloc, time_scale, cap_scale);
     read_all(alloc, &netlist, &mut Commands::new(bytes), &mut state)?;
-    Ok(state.into_constraints())
+    Ok(state.into_constraints(alloc, &netlist)?)
 }

@@ -36,7 +36,7 @@ use Rattle.sdc_read.specs.Objects.{names_in, port_names, all_of, named_bits, net
 use Rattle.sdc_read.specs.Meaning.{State, nothing, with_units, number_or_refusal, number_in, at_least, number_from, fall_in, or_name, with_clock, create_clock, bit_of, change_ports, if_known, means}
 use Rattle.sdc_read.specs.Reading.{command_means, commands_mean, constraints_in, constraints_of}
 use Rattle.sound_reads.proofs.Texts.{not_refused}
-use Rattle.sdc_read.proofs.PortLaws.{entered_in_range, found_in_range}
+use Rattle.sdc_read.proofs.Ranges.{over_in_range, bits_in_range, if_in_range}
 
 -- ---- numbers
 abbrev Within : ℤ → Type 0
@@ -64,65 +64,10 @@ module _ (scale v : ℤ) where
   by_result (Ok x) g e = let same : x ≡ v = cc in g (ap Ok same)
 
 -- ---- what a command changes
-module _ (p : Picked) where
-  chosen_time : (b : Bool) (x : ℤ) (o : Option ℤ) → IsTime (Some x) → IsTime o → IsTime (chosen b x o)
-  chosen_time true x o h k = h
-  chosen_time false x o h k = k
-
-  chosen_size : (b : Bool) (x : ℤ) (o : Option ℤ) → IsSize (Some x) → IsSize o → IsSize (chosen b x o)
-  chosen_size true x o h k = h
-  chosen_size false x o h k = k
-
-  times_with : (x : ℤ) (s : Sides) → IsTime (Some x) → AreTimes s → AreTimes (with_number p x s)
-  times_with x s h k = (
-    chosen_time (p.rise && p.min) x s.rise_min h k.0,
-    chosen_time (p.rise && p.max) x s.rise_max h k.1,
-    chosen_time (p.fall && p.min) x s.fall_min h k.2,
-    chosen_time (p.fall && p.max) x s.fall_max h k.3,
-  )
-
-  sizes_with : (x : ℤ) (s : Sides) → IsSize (Some x) → AreSizes s → AreSizes (with_number p x s)
-  sizes_with x s h k = (
-    chosen_size (p.rise && p.min) x s.rise_min h k.0,
-    chosen_size (p.rise && p.max) x s.rise_max h k.1,
-    chosen_size (p.fall && p.min) x s.fall_min h k.2,
-    chosen_size (p.fall && p.max) x s.fall_max h k.3,
-  )
-
-changed_in_range : (c : Change) (s : PortSides) → IsChange c → AreInRange s → AreInRange (changed c s)
-changed_in_range (changes.InputDelay p x) s h k = record { input = times_with p x s.input h k.input; output = k.output; slew = k.slew; load = k.load }
-changed_in_range (changes.OutputDelay p x) s h k = record { input = k.input; output = times_with p x s.output h k.output; slew = k.slew; load = k.load }
-changed_in_range (changes.Slew p x) s h k = record { input = k.input; output = k.output; slew = sizes_with p x s.slew h k.slew; load = k.load }
-changed_in_range (changes.Load x) s h k = record { input = k.input; output = k.output; slew = k.slew; load = h }
-
-unset_in_range : AreInRange unset
-unset_in_range = record { input = (tt, tt, tt, tt); output = (tt, tt, tt, tt); slew = (tt, tt, tt, tt); load = (omega arith, omega arith) }
-
-or_unset_in_range : (o : Option PortSides) → IfSome o AreInRange → AreInRange (or_unset o)
-or_unset_in_range None h = unset_in_range
-or_unset_in_range (Some s) h = h
-
 module _ (nets : Nets) (clock : Option PortBit) (c : Change) (is : IsChange c) where
-  bit_in_range : (at : PortBit) (ps : Ports) → AllInRange ps → AllInRange (change_bit clock c at ps)
-  bit_in_range at ps h =
-      cond_both (is_input_delay c && is_clock clock at) ps (with_sides at (changed c (or_unset (found_sides at ps))) ps) AllInRange (λ e. h)
-      (λ e. entered_in_range ps at (changed c (or_unset (found_sides at ps))) h
-      (changed_in_range c (or_unset (found_sides at ps)) is (or_unset_in_range (found_sides at ps) (found_in_range at ps h))))
-
-  over_in_range : (f : ℕ → Ports → Ports) → ((i : ℕ) (ps : Ports) → AllInRange ps → AllInRange (f i ps)) → (n : ℕ) (ps : Ports) → AllInRange ps
-      → AllInRange (over_first f n ps)
-  over_in_range f g zero ps h = h
-  over_in_range f g (suc n) ps h = g n (over_first f n ps) (over_in_range f g n ps h)
-
-  bits_in_range : (b : Bits) (ps : Ports) → AllInRange ps → AllInRange (change_bits clock c b ps)
-  unfolding change_bits
-  bits_in_range b ps h =
-      over_in_range (λ i. change_bit clock c (record { decl = b.0; bit = bit_at b.1 b.2 i }))
-      (λ i qs k. bit_in_range (record { decl = b.0; bit = bit_at b.1 b.2 i }) qs k) (bit_count b.1 b.2) ps h
-
   found_changed : (o : Option Bits) (ps ps' : Ports) → AllInRange ps → change_found clock c o ps ≡ Ok ps' → AllInRange ps'
   found_changed None ps ps' h e = absurd (cc)
-  found_changed (Some b) ps ps' h e = let same : change_bits clock c b ps ≡ ps' = cc in subst AllInRange same (bits_in_range b ps h)
+  found_changed (Some b) ps ps' h e = let same : change_bits clock c b ps ≡ ps' = cc in subst AllInRange same (bits_in_range clock c is b ps h)
 
   names_by : (r : Result Ports Code) (names : List Text) (ps' : Ports) → ((qs : Ports) → r ≡ Ok qs → AllInRange qs)
       → ((qs : Ports) → AllInRange qs → change_names nets clock c names qs ≡ Ok ps' → AllInRange ps')
@@ -136,14 +81,10 @@ module _ (nets : Nets) (clock : Option PortBit) (c : Change) (is : IsChange c) w
       names_by (change_found clock c (named_bits (role_for c) nets name) ps) names ps'
       (λ qs at. found_changed (named_bits (role_for c) nets name) ps qs h at) (λ qs k at. names_changed names qs ps' k at) e
 
-  if_in_range : (o : Option Bits) (ps : Ports) → AllInRange ps → AllInRange (change_if clock c o ps)
-  if_in_range None ps h = h
-  if_in_range (Some b) ps h = bits_in_range b ps h
-
   all_in_range : (ps : Ports) → AllInRange ps → AllInRange (change_all nets clock c ps)
   unfolding change_all
   all_in_range ps h =
-      over_in_range (λ i. change_if clock c (net_bits (role_for c) nets i)) (λ i qs k. if_in_range (net_bits (role_for c) nets i) qs k) (length nets) ps h
+      over_in_range (λ i. change_if clock c (net_bits (role_for c) nets i)) (λ i qs k. if_in_range clock c is (net_bits (role_for c) nets i) qs k) (length nets) ps h
 
   role_by : (a b : Bool) (ps ps' : Ports) → AllInRange ps → (if a then Ok (change_all nets clock c ps) else if b then Err C6 else Ok ps) ≡ Ok ps' → AllInRange ps'
   role_by true b ps ps' h e = let same : change_all nets clock c ps ≡ ps' = cc in subst AllInRange same (all_in_range ps h)

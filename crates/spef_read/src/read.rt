@@ -11,6 +11,7 @@ use crate::forms::{is_done, read_form, refused};
 use crate::parasitics::Parasitics;
 use crate::sort::Sort;
 use crate::state::Progress;
+use name_numbers::TextKey;
 use std::alloc::Global;
 use text_forms::{Terms, tokens_refused};
 use xt_lex::{MOST_BYTES, Rules, TextFault};
@@ -71,7 +72,7 @@ pub fn read_spef(alloc: Global, bytes: &[u8]) -> Result<Parasitics, TextFault>
     if let Some(refused) = tokens_refused(bytes, Rules::Spef, Code::S1, Code::S2) {
         return Err(TextFault::from(refused));
     }
-    let mut state = Progress::new(alloc);
+    let mut state = Progress::new(alloc, TextKey::of(bytes));
     read_all(alloc, &mut Terms::new(bytes, Rules::Spef), &mut state)?;
     Ok(state.into_parasitics())
 }

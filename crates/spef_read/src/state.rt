@@ -15,7 +15,7 @@ use crate::names::{MapName, pair_name, whole_name};
 use crate::parasitics::{CapText, Name, Parasitics, ResText, WireText};
 use crate::values::{unit_power, value_of};
 use crate::words::without_zeros;
-use name_numbers::{NameTable, Named};
+use name_numbers::{NameTable, Named, TextKey};
 use std::alloc::Global;
 use std::marker::Model;
 use text_forms::Stop;
@@ -101,8 +101,8 @@ fn are_brackets(left: u8, right: u8) -> bool
 }
 
 impl<'a> Progress<'a> {
-    /// Nothing read.
-    pub fn new(alloc: Global) -> Progress<'a>
+    /// Nothing read of the text with this key.
+    pub fn new(alloc: Global, key: TextKey) -> Progress<'a>
         ensures { result ≡ nothing }
     {
         let first = Name { number: 0 };
@@ -117,9 +117,9 @@ impl<'a> Progress<'a> {
             power: 0,
             cap_scale: None,
             res_scale: None,
-            map: Named::new(alloc),
+            map: Named::new(alloc, key),
             index: b"",
-            names: NameTable::new(alloc),
+            names: NameTable::new(alloc, key),
             nets: Vec::new(alloc),
             net: first,
             total: 0,

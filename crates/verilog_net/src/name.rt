@@ -4,15 +4,16 @@ ghost use Rattle.std.specs.Prelude.{◌≡◌};
 
 use std::alloc::{AllocError, Global};
 use std::marker::Model;
+use std::rc::Rc;
 
 /// So many bytes stand in the name itself.
 const SHORT: usize = 14;
 
-/// The bytes of a name. Most names are short, and take no memory beside the value.
+/// The bytes of a name. Most names are short, and take no memory beside the value; those of a long one can be shared.
 #[derive(Debug, Drop)]
 enum Bytes {
     Short { used: u8, buffer: [u8; SHORT] },
-    Long(Box<Vec<u8>>),
+    Long(Rc<Vec<u8>>),
 }
 
 /// A name of a netlist: its bytes, an escaped one's without the backslash.
@@ -33,7 +34,7 @@ impl Model for Name {
 }
 
 impl Name {
-    ghost use Rattle.std.specs.Prelude.{IfOk};
+    ghost use Rattle.std.specs.Prelude.{[], IfOk};
 
     /// A name of these bytes.
     pub fn copied(alloc: Global, bytes: &[u8]) -> Result<Name, AllocError>
@@ -49,10 +50,36 @@ impl Name {
                 },
             });
         }
-        let long = Box::new(alloc, Vec::from_slice(alloc, bytes)?)?;
+        let long = Rc::new(alloc, Vec::from_slice(alloc, bytes)?)?;
         Ok(Name {
             bytes: Bytes::Long(long),
         })
+    }
+
+    /// A name of no byte.
+    pub(crate) fn empty() -> Name
+        ensures { result ≡ [] }
+    {
+        Name {
+            bytes: Bytes::Short {
+                used: 0,
+                buffer: [0; SHORT],
+            },
+        }
+    }
+
+    /// Another name of the same bytes. Those of a long name are kept once for both.
+    pub(crate) fn shared(&self) -> Result<Name, AllocError>
+        ensures { IfOk result (λ n. n ≡ self.now) }
+    {
+        let bytes = match &self.bytes {
+            Bytes::Short { used, buffer } => Bytes::Short {
+                used: *used,
+                buffer: *buffer,
+            },
+            Bytes::Long(long) => Bytes::Long(long.clone()?),
+        };
+        Ok(Name { bytes })
     }
 
     /// The bytes of the name.

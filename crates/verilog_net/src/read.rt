@@ -11,6 +11,7 @@ use crate::forms::{is_done, read_form, refused};
 use crate::netlist::{Modules, Netlist};
 use crate::sort::Sort;
 use crate::state::Progress;
+use name_numbers::TextKey;
 use std::alloc::Global;
 use text_forms::{Terms, tokens_refused};
 use xt_lex::{MOST_BYTES, Rules, TextFault};
@@ -60,7 +61,7 @@ fn modules(alloc: Global, single: bool, bytes: &[u8]) -> Result<Vec<Netlist>, Te
     if let Some(refused) = tokens_refused(bytes, Rules::Verilog, Code::V1, Code::V2) {
         return Err(TextFault::from(refused));
     }
-    let mut state = Progress::new(alloc, single);
+    let mut state = Progress::new(alloc, TextKey::of(bytes), single);
     let read = read_all(alloc, &mut Terms::new(bytes, Rules::Verilog), &mut state);
     // What is left of the state is dropped here alone, whatever was read.
     let ended = state.into_ended();

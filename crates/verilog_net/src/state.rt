@@ -14,7 +14,7 @@ use crate::item::Item;
 use crate::name::Name;
 use crate::netlist::{Instance, Net, Netlist, PortRole, Wire};
 use crate::nets::{has_bit, has_bit_net, is_port, named_bit, note_net, number_of, same_range};
-use name_numbers::{NameTable, Named, Names};
+use name_numbers::{NameTable, Named, Names, TextKey};
 use std::alloc::Global;
 use std::marker::Model;
 use std::mem;
@@ -27,6 +27,7 @@ const FEW_NAMES: usize = 16;
 /// What the forms of a netlist said so far.
 #[derive(Drop)]
 pub struct Progress<'a> {
+    key: TextKey,
     single: bool,
     ended: Vec<Netlist>,
     modules: Names<'a>,
@@ -39,7 +40,7 @@ pub struct Progress<'a> {
     role: PortRole,
     left: u32,
     range: Option<(u32, u32)>,
-    cell: &'a [u8],
+    cell: Name,
     instance: &'a [u8],
     line: u32,
     pin_names: Names<'a>,
@@ -66,7 +67,7 @@ impl<'a> Model for Progress<'a> {
       role = s.role;
       left = s.left;
       range = s.range;
-      cell = s.cell.now;
+      cell = s.cell;
       instance = s.instance.now;
       line = s.line;
       pin_names = s.pin_names;
@@ -90,27 +91,29 @@ fn are_ports(nets: &NameTable<Net>, names: &[&[u8]]) -> bool
 }
 
 impl<'a> Progress<'a> {
-    /// Nothing read. `single` says whether one module alone is admitted, and no whole bus as a connection.
-    pub fn new(alloc: Global, single: bool) -> Progress<'a>
+    /// Nothing read of the text with this key. `single` says whether one module alone is admitted, and no whole bus as
+    /// a connection.
+    pub fn new(alloc: Global, key: TextKey, single: bool) -> Progress<'a>
         ensures { result ≡ nothing single }
     {
         Progress {
+            key,
             single,
             ended: Vec::new(alloc),
-            modules: Names::new(alloc),
+            modules: Names::new(alloc, key),
             current: b"",
             header: Vec::new(alloc),
-            nets: NameTable::new(alloc),
-            bit_nets: Named::new(alloc),
-            instance_names: Names::new(alloc),
+            nets: NameTable::new(alloc, key),
+            bit_nets: Named::new(alloc, key),
+            instance_names: Names::new(alloc, key),
             instances: Vec::new(alloc),
             role: PortRole::Inner,
             left: 0,
             range: None,
-            cell: b"",
+            cell: Name::empty(),
             instance: b"",
             line: 0,
-            pin_names: Names::new(alloc),
+            pin_names: Names::new(alloc, key),
             pins: Vec::new(alloc),
             pin: b"",
         }
@@ -138,8 +141,8 @@ impl<'a> Progress<'a> {
         }
         self.current = name;
         self.header = Vec::new(alloc);
-        let _ = mem::replace(&mut self.bit_nets, Named::new(alloc));
-        let _ = mem::replace(&mut self.instance_names, Names::new(alloc));
+        let _ = mem::replace(&mut self.bit_nets, Named::new(alloc, self.key));
+        let _ = mem::replace(&mut self.instance_names, Names::new(alloc, self.key));
         Ok(())
     }
 
@@ -160,7 +163,7 @@ impl<'a> Progress<'a> {
             return Err(Stop::Refused(Code::V4));
         }
         let module = Name::copied(alloc, self.current)?;
-        let nets = mem::replace(&mut self.nets, NameTable::new(alloc));
+        let nets = mem::replace(&mut self.nets, NameTable::new(alloc, self.key));
         let instances = mem::replace(&mut self.instances, Vec::new(alloc));
         self.ended.push(Netlist {
             module,
@@ -276,7 +279,7 @@ impl<'a> Progress<'a> {
         ensures { self.new ≡ record self.old { pin_names = [] } }
     {
         if self.pin_names.len() > FEW_NAMES {
-            let _ = mem::replace(&mut self.pin_names, Names::new(alloc));
+            let _ = mem::replace(&mut self.pin_names, Names::new(alloc, self.key));
         } else {
             self.pin_names.clear();
         }
@@ -292,7 +295,7 @@ impl<'a> Progress<'a> {
     ) -> Result<(), Stop>
         ensures { Changes result self.new (begin_instance cell.entry.now name.entry.now line self.old) }
     {
-        self.cell = cell;
+        self.cell = Name::copied(alloc, cell)?;
         self.begin_further(alloc, name, line)
     }
 
@@ -370,7 +373,8 @@ impl<'a> Progress<'a> {
     fn end_instance(&mut self, alloc: Global) -> Result<(), Stop>
         ensures { Changes result self.new (Ok (end_instance self.old)) }
     {
-        let cell = Name::copied(alloc, self.cell)?;
+        // Its bytes are kept once for all instances of a statement.
+        let cell = self.cell.shared()?;
         let name = Name::copied(alloc, self.instance)?;
         // A list of just their number: to shrink the other one would leave a hole behind each instance.
         let mut pins = Vec::with_capacity(alloc, self.pins.len())?;

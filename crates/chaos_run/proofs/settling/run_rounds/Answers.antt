@@ -10,7 +10,7 @@ use Rattle.chaos_core.proofs.Settling.{closed_from, run_nearer}
 use Rattle.window_words.specs.declared.view.View.{View}
 use Rattle.window_words.specs.Boards.{IsAlone}
 use Rattle.chaos_run.proofs.Looked.{some_nets}
-use Rattle.chaos_run.proofs.Turned.{turn_carries, turn_made, turn_more, turns_few, turns_fewer, made_more, none_made, closed_extreme}
+use Rattle.chaos_run.proofs.Turned.{turn_carries, turn_made, turn_more, turns_few, turns_fewer, turns_of, made_more, none_made, closed_extreme}
 use Rattle.chaos_run.proofs.settling.run_rounds.Goals as goal
 
 pub prove-unreachable-requires : goal.prove-unreachable-requires
@@ -86,3 +86,6 @@ returns-clause-closed g c =
 pub returns-clause-few : goal.returns-clause-few
 returns-clause-few g c = λ bound b.
     turns_few c.args.run.now.board.now.setting c.args.run.now.design.now c.rounds.rounds bound c.args.first.now.view.seen c.rounds.first.view.seen c.requires.run.design c.look-done.ensures.kept c.rounds.invariant.steps b
+
+pub returns-clause-turns : goal.returns-clause-turns
+returns-clause-turns g c = turns_of c.args.run.now.board.now.setting c.rounds.rounds c.args.first.now.view.seen c.rounds.first.view.seen c.rounds.invariant.steps

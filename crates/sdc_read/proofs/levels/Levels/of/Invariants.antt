@@ -1,0 +1,9 @@
+use Rattle.std.proofs.Common.{◌≡◌, ◌≤◌, length, drop}
+use Rattle.sdc_read.specs.Levels.{levels_of}
+use Rattle.sdc_read.proofs.levels.Levels.of.Given as goal
+
+abbrev pub invariant-said : goal.invariant-said
+invariant-said l = (l.levels ≡ levels_of l.nets (drop l.place l.said)) × (l.place ≤ length l.said)
+
+abbrev pub decreases-said : goal.decreases-said
+decreases-said l = l.place
