@@ -38,6 +38,7 @@ PLANTS = [
     ("xtalk", "    xtalk link LIB", "    xtalk join LIB", "README.md:1: has no usage line: xtalk join LIB"),
     ("docs/xtalk.1", "\\fBxtalk link\\fP", "\\fBxtalk join\\fP", "docs/xtalk.1:1: has no usage line: xtalk link"),
     ("tools/xtalk.bash", "--miller", "--muller", "has no option --miller"),
+    ("bench/run", '"hostile": ', '"hostel": ', "does not list hostile.py"),
     ("examples/one.report", None, None, "examples/one.xt:1: has no report beside it"),
     ("crates/xtalk_cli/data/cross.xt", "1000", "1001", "is not examples/cross.xt"),
 ]

@@ -13,7 +13,8 @@ It prints a line for each finding and ends with status 1 if there is one; else i
 - modules of proofs that another crate imports and that docs/MAP.md does not list for it, and listed ones that are gone;
 - docs/crates.svg where crates.txt has changed, and the pictures of windows where their report has;
 - a usage line that README.md, docs/FORMATS.md, docs/xtalk.1 or the completion does not have as the launcher does;
-- texts of examples/ without a report, and stored runs that are not the example of their name.
+- texts of examples/ without a report, and stored runs that are not the example of their name;
+- scripts of bench/ that bench/run does not list.
 """
 import os
 import re
@@ -275,6 +276,14 @@ def check_examples():
                 find(report, 1, f"is not the stored run of {crate.name}")
 
 
+def check_bench():
+    run = TOP / "bench/run"
+    listed = re.findall(r'^    "(\w+)": \(', run.read_text(encoding="utf-8"), re.MULTILINE)
+    for script in (TOP / "bench").glob("*.py"):
+        if script.stem not in listed:
+            find(run, 1, f"does not list {script.name}")
+
+
 def main():
     if len(sys.argv) > 1:
         print(__doc__)
@@ -293,6 +302,7 @@ def main():
     check_pictures()
     check_usage()
     check_examples()
+    check_bench()
     print("".join(f"check_docs: {finding}\n" for finding in findings), end="", file=sys.stderr)
     sys.exit(bool(findings))
 
