@@ -9,6 +9,7 @@ mod guilty;
 mod paths;
 mod points;
 mod report;
+mod sections;
 mod size;
 mod summary;
 mod unconstrained;

@@ -15,4 +15,4 @@ returns c =
     (field_then _ _ _ _ _ _ _ refl c.in_ok-push_word-4.ensures
     (field_then _ _ _ _ _ _ _ refl c.in_ok-push_number-4.ensures
     (field_then _ _ _ _ _ _ _ refl c.in_ok-push_word-5.ensures
-    (field_last _ _ _ _ _ (ap decimal (bound_is c.args.design.now.nets c.args.pairs c.args.levels c.bound.result c.requires.pairs c.requires.levels c.bound.ensures)) c.in_ok-push_number-5.ensures)))))))))
+    (field_last _ _ _ _ _ (ap decimal (bound_is c.args.design.now.nets c.args.pairs c.args.levels c.bound.result c.requires.pairs c.requires.levels c.bound.ensures.value)) c.in_ok-push_number-5.ensures)))))))))
