@@ -1,8 +1,9 @@
 -- The pieces of a report make up its text.
-use Rattle.std.proofs.Common.{◌≡◌, ℕ, ◌+◌, ◌<◌, Bool, true, false, List, [], ◌∷◌, ◌++◌, length, drop, get_or, map, codes, refl, append_assoc, Some}
+use Rattle.std.proofs.Common.{◌≡◌, ℕ, ◌+◌, ◌<◌, ◌≤◌, Bool, true, false, List, [], ◌∷◌, ◌++◌, length, drop, take, get_or, map, codes, refl, sym, ap, subst, ◌∙◌, append_assoc, append-nil, Some}
 use Rattle.std.specs.Prelude.{if◌then◌else◌}
 use Rattle.std.specs.List.{slice_get}
 use Rattle.std.proofs.lemmas.Grind.{flat_map-append}
+use Rattle.std.proofs.lemmas.List.{take_more, take_all}
 use Rattle.std.proofs.lemmas.Option.{slice_get-get_or}
 use Rattle.xt_model.specs.declared.edge.Edge.{Edge}
 use Rattle.xt_model.specs.declared.quad.Quad.{Quad}
@@ -14,7 +15,9 @@ use Rattle.text_lines.specs.Lines.{Line, line_text, text_of}
 use Rattle.text_lines.specs.Words.{edge_word}
 use Rattle.aggressor_report.specs.declared.guilt.Guilt.{Guilt}
 use Rattle.aggressor_report.proofs.Turns.{turn}
+use Rattle.report_text.specs.declared.kind.Section.{Section}
 use Rattle.report_text.specs.Report.{window_line, window_lines, is_unconstrained, unconstrained_lines, guilty_line}
+use Rattle.report_text.specs.Report.{Appends, AreSections, IsSection, end_lines}
 use Rattle.report_text.specs.Names.{name_or_nothing}
 use Rattle.report_text.specs.Fields.{quad_text}
 use Rattle.text_lines.specs.Fields.{field}
@@ -53,11 +56,36 @@ pub entries_turn : (d : Parts) (entries : List Guilt) (i : ℕ) (x : Guilt) (o p
 entries_turn d entries i x o p whole within appended h =
     turn (λ _ gs. text_of (map (guilty_line d) gs)) (λ _ g. line_text (guilty_line d g)) (entries_next d) entries i (get_or entries i x) o p whole (slice_get-get_or entries i x within) appended h
 
--- all lines, piece by piece
-pub report_pieces : (o p q r m s t u c v : List ℕ) (title size clock : Line) (miller windows unconstrained guilty checked : List Line)
-    → p ≡ o ++ line_text title → q ≡ p ++ line_text size → r ≡ q ++ line_text clock → m ≡ r ++ text_of miller → s ≡ m ++ text_of windows → t ≡ s ++ text_of unconstrained
-    → u ≡ t ++ text_of guilty → c ≡ u ++ text_of checked → v ≡ c ++ field (codes "end") 10
-    → v ≡ o ++ text_of (title ∷ size ∷ clock ∷ (miller ++ (windows ++ (unconstrained ++ (guilty ++ (checked ++ ((codes "end" ∷ []) ∷ [])))))))
+-- ---- the lines of a report, piece by piece
+
+pub head_pieces : (o p q r m : List ℕ) (title size clock : Line) (miller : List Line)
+    → p ≡ o ++ line_text title → q ≡ p ++ line_text size → r ≡ q ++ line_text clock → m ≡ r ++ text_of miller
+    → m ≡ o ++ text_of (title ∷ size ∷ clock ∷ miller)
+head_pieces o p q r m title size clock miller e1 e2 e3 e4 = rw (e4, e3, e2, e1) (simp append_assoc)
+
+pub report_pieces : (o p q r : List ℕ) (head sections : List Line) → o ≡ [] → p ≡ o ++ text_of head → q ≡ p ++ text_of sections → r ≡ q ++ field (codes "end") 10
+    → r ≡ text_of (head ++ (sections ++ end_lines))
 unfolding field
-report_pieces o p q r m s t u c v title size clock miller windows unconstrained guilty checked e1 e2 e3 e4 e5 e6 e7 e8 e9 =
-    rw (e9, e8, e7, e6, e5, e4, e3, e2, e1) (simp (flat_map-append, append_assoc))
+report_pieces o p q r head sections e0 e1 e2 e3 = rw (e3, e2, e1, e0) (simp (flat_map-append, append_assoc))
+
+-- ---- sections, one after another
+
+module _ (d : Parts) (low high : List Pair) where
+  pub no_sections : (o : List ℕ) (ss : List Section) → Appends (AreSections (take 0 ss) d low high) o o
+  no_sections o ss = ([], refl, sym (append-nil o))
+
+  joined : (ss : List Section) (s : Section) (lines own : List Line) → AreSections ss d low high lines → IsSection s d low high own → AreSections (ss ++ s ∷ []) d low high (lines ++ own)
+  joined [] s lines own e is = (own, [], is, refl, ap (λ ls. ls ++ own) e ∙ sym (append-nil own))
+  joined (x ∷ ss) s lines own (first, others, is_first, are, e) is =
+      (first, others ++ own, is_first, joined ss s others own are is, ap (λ ls. ls ++ own) e ∙ append_assoc first others own)
+
+  pub one_more_section : (ss : List Section) (i : ℕ) (x : Section) (o p q : List ℕ) → i < length ss
+      → Appends (AreSections (take i ss) d low high) o p → Appends (IsSection (get_or ss i x) d low high) p q → Appends (AreSections (take (i + 1) ss) d low high) o q
+  one_more_section ss i x o p q within (lines, are, e) (own, is, f) = (
+    lines ++ own,
+    subst (λ t. AreSections t d low high (lines ++ own)) (sym (take_more ss i x within)) (joined (take i ss) (get_or ss i x) lines own are is),
+    rw (f, e) (simp (flat_map-append, append_assoc)),
+  )
+
+  pub all_sections : (ss : List Section) (i : ℕ) (o p : List ℕ) → length ss ≤ i → Appends (AreSections (take i ss) d low high) o p → Appends (AreSections ss d low high) o p
+  all_sections ss i o p past h = subst (λ t. Appends (AreSections t d low high) o p) (take_all i ss past) h

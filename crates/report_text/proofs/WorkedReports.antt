@@ -1,5 +1,5 @@
 -- The reports of three small designs, one of them with other Miller numbers too and one with checks, written out by hand.
-use Rattle.std.specs.Prelude.{◌≡◌, refl, ℕ, true, false, List, [], ◌∷◌, ◌++◌, codes, ℤ, pos, Some, None}
+use Rattle.std.specs.Prelude.{◌≡◌, refl, ℕ, true, false, List, [], ◌∷◌, ◌++◌, map, codes, ℤ, pos, Some, None}
 use Rattle.std.specs.Fmt.{digits}
 use Rattle.std.specs.List.{flat_map}
 use Rattle.xt_model.specs.declared.quad.Pair.{Pair}
@@ -10,11 +10,32 @@ use Rattle.xt_model.specs.Miller.{classical}
 use Rattle.xt_model.proofs.WorkedDesigns.{cross, cross_windows, load_pair, on_rise, pair_low, pair_high, pair_windows, quad, source}
 use Rattle.slack_report.specs.Slacks.{slacks}
 use Rattle.xt_number.specs.Thousandths.{thousandths}
-use Rattle.text_lines.specs.Lines.{text_of}
+use Rattle.text_lines.specs.Lines.{Line, text_of}
+use Rattle.text_lines.specs.Miller.{miller_lines}
+use Rattle.aggressor_report.specs.Guilt.{guilty}
 use Rattle.report_text.specs.declared.kind.ReportKind.TheVariants.{All, Checks}
 use Rattle.report_text.specs.declared.checked.Checked.{Checked}
 use Rattle.report_text.specs.declared.worst.WorstPath.{WorstPath}
-use Rattle.report_text.specs.Report.{report}
+use Rattle.report_text.specs.Worst.{IsChecked}
+use Rattle.report_text.specs.Report.{AreSections, sections_of, title_line, size_line, clock_line, window_lines, unconstrained_lines, guilty_line, checked_lines, end_lines}
+
+-- a report of all sections, by the lines of each
+abbrev all_sections : Parts → List Pair → List Pair → Checked → List Line
+all_sections d low high checked =
+    window_lines low high 0 d.nets ++ (unconstrained_lines d.nets ++ (map (guilty_line d) (guilty d low high) ++ (checked_lines d checked ++ [])))
+
+are_all_sections : (d : Parts) (low high : List Pair) (checked : Checked) → IsChecked d low high checked → AreSections (sections_of All) d low high (all_sections d low high checked)
+are_all_sections d low high checked is = (_, _, refl, (_, _, refl, (_, _, refl, (_, [], (checked, is, refl), refl, refl), refl), refl), refl)
+
+-- and one of the checks alone
+abbrev check_sections : Parts → Checked → List Line
+check_sections d checked = unconstrained_lines d.nets ++ (checked_lines d checked ++ [])
+
+are_check_sections : (d : Parts) (low high : List Pair) (checked : Checked) → IsChecked d low high checked → AreSections (sections_of Checks) d low high (check_sections d checked)
+are_check_sections d low high checked is = (_, _, refl, (_, [], (checked, is, refl), refl, refl), refl)
+
+abbrev report : Parts → ℕ → ℕ → List Line → List Line
+report d pairs depth sections = (title_line ∷ size_line d pairs depth ∷ clock_line d ∷ miller_lines d.miller) ++ (sections ++ end_lines)
 
 -- no checks
 abbrev unchecked : Checked
@@ -24,7 +45,7 @@ unchecked = record { slacks = []; setup = None; hold = None }
 abbrev lines : List (List ℕ) → List ℕ
 lines ls = flat_map (λ l. l ++ 10 ∷ []) ls
 
-cross_report : text_of (report All cross 2 2 (cross_windows (pos 1700)) (cross_windows (pos 1500)) unchecked) ≡ lines (
+cross_report : text_of (report cross 2 2 (all_sections cross (cross_windows (pos 1700)) (cross_windows (pos 1500)) unchecked)) ≡ lines (
     (codes "xtalk 1") ∷
     (codes "nets 4 couplings 2 pairs 2 levels 2 bound 18") ∷
     (codes "period none") ∷
@@ -42,7 +63,7 @@ cross_report : text_of (report All cross 2 2 (cross_windows (pos 1700)) (cross_w
 unfolding thousandths digits
 cross_report = refl
 
-pair_report : text_of (report All (load_pair (pos 100)) 1 2 pair_low pair_high unchecked) ≡ lines (
+pair_report : text_of (report (load_pair (pos 100)) 1 2 (all_sections (load_pair (pos 100)) pair_low pair_high unchecked)) ≡ lines (
     (codes "xtalk 1") ∷
     (codes "nets 4 couplings 2 pairs 1 levels 2 bound 10") ∷
     (codes "period none") ∷
@@ -68,7 +89,7 @@ thrice = record (load_pair (pos 100)) { miller = record { low = 0; mid = 4; high
 abbrev thrice_high : List Pair
 thrice_high = pair_windows (pos 100) (quad (pos 1000) (pos 1400) (pos 0) (pos 0)) (quad (pos 1100) (pos 1500) (pos 0) (pos 0))
 
-thrice_report : text_of (report All thrice 1 2 pair_low thrice_high unchecked) ≡ lines (
+thrice_report : text_of (report thrice 1 2 (all_sections thrice pair_low thrice_high unchecked)) ≡ lines (
     (codes "xtalk 1") ∷
     (codes "nets 4 couplings 2 pairs 1 levels 2 bound 10") ∷
     (codes "period none") ∷
@@ -87,7 +108,7 @@ thrice_report : text_of (report All thrice 1 2 pair_low thrice_high unchecked) �
 unfolding thousandths digits
 thrice_report = refl
 
-thrice_checks : text_of (report Checks thrice 1 2 pair_low thrice_high unchecked) ≡ lines (
+thrice_checks : text_of (report thrice 1 2 (check_sections thrice unchecked)) ≡ lines (
     (codes "xtalk 1") ∷
     (codes "nets 4 couplings 2 pairs 1 levels 2 bound 10") ∷
     (codes "period none") ∷
@@ -128,7 +149,7 @@ port_checks = record {
   hold = Some (port_path 1 (pos 1102) (pos 1000));
 }
 
-port_report : text_of (report All ports 0 1 port_windows port_windows port_checks) ≡ lines (
+port_report : text_of (report ports 0 1 (all_sections ports port_windows port_windows port_checks)) ≡ lines (
     (codes "xtalk 1") ∷
     (codes "nets 1 couplings 0 pairs 0 levels 1 bound 1") ∷
     (codes "period 10.000") ∷

@@ -25,6 +25,8 @@ use Rattle.aggressor_report.specs.Guilt.{coupling_of, guilty}
 use Rattle.report_text.specs.declared.checked.Checked.{Checked}
 use Rattle.report_text.specs.declared.kind.ReportKind.{ReportKind}
 use Rattle.report_text.specs.declared.kind.ReportKind.TheVariants.{All, Checks}
+use Rattle.report_text.specs.declared.kind.Section.{Section}
+use Rattle.report_text.specs.declared.kind.Section.TheVariants as section
 use Rattle.report_text.specs.Names.{name_at}
 use Rattle.report_text.specs.Checks.{check_lines}
 use Rattle.report_text.specs.Worst.{IsChecked}
@@ -92,34 +94,54 @@ coupling_line d g (Some k) =
 abbrev pub guilty_line : Parts → Guilt → Line
 guilty_line d g = coupling_line d g (coupling_of d g)
 
--- lines that a report of the checks alone leaves out
-abbrev pub unless_checks : ReportKind → List Line → List Line
-unless_checks All lines = lines
-unless_checks Checks lines = []
-
 -- the lines on checks, and on the worst of each kind
 abbrev pub checked_lines : Parts → Checked → List Line
 checked_lines d c = check_lines d c.slacks ++ (worst_lines d c.setup ++ worst_lines d c.hold)
 
--- the lines of a report; one of the checks alone has no windows and no couplings
-abbrev pub report : ReportKind → Parts → ℕ → ℕ → List Pair → List Pair → Checked → List Line
-report kind d pairs depth low high checked =
-    title_line ∷ size_line d pairs depth ∷ clock_line d
-    ∷ (miller_lines d.miller
-    ++ (unless_checks kind (window_lines low high 0 d.nets)
-    ++ (unconstrained_lines d.nets
-    ++ (unless_checks kind (map (guilty_line d) (guilty d low high))
-    ++ (checked_lines d checked ++ ((codes "end" ∷ []) ∷ []))))))
+-- ---- the sections of a report
+
+-- what a report of each kind has, in this order; one of the checks alone has no windows and no couplings
+abbrev pub sections_of : ReportKind → List Section
+sections_of All = section.Windows ∷ section.Unconstrained ∷ section.Guilty ∷ section.Checks ∷ []
+sections_of Checks = section.Unconstrained ∷ section.Checks ∷ []
+
+-- these are the lines of a section, for these least and greatest windows
+abbrev pub IsSection : Section → Parts → List Pair → List Pair → List Line → Type 0
+IsSection section.Windows d low high lines = lines ≡ window_lines low high 0 d.nets
+IsSection section.Unconstrained d low high lines = lines ≡ unconstrained_lines d.nets
+IsSection section.Guilty d low high lines = lines ≡ map (guilty_line d) (guilty d low high)
+IsSection section.Checks d low high lines =
+    (checked : Checked) × IsChecked d low high checked × (lines ≡ checked_lines d checked)
+
+-- these are the lines of sections, one section after another
+abbrev pub AreSections : List Section → Parts → List Pair → List Pair → List Line → Type 0
+AreSections [] d low high lines = lines ≡ []
+AreSections (first ∷ more) d low high lines =
+    (own others : List Line) × IsSection first d low high own × AreSections more d low high others
+    × (lines ≡ own ++ others)
+
+-- the lines that every report begins with: the format, the design's size, its period and its Miller numbers
+pub record IsHead (d : Parts) (lines : List Line) : Type 0 where
+  pub pairs : ℕ
+  pub depth : ℕ
+  pub is_pairs : IsPairCount d.nets pairs
+  pub is_depth : IsDepth d.nets depth
+  pub written : lines ≡ title_line ∷ size_line d pairs depth ∷ clock_line d ∷ miller_lines d.miller
+
+abbrev pub end_lines : List Line
+end_lines = (codes "end" ∷ []) ∷ []
 
 -- the text is the report of this kind of a design and these least and greatest windows
 pub record IsReportOf (kind : ReportKind) (d : Parts) (low high : List Pair) (text : List ℕ) : Type 0 where
-  pub pairs : ℕ
-  pub depth : ℕ
-  pub checked : Checked
-  pub is_pairs : IsPairCount d.nets pairs
-  pub is_depth : IsDepth d.nets depth
-  pub is_checked : IsChecked d low high checked
-  pub written : text ≡ text_of (report kind d pairs depth low high checked)
+  pub head : List Line
+  pub sections : List Line
+  pub is_head : IsHead d head
+  pub are_sections : AreSections (sections_of kind) d low high sections
+  pub written : text ≡ text_of (head ++ (sections ++ end_lines))
+
+-- some such lines were appended to a text
+abbrev pub Appends : (List Line → Type 0) → List ℕ → List ℕ → Type 0
+Appends Are before after = (lines : List Line) × Are lines × (after ≡ before ++ text_of lines)
 
 -- the text is the report of this kind of the design's least and greatest fixpoint
 pub record IsReport (kind : ReportKind) (d : Parts) (text : List ℕ) : Type 0 where

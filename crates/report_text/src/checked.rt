@@ -9,7 +9,8 @@ ghost use Rattle.xt_meaning.specs.Operator.{step};
 ghost use Rattle.text_lines.specs.Lines.{text_of};
 ghost use Rattle.report_text.specs.Worst.{IsChecked};
 ghost use Rattle.report_text.specs.Paths.{AreOfDesign};
-ghost use Rattle.report_text.specs.Report.{checked_lines};
+ghost use Rattle.report_text.specs.Report.{Appends, IsSection, checked_lines};
+ghost use Rattle.report_text.specs.declared.kind.Section.TheVariants.{Checks};
 
 use crate::checks::push_checks;
 use crate::paths::push_worst_path;
@@ -53,13 +54,34 @@ impl Checked {
     }
 }
 
-/// Appends the lines on checks, and on the worst of each kind.
-pub fn push_checked(out: &mut Vec<u8>, design: &Design, checked: &Checked) -> Result<(), AllocError>
+// Appends the lines on these checks, and on the worst of each kind.
+fn push_lines(out: &mut Vec<u8>, design: &Design, checked: &Checked) -> Result<(), AllocError>
     requires { AreOfDesign design.now checked.now }
     ensures { OnOk result (out.new.items ≡ out.old.items ++ text_of (checked_lines design.now checked.now)) }
 {
     push_checks(out, design, checked.slacks.as_slice())?;
     push_worst_path(out, design, &checked.setup)?;
     push_worst_path(out, design, &checked.hold)?;
+    Ok(())
+}
+
+/// Appends the lines on the checks of a design in its least and its greatest windows, and on the worst of each kind.
+pub fn push_checked(
+    out: &mut Vec<u8>,
+    alloc: Global,
+    design: &Design,
+    low: &Windows,
+    high: &Windows,
+) -> Result<(), NoMemory>
+    requires low_count { length low.now ≡ length design.now.nets }
+    requires low_within { IsWithinEnvelope design.now low.now }
+    requires high_count { length high.now ≡ length design.now.nets }
+    requires high_within { IsWithinEnvelope design.now high.now }
+    requires closed { (n : ℕ) (e : Edge) → step design.now high.now n e ≡ assigned high.now n e }
+    ensures { let IsOwn = IsSection Checks design.now low.now high.now in
+        OnOk result (Appends IsOwn out.old.items out.new.items) }
+{
+    let checked = Checked::of(alloc, design, low, high)?;
+    push_lines(out, design, &checked)?;
     Ok(())
 }

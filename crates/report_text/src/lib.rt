@@ -10,6 +10,7 @@ mod kind;
 mod paths;
 mod points;
 mod report;
+mod sections;
 mod size;
 mod summary;
 mod unconstrained;
