@@ -30,8 +30,12 @@ pub struct Both {
     pub high_rounds: u64,
 }
 
-/// A run from a fitting start on words of its own: of several workers on a board that they share, of one in memory.
-fn settle_from<R: Threads + Sync, G: Gate>(
+/// A run of `workers` workers from a fitting start on words of its own: several run in threads of their own on a board
+/// that they share, and pass the gate in each round; one alone takes its turns on words in memory, and passes no gate.
+/// The windows are then the least fixpoint in widening and the greatest in narrowing, whatever the workers, and in
+/// narrowing all transitions that explain one another lie within them. The run makes no more rounds than the design's
+/// bound, and none just where its start is a fixpoint. Fails only for want of memory.
+pub fn settle_from<R: Threads + Sync, G: Gate>(
     rt: &R,
     alloc: Global,
     design: &Design,

@@ -7,5 +7,5 @@ mod round;
 mod settling;
 mod workers;
 
-pub use both::{Both, run_both};
+pub use both::{Both, run_both, settle_from};
 pub use settling::settle;
