@@ -1,9 +1,11 @@
 -- Marks of nets whose windows a round did not move.
-use Rattle.std.proofs.Common.{◌≡◌, ℕ, zero, suc, ◌<◌, ◌≤◌, sym, ap, subst, ◌∙◌, List, [], ◌∷◌, ◌++◌, length, get_or, Bool, false, arith}
+use Rattle.std.proofs.Common.{◌≡◌, ℕ, zero, suc, ◌+◌, ◌<◌, ◌≤◌, inl, inr, sym, ap, subst, ◌∙◌, List, [], ◌∷◌, ◌++◌, length, take, drop, get_or, set, Bool, false, arith}
 use Rattle.std.specs.Prelude.{IsTrue, Some, Option, slice_index}
 use Rattle.std.specs.List.{All, Contains, slice_get}
-use Rattle.std.proofs.lemmas.List.{get_or_default}
+use Rattle.std.proofs.lemmas.Bool.{cases_lt}
+use Rattle.std.proofs.lemmas.List.{get_or_default, get_or_past}
 use Rattle.std.proofs.lemmas.List.Elements.{Contains-get_or}
+use Rattle.std.proofs.Math.Seq.{take-append_seam}
 use Rattle.xt_model.specs.declared.direction.Direction.{Direction}
 use Rattle.xt_model.specs.declared.direction.Direction.TheVariants.{Widen, Narrow}
 use Rattle.xt_model.specs.declared.edge.Edge.{Edge}
@@ -29,11 +31,26 @@ use Rattle.chaos_core.proofs.Places.{no_lie, id_at, ids_count, nets_read, read_t
 use Rattle.chaos_core.proofs.Settling.{past_windows}
 
 -- ---- marks
-pub marks_more : (P : ℕ → Type 0) (marks : List Bool) (b : Bool) → ((n : ℕ) → IsTrue (get_or marks n false) → P n) → (IsTrue b → P (length marks)) → (n : ℕ) → IsTrue (get_or (marks ++ b ∷ []) n false) → P n
-marks_more P [] b h k zero t = k t
-marks_more P [] b h k (suc n) t = absurd (no_lie t)
-marks_more P (x ∷ marks) b h k zero t = h 0 t
-marks_more P (x ∷ marks) b h k (suc n) t = marks_more (λ i. P (suc i)) marks b (λ i u. h (suc i) u) k n t
+pub marks_set : (P : ℕ → Type 0) (marks : List Bool) (k : ℕ) (b : Bool) → k < length marks → ((n : ℕ) → n < k → IsTrue (get_or marks n false) → P n) → (IsTrue b → P k) → (n : ℕ) → n < suc k
+    → IsTrue (get_or (set marks k b) n false) → P n
+marks_set P [] k b there h t n below true = absurd (omega (arith, there))
+marks_set P (x ∷ marks) zero b there h t zero below true = t true
+marks_set P (x ∷ marks) zero b there h t (suc n) below true = absurd (omega (arith, below))
+marks_set P (x ∷ marks) (suc k) b there h t zero below true = h 0 (omega arith) true
+marks_set P (x ∷ marks) (suc k) b there h t (suc n) below true = marks_set (λ i. P (suc i)) marks k b (omega (arith, there)) (λ i u v. h (suc i) (omega (arith, u)) v) t n (omega (arith, below)) true
+
+-- no mark stands past the last
+pub marks_all : (P : ℕ → Type 0) (marks : List Bool) (k : ℕ) → length marks ≤ k → ((n : ℕ) → n < k → IsTrue (get_or marks n false) → P n) → (n : ℕ) → IsTrue (get_or marks n false) → P n
+marks_all P marks k all h n true = elim (cases_lt n k) [
+  | inl below ↦ h n below true
+  | inr past ↦ absurd (no_lie (subst IsTrue (get_or_past marks n false (omega (arith, all, past))) true))
+]
+
+-- marks that were handed out as a slice
+pub marks_back : (n : ℕ) (xs ys : List Bool) → n ≡ length xs → length ys ≡ length xs → length (take n (ys ++ drop (length ys) xs)) ≡ length xs
+marks_back n xs ys is same =
+    let P : ℕ → Type 0 = λ k. take k (ys ++ drop (length ys) xs) ≡ ys in
+    ap length (subst P (same ∙ sym is) (take-append_seam ys (drop (length ys) xs))) ∙ same
 
 pub same_pairs : (v w : List Pair) (n : ℕ) (p q : Pair) → slice_get v n ≡ Some p → slice_get w n ≡ Some q → p ≡ q → (e : Edge) → assigned v n e ≡ assigned w n e
 same_pairs v w n p q h k r e = ap (λ (o : Option Pair). quad_of_pair o e) (h ∙ (ap Some r ∙ sym k))

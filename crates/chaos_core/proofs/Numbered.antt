@@ -1,8 +1,8 @@
 -- The numbers of windows, net by net.
-use Rattle.std.proofs.Common.{◌≡◌, ℕ, zero, suc, ◌+◌, ◌<◌, ◌≤◌, refl, sym, ap, subst, ◌∙◌, List, [], ◌∷◌, ◌++◌, length, map, take, drop, get_or, arith, append_assoc}
+use Rattle.std.proofs.Common.{◌≡◌, ℕ, zero, suc, ◌+◌, ◌*◌, ◌<◌, ◌≤◌, refl, sym, ap, subst, ◌∙◌, List, [], ◌∷◌, ◌++◌, length, map, take, drop, get_or, set, arith, append_assoc}
 use Rattle.std.proofs.Math.Seq.{take-add}
 use Rattle.std.specs.List.{range_with_len}
-use Rattle.std.proofs.lemmas.List.{take_more}
+use Rattle.std.proofs.lemmas.List.{take_all, take_more}
 use Rattle.std.proofs.lemmas.List.FromFn.{map-range_with_len_more}
 use Rattle.xt_model.specs.declared.quad.Quad.{Quad}
 use Rattle.xt_model.specs.declared.quad.Pair.{Pair}
@@ -62,3 +62,20 @@ pairs_next words from ps p after h so_far rise fall pushed =
     let b = take-add from 4 words in
     let both : pair_numbers p ≡ take 4 (drop from words) ++ take 4 (drop (from + 4) words) = ap (λ xs. xs ++ quad_numbers p.fall) rise ∙ ap (λ xs. take 4 (drop from words) ++ xs) fall in
     rw (pushed, n, so_far, both, e, a, b) (sym (append_assoc (take from words) (take 4 (drop from words)) (take 4 (drop (from + 4) words))))
+
+take_set : (ps : List Pair) (i : ℕ) (p : Pair) → i < length ps → take (suc i) (set ps i p) ≡ take i ps ++ p ∷ []
+take_set [] i p h = absurd (omega arith)
+take_set (q ∷ ps) zero p h = refl
+take_set (q ∷ ps) (suc i) p h = ap (λ (more : List Pair). q ∷ more) (take_set ps i p (omega (arith, h)))
+
+pub pairs_set : (words : List ℕ) (net : ℕ) (ps : List Pair) (p : Pair) (after : List Pair) → net < length ps → 8 * net + 8 ≤ length words → numbers_of (take net ps) ≡ take (8 * net) words
+    → quad_numbers p.rise ≡ take 4 (drop (8 * net) words) → quad_numbers p.fall ≡ take 4 (drop (8 * net + 4) words) → after ≡ set ps net p → numbers_of (take (net + 1) after) ≡ take (8 * (net + 1)) words
+pairs_set words net ps p after there h so_far rise fall is =
+    let next : net + 1 ≡ suc net = omega arith in
+    let pushed : take (net + 1) after ≡ take net ps ++ p ∷ [] = ap (λ n. take n after) next ∙ (ap (take (suc net)) is ∙ take_set ps net p there) in
+    let e : 8 * net + 8 ≡ 8 * (net + 1) = omega arith in
+    let P : ℕ → Type 0 = λ n. numbers_of (take (net + 1) after) ≡ take n words in
+    subst P e (pairs_next words (8 * net) (take net ps) p (take (net + 1) after) h so_far rise fall pushed)
+
+pub all_pairs : (words : List ℕ) (net : ℕ) (ps : List Pair) → length ps ≤ net → length words ≤ 8 * net → numbers_of (take net ps) ≡ take (8 * net) words → numbers_of ps ≡ words
+all_pairs words net ps few end h = ap numbers_of (sym (take_all net ps few)) ∙ (h ∙ take_all (8 * net) words end)

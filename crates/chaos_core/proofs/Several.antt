@@ -28,6 +28,14 @@ is_done_or (loading net numbers) = inr (λ h. h)
 is_done_or (publishing net pair place) = inr (λ h. h)
 is_done_or done = inl tt
 
+-- steps after steps
+pub steps_on : (d : Parts) (lists : List (List NetId)) (order : List ℕ) (m n : ℕ) (k l p : Knowledge) (t u v : Task) → AreSteps d lists order m k t l u → AreSteps d lists order n l u p v
+    → (count : ℕ) × AreSteps d lists order count k t p v
+steps_on d lists order m zero k l p t u v s r = (m, subst (λ w. AreSteps d lists order m k t p w) (sym r.1) (subst (λ x. AreSteps d lists order m k t x u) (sym r.0) s))
+steps_on d lists order m (suc n) k l p t u v s r =
+    let before = steps_on d lists order m n k l r.0 t u r.1 s r.3 in
+    (suc before.0, (r.0, r.1, r.2, before.1, r.4, r.5))
+
 module _ (lists : List (List NetId)) (d : Parts) (order : List ℕ) (k : Knowledge) (own : k.setting.design ≡ d) (sound : IsSound d) (are : AreReadLists d lists) (o : IsOrder d.nets order) where
   pub run_over : (n : ℕ) (l m : Knowledge) (t u : Task) → AreSteps d lists order n l t m u → Running lists order k l t → Running lists order k m u
   run_over zero l m t u s r = subst (λ v. Running lists order k m v) (sym s.1) (subst (λ x. Running lists order k x t) (sym s.0) r)

@@ -1,5 +1,5 @@
 -- Rounds of workers that take turns at words in memory, as a source of numbers picks them.
-use Rattle.std.specs.Prelude.{◌≡◌, ℕ, ◌+◌, ◌*◌, ◌%◌, ◌<◌, ◌≤◌, zero, suc, List, length, replicate, vec_capacity}
+use Rattle.std.specs.Prelude.{◌≡◌, ℕ, ◌+◌, ◌*◌, ◌%◌, ◌<◌, ◌≤◌, zero, suc, List, length, replicate}
 use Rattle.std.specs.List.{All, slice_index_or}
 use Rattle.xt_model.specs.declared.net.NetId.{NetId}
 use Rattle.xt_model.specs.declared.quad.Pair.{Pair}
@@ -10,7 +10,7 @@ use Rattle.net_eval.specs.ReadLists.{AreReadLists}
 use Rattle.drawn_numbers.specs.Draws.{next, answer}
 use Rattle.chaos_core.specs.declared.setting.Setting.{Setting}
 use Rattle.chaos_core.specs.declared.worker.Worker.{Worker}
-use Rattle.chaos_core.specs.Tasks.{Task, idle, done, list_of}
+use Rattle.chaos_core.specs.Tasks.{Task, idle, done, list_of, places_of, room_of}
 use Rattle.chaos_core.specs.Runs.{IsDone}
 use Rattle.chaos_core.specs.Memories.{Memory, AreKept}
 use Rattle.chaos_core.specs.Machine.{State, acted, state_of}
@@ -109,5 +109,5 @@ RoundsCarry = (a : Setting) (lists : List (List NetId)) (order : List ℕ) (work
 
 -- a worker has room for each read list, and a place for each net
 pub record HasRoom (lists : List (List NetId)) (worker : Worker) : Type 0 where
-  pub room : (net : ℕ) → 8 * length (list_of lists net) ≤ vec_capacity worker.loaded
-  pub places : length lists ≤ length worker.places.items
+  pub room : (net : ℕ) → 8 * length (list_of lists net) ≤ room_of worker
+  pub places : length lists ≤ places_of worker

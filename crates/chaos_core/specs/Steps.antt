@@ -1,5 +1,5 @@
 -- Workers that fit a board, and one step of a worker on it.
-use Rattle.std.specs.Prelude.{◌≡◌, ℕ, zero, suc, ◌+◌, ◌*◌, ◌%◌, ◌<◌, ◌≤◌, List, length, slice_index, vec_capacity}
+use Rattle.std.specs.Prelude.{◌≡◌, ℕ, zero, suc, ◌+◌, ◌*◌, ◌%◌, ◌<◌, ◌≤◌, List, length, slice_index}
 use Rattle.xt_model.specs.declared.net.NetId.{NetId}
 use Rattle.xt_model.specs.declared.quad.Pair.{Pair}
 use Rattle.xt_model.specs.Quads.{IsPairInRange}
@@ -11,7 +11,7 @@ use Rattle.chaos_core.specs.declared.worker.Worker.{Worker}
 use Rattle.chaos_core.specs.declared.worker.Moved.{Moved}
 use Rattle.chaos_core.specs.Boards.{nets_of, started, Knowledge, IsSeen, Loads, Publishes, Draws}
 use Rattle.chaos_core.specs.Tasks.{Task, idle, loading, publishing, done, task_of, list_of, word_to_load, bound_at}
-use Rattle.chaos_core.specs.Tasks.{moved_on, move_of}
+use Rattle.chaos_core.specs.Tasks.{moved_on, move_of, places_of, room_of}
 
 -- a number loaded from a word: at or past the start, and at or before what is seen there
 pub record IsLoadedAt (a : Setting) (seen : List ℕ) (word number : ℕ) : Type 0 where
@@ -48,8 +48,8 @@ Fits k lists done = Unit {0}
 
 -- a worker with room for each read list and a place for each net, at a task that fits
 pub record IsFitting (k : Knowledge) (lists : List (List NetId)) (worker : Worker) : Type 0 where
-  pub room : (net : ℕ) → 8 * length (list_of lists net) ≤ vec_capacity worker.loaded
-  pub places : length lists ≤ length worker.places.items
+  pub room : (net : ℕ) → 8 * length (list_of lists net) ≤ room_of worker
+  pub places : length lists ≤ places_of worker
   pub task : Fits k lists (task_of worker)
 
 -- what the next action at a task does on a board, from k to l, with this answer

@@ -1,6 +1,6 @@
 -- What a worker is at, and what its next action makes of it.
 use Rattle.std.specs.Prelude.{ℕ, ◌+◌, ◌*◌, ◌/◌, ◌%◌, nat_lt, ◌==◌, suc, ℤ, List, [], ◌∷◌, ◌++◌, length, slice_index}
-use Rattle.std.specs.Prelude.{if◌then◌else◌}
+use Rattle.std.specs.Prelude.{if◌then◌else◌, vec_capacity}
 use Rattle.xt_model.specs.declared.edge.Edge.TheVariants.{Rise, Fall}
 use Rattle.xt_model.specs.declared.net.NetId.{NetId}
 use Rattle.xt_model.specs.declared.quad.Pair.{Pair}
@@ -32,6 +32,13 @@ task_at Finished numbers = done
 
 abbrev pub task_of : Worker → Task
 task_of worker = task_at worker.stage worker.loaded.items
+
+-- how many numbers a worker has room for, and for how many nets it has a place
+abbrev pub room_of : Worker → ℕ
+room_of worker = vec_capacity worker.loaded
+
+abbrev pub places_of : Worker → ℕ
+places_of worker = length worker.places.items
 
 -- the numbers of the nets in the read list of a net
 abbrev pub list_of : List (List NetId) → ℕ → List ℕ

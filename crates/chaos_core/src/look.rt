@@ -1,6 +1,6 @@
 //! Whether words are closed after a round: only at nets that read a net whose windows the round moved.
 
-ghost use Rattle.std.specs.Prelude.{◌≡◌, ◌↔◌, ℕ, ◌+◌, ◌<◌, false, length, slice_index, IsTrue, IfOk};
+ghost use Rattle.std.specs.Prelude.{◌≡◌, ◌↔◌, ℕ, ◌+◌, ◌<◌, false, length, slice_index, IsTrue};
 ghost use Rattle.std.specs.List.{All, slice_index_or};
 ghost use Rattle.xt_model.specs.declared.edge.Edge.{Edge};
 ghost use Rattle.xt_model.specs.Assign.{assigned};
@@ -12,26 +12,24 @@ ghost use Rattle.chaos_core.specs.Tasks.{list_of};
 ghost use Rattle.chaos_core.specs.Looks.{AreUnmoved, AreMarked, AreSameAt};
 
 use net_eval::{ReadLists, closed_part};
-use std::alloc::Global;
-use xt_model::{Design, NetId, NoMemory, Windows};
+use xt_model::{Design, NetId, Windows};
 
-/// Of each net whether its windows are the same before and after a round.
-fn unmoved_nets(alloc: Global, before: &Windows, after: &Windows) -> Result<Vec<bool>, NoMemory>
-    requires { length after.now ≡ length before.now }
-    ensures { IfOk result (λ marks. AreUnmoved before.now after.now marks.items) }
+/// Marks each net whose windows are the same before and after a round, and no other.
+fn mark_unmoved(marks: &mut [bool], before: &Windows, after: &Windows)
+    requires marks { length marks.old ≡ length before.now }
+    requires count { length after.now ≡ length before.now }
+    ensures { AreUnmoved before.now after.now marks.new }
 {
-    let mut marks = Vec::new(alloc);
-    for net in 0..before.pairs().len() {
-        marks.push(before.pair(net).same(&after.pair(net)))?;
+    for net in 0..marks.len() {
+        marks[net] = before.pair(net).same(&after.pair(net));
     }
-    Ok(marks)
 }
 
 /// Whether the net at a place of a read list is marked.
 fn is_marked(marks: &[bool], reads: &[NetId], place: usize) -> bool
     requires place { place < length reads.now }
     requires inside { All (λ net. net.0 < length marks.now) reads.now }
-    ensures { IsTrue result → IsTrue (slice_index_or marks.now (slice_index (ids reads.now) place) false) }
+    ensures { IsTrue result ↔ IsTrue (slice_index_or marks.now (slice_index (ids reads.now) place) false) }
 {
     marks[reads[place].0 as usize]
 }
@@ -39,7 +37,7 @@ fn is_marked(marks: &[bool], reads: &[NetId], place: usize) -> bool
 /// Whether all nets of a read list are marked.
 fn are_marked(marks: &[bool], reads: &[NetId]) -> bool
     requires { All (λ net. net.0 < length marks.now) reads.now }
-    ensures { IsTrue result → AreMarked marks.now (ids reads.now) }
+    ensures { IsTrue result ↔ AreMarked marks.now (ids reads.now) }
 {
     for place in 0..reads.len() {
         if !is_marked(marks, reads, place) {
@@ -74,28 +72,30 @@ fn is_steady(
 }
 
 /// Whether the operator gives the windows after a round back at every net, where it does so at each net whose reads
-/// have the same windows before and after.
+/// have the same windows before and after. There is a mark for each net, whatever it is at first. Takes no memory.
 pub(crate) fn closed_after(
-    alloc: Global,
     design: &Design,
     lists: &ReadLists,
+    marks: &mut [bool],
     before: &Windows,
     after: &Windows,
-) -> Result<bool, NoMemory>
+) -> bool
     requires lists { AreReadLists design.now lists.now }
+    requires marks { length marks.old ≡ length design.now.nets }
     requires before { length before.now ≡ length design.now.nets }
     requires after { length after.now ≡ length design.now.nets }
     requires within { IsWithinEnvelope design.now after.now }
     requires kept { (net : ℕ) → net < length design.now.nets
         → AreSameAt before.now after.now (list_of lists.now net) → IsSteadyAt design.now after.now net }
-    ensures { IfOk result (λ closed. IsTrue closed
-        ↔ ((net : ℕ) (e : Edge) → step design.now after.now net e ≡ assigned after.now net e)) }
+    ensures closed { IsTrue result
+        ↔ ((net : ℕ) (e : Edge) → step design.now after.now net e ≡ assigned after.now net e) }
+    ensures marks { length marks.new ≡ length marks.old }
 {
-    let marks = unmoved_nets(alloc, before, after)?;
+    mark_unmoved(marks, before, after);
     for net in 0..design.nets().len() as u32 {
-        if !is_steady(design, lists, marks.as_slice(), after, net, net + 1) {
-            return Ok(false);
+        if !is_steady(design, lists, marks, after, net, net + 1) {
+            return false;
         }
     }
-    Ok(true)
+    true
 }

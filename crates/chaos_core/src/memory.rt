@@ -5,10 +5,11 @@ ghost use Rattle.xt_model.specs.Quads.{IsInRange, IsPairInRange};
 ghost use Rattle.xt_model.specs.declared.quad.Pair.{Pair};
 ghost use Rattle.xt_meaning.specs.Barrier.{IsFittingStart};
 ghost use Rattle.xt_meaning.specs.Words.{numbers_of, quad_numbers};
+ghost use Rattle.chaos_core.specs.Boards.{nets_of};
 ghost use Rattle.chaos_core.specs.Memories.{IsKept, knowledge_of};
 
 use crate::board::Board;
-use crate::words::{pairs_of, push_numbers};
+use crate::words::{pairs_of, push_numbers, set_pairs};
 use std::alloc::Global;
 use std::marker::Model;
 use std::snapshot::Snapshot;
@@ -87,6 +88,16 @@ impl MemoryBoard {
     {
         let pairs = pairs_of(alloc, self.words())?;
         Ok(Windows::new(pairs))
+    }
+
+    /// Gives each net the windows whose bounds are in its words. Takes no memory.
+    pub(crate) fn load_into(&self, windows: &mut Windows)
+        requires { length windows.old ≡ nets_of self.now.setting }
+        ensures numbers { numbers_of windows.new ≡ self.now.words }
+        ensures fits { IsFittingStart self.now.setting.way self.now.setting.design windows.new }
+        ensures kept { IsKept self.now }
+    {
+        set_pairs(windows, self.words());
     }
 
     /// Begins the numbers that are drawn anew.

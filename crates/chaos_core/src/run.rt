@@ -1,9 +1,9 @@
 //! A worker's run over a board.
 
-ghost use Rattle.std.specs.Prelude.{◌≡◌, ℕ, suc, ◌↔◌, ◌<◌, List, [], length, vec_capacity, IsTrue};
+ghost use Rattle.std.specs.Prelude.{◌≡◌, ℕ, suc, ◌↔◌, ◌<◌, List, [], IsTrue};
 ghost use Rattle.xt_model.specs.Levels.{IsOrder};
 ghost use Rattle.net_eval.specs.ReadLists.{AreReadLists};
-ghost use Rattle.chaos_core.specs.Tasks.{done, idle, loading, task_of};
+ghost use Rattle.chaos_core.specs.Tasks.{done, idle, loading, places_of, room_of, task_of};
 ghost use Rattle.chaos_core.specs.Steps.{AreSteps, IsFitting};
 ghost use Rattle.chaos_core.specs.Runs.{IsDone, Ran};
 
@@ -37,8 +37,8 @@ fn load_rest<B: Board>(
     ensures fits { IsFitting (B.knows board.new) lists.now worker.new }
     ensures steps { (order : List ℕ) → (more : ℕ) × AreSteps design.now lists.now order (suc more)
         (B.knows board.old) (task_of worker.old) (B.knows board.new) (task_of worker.new) }
-    ensures room { vec_capacity worker.new.loaded ≡ vec_capacity worker.old.loaded }
-    ensures places { length worker.new.places.items ≡ length worker.old.places.items }
+    ensures room { room_of worker.new ≡ room_of worker.old }
+    ensures places { places_of worker.new ≡ places_of worker.old }
 {
     let reads = lists.of(net);
     'words: while worker.loaded.as_slice().len() < 8 * reads.len() {
@@ -73,8 +73,8 @@ fn advance<B: Board>(
     ensures steps { (order : List ℕ) → IsOrder design.now.nets order
         → (more : ℕ) × AreSteps design.now lists.now order (suc more)
         (B.knows board.old) (task_of worker.old) (B.knows board.new) (task_of worker.new) }
-    ensures room { vec_capacity worker.new.loaded ≡ vec_capacity worker.old.loaded }
-    ensures places { length worker.new.places.items ≡ length worker.old.places.items }
+    ensures room { room_of worker.new ≡ room_of worker.old }
+    ensures places { places_of worker.new ≡ places_of worker.old }
 {
     if let Stage::Loading(net) = worker.stage {
         load_rest(board, worker, design, lists, NetId(net));
@@ -100,9 +100,12 @@ pub fn run_worker<B: Board>(
     requires fresh { (B.knows board.old).drawn ≡ [] }
     requires late { 0 < (B.knows board.old).late }
     ensures ran { (order : List ℕ) → IsOrder design.now.nets order → Ran order (B.knows board.old) (B.knows board.new) }
+    ensures steps { (order : List ℕ) → IsOrder design.now.nets order
+        → (count : ℕ) × AreSteps design.now lists.now order count
+        (B.knows board.old) (task_of worker.old) (B.knows board.new) (task_of worker.new) }
     ensures done { task_of worker.new ≡ done }
-    ensures room { vec_capacity worker.new.loaded ≡ vec_capacity worker.old.loaded }
-    ensures places { length worker.new.places.items ≡ length worker.old.places.items }
+    ensures room { room_of worker.new ≡ room_of worker.old }
+    ensures places { places_of worker.new ≡ places_of worker.old }
 {
     'steps: while !is_done(worker) {
         advance(board, worker, design, lists, direction);

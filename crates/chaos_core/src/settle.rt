@@ -13,6 +13,8 @@ ghost use Rattle.xt_meaning.specs.Words.{numbers_of};
 ghost use Rattle.run_laws.specs.Transitions.{Transition, AreConsistent};
 ghost use Rattle.run_laws.specs.Laws.{LieWithin};
 ghost use Rattle.net_eval.specs.ReadLists.{AreReadLists};
+ghost use Rattle.chaos_core.specs.Looks.{IsLookRoom};
+ghost use Rattle.chaos_core.specs.Memories.{IsKept};
 ghost use Rattle.chaos_core.specs.Rounds.{HasRoom, Settles};
 
 use crate::look::closed_after;
@@ -31,47 +33,85 @@ pub struct Settled {
     pub rounds: u64,
 }
 
-/// Makes rounds on a board at its start until the words are closed.
+/// The windows of a board before and after a round, and a mark for each net: what a look at its words takes.
+#[derive(Drop)]
+struct LookRoom {
+    before: Windows,
+    after: Windows,
+    marks: Vec<bool>,
+}
+
+impl LookRoom {
+    /// With the windows of a board twice.
+    fn new(alloc: Global, board: &MemoryBoard, design: &Design) -> Result<LookRoom, NoMemory>
+        requires { board.now.setting.design ≡ design.now }
+        ensures room { IfOk result (λ room. IsLookRoom board.now room.before room.after room.marks.items) }
+        ensures kept { IfOk result (λ _. IsKept board.now) }
+    {
+        let before = board.windows(alloc)?;
+        let after = board.windows(alloc)?;
+        let marks = vec![in alloc; false; design.nets().len()]?;
+        Ok(LookRoom {
+            before,
+            after,
+            marks,
+        })
+    }
+}
+
+/// Makes rounds on a board at its start until the words are closed. Takes no memory.
 fn settle_on(
-    alloc: Global,
     board: &mut MemoryBoard,
     workers: &mut [Worker],
+    room: LookRoom,
     design: &Design,
     lists: &ReadLists,
     direction: Direction,
     number: u64,
-) -> Result<Settled, NoMemory>
+) -> Settled
     requires design { board.old.setting.design ≡ design.now }
     requires direction { board.old.setting.way ≡ direction }
     requires start { board.old.words ≡ numbers_of board.old.setting.start }
+    requires kept { IsKept board.old }
+    requires room { IsLookRoom board.old room.before room.after room.marks.items }
     requires lists { AreReadLists design.now lists.now }
     requires some { 0 < length workers.old }
     requires few { length workers.old ≤ most_workers }
     requires rooms { All (HasRoom lists.now) workers.old }
-    ensures extreme { IfOk result (λ settled. IsExtremeFixpoint direction design.now settled.windows) }
-    ensures rounds { IfOk result (λ settled. (order : List ℕ) → IsOrder design.now.nets order
-        → Settles board.old.setting lists.now order (length workers.old) number settled.windows settled.rounds) }
-    ensures few { IfOk result (λ settled. (bound : ℕ) → IsRoundBound design.now.nets bound → settled.rounds ≤ bound) }
+    ensures extreme { IsExtremeFixpoint direction design.now result.windows }
+    ensures rounds { (order : List ℕ) → IsOrder design.now.nets order
+        → Settles board.old.setting lists.now order (length workers.old) number result.windows result.rounds }
+    ensures few { (bound : ℕ) → IsRoundBound design.now.nets bound → result.rounds ≤ bound }
 {
+    let LookRoom {
+        before,
+        after,
+        marks,
+    } = room;
+    let mut windows = before;
+    let mut later = after;
+    let mut marks = marks;
     let mut source = Source::new(number);
-    let mut windows = board.windows(alloc)?;
     let mut done = closed(design, &windows);
     let mut rounds: u64 = 0;
     'rounds: while !done {
         round(board, workers, design, lists, direction, &mut source);
-        let later = board.windows(alloc)?;
-        done = closed_after(alloc, design, lists, &windows, &later)?;
+        board.load_into(&mut later);
+        done = closed_after(design, lists, marks.as_mut_slice(), &windows, &later);
+        let spare = windows;
         windows = later;
+        later = spare;
         prove!(rounds < design.bound());
         rounds += 1;
     }
-    Ok(Settled { windows, rounds })
+    Settled { windows, rounds }
 }
 
 /// Makes rounds from a fitting start, in each of which so many workers take turns until all are done, as numbers from
 /// a source that starts at `number` pick them, until the words are closed. The windows are then the least fixpoint in
 /// widening and the greatest in narrowing, whatever the workers and the number, and in narrowing all transitions that
-/// explain one another lie within them. No run makes more rounds than the design's bound.
+/// explain one another lie within them. No run makes more rounds than the design's bound. All memory is taken before
+/// the first look.
 pub fn settle_picked(
     alloc: Global,
     design: &Design,
@@ -95,13 +135,14 @@ pub fn settle_picked(
 {
     let mut board = MemoryBoard::new(alloc, design, direction, start)?;
     let mut workers = new_workers(alloc, lists, workers)?;
-    settle_on(
-        alloc,
+    let room = LookRoom::new(alloc, &board, design)?;
+    Ok(settle_on(
         &mut board,
         workers.as_mut_slice(),
+        room,
         design,
         lists,
         direction,
         number,
-    )
+    ))
 }

@@ -1,6 +1,6 @@
 //! One step of a worker: one action on the board.
 
-ghost use Rattle.std.specs.Prelude.{◌≡◌, ℕ, ◌*◌, ◌%◌, ◌<◌, ◌≤◌, List, length, vec_capacity, IsTrue, IsFalse};
+ghost use Rattle.std.specs.Prelude.{◌≡◌, ℕ, ◌*◌, ◌%◌, ◌<◌, ◌≤◌, List, length, IsTrue, IsFalse};
 ghost use Rattle.xt_model.specs.Quads.{IsPairInRange};
 ghost use Rattle.xt_model.specs.Levels.{IsOrder};
 ghost use Rattle.xt_model.specs.declared.net.NetId.{NetId};
@@ -8,8 +8,8 @@ ghost use Rattle.xt_model.specs.Parts.{Parts};
 ghost use Rattle.xt_meaning.specs.Words.{MovesDown, MovesUp};
 ghost use Rattle.net_eval.specs.ReadLists.{AreReadLists, ids};
 ghost use Rattle.chaos_core.specs.Boards.{CanPublish, HasPublished, IsSeen, nets_of};
-ghost use Rattle.chaos_core.specs.Tasks.{evaluated, idle, loading, moved_on, publishing, task_at};
-ghost use Rattle.chaos_core.specs.Tasks.{task_of, with_loaded};
+ghost use Rattle.chaos_core.specs.Tasks.{evaluated, idle, loading, moved_on, places_of, publishing, room_of};
+ghost use Rattle.chaos_core.specs.Tasks.{task_at, task_of, with_loaded};
 ghost use Rattle.chaos_core.specs.Steps.{Fits, FitsPublishing, IsFitting, Steps};
 ghost use Rattle.chaos_core.specs.Views.{IsLoaded};
 
@@ -59,8 +59,8 @@ fn draw_step<B: Board>(
     ensures fits { IsFitting (B.knows board.new) lists.now worker.new }
     ensures step { (order : List ℕ) → IsOrder design.now.nets order
         → Steps design.now lists.now order (B.knows board.old) idle result (B.knows board.new) (task_of worker.new) }
-    ensures room { vec_capacity worker.new.loaded ≡ vec_capacity worker.old.loaded }
-    ensures places { length worker.new.places.items ≡ length worker.old.places.items }
+    ensures room { room_of worker.new ≡ room_of worker.old }
+    ensures places { places_of worker.new ≡ places_of worker.old }
 {
     let number = board.draw();
     if number >= design.nets().len() as u64 {
@@ -94,8 +94,8 @@ fn load_step<B: Board>(
     ensures fits { IsFitting (B.knows board.new) lists.now worker.new }
     ensures step { (order : List ℕ) → Steps design.now lists.now order (B.knows board.old)
         (loading net.0 worker.old.loaded.items) result (B.knows board.new) (task_of worker.new) }
-    ensures room { vec_capacity worker.new.loaded ≡ vec_capacity worker.old.loaded }
-    ensures places { length worker.new.places.items ≡ length worker.old.places.items }
+    ensures room { room_of worker.new ≡ room_of worker.old }
+    ensures places { places_of worker.new ≡ places_of worker.old }
 {
     let reads = lists.of(net);
     let place = worker.loaded.as_slice().len();
@@ -165,8 +165,8 @@ fn publish_step<B: Board>(
     ensures step { (d : Parts) (lists : List (List NetId)) (order : List ℕ)
         → Steps d lists order (B.knows board.old) (publishing net pair place) result (B.knows board.new)
         (task_of worker.new) }
-    ensures room { vec_capacity worker.new.loaded ≡ vec_capacity worker.old.loaded }
-    ensures places { length worker.new.places.items ≡ length worker.old.places.items }
+    ensures room { room_of worker.new ≡ room_of worker.old }
+    ensures places { places_of worker.new ≡ places_of worker.old }
 {
     let word = 8 * net as usize + place as usize;
     publish(board, way, word, number_in(&pair, place));
@@ -194,8 +194,8 @@ pub fn worker_step<B: Board>(
     ensures step { (order : List ℕ) → IsOrder design.now.nets order
         → Steps design.now lists.now order (B.knows board.old) (task_of worker.old) result (B.knows board.new)
         (task_of worker.new) }
-    ensures room { vec_capacity worker.new.loaded ≡ vec_capacity worker.old.loaded }
-    ensures places { length worker.new.places.items ≡ length worker.old.places.items }
+    ensures room { room_of worker.new ≡ room_of worker.old }
+    ensures places { places_of worker.new ≡ places_of worker.old }
 {
     match worker.stage {
         Stage::Idle => draw_step(board, worker, design, lists),

@@ -1,6 +1,6 @@
 //! The words of windows.
 
-ghost use Rattle.std.specs.Prelude.{◌≡◌, ◌+◌, ◌%◌, ◌<◌, ◌≤◌, ◌++◌, length, take, drop, slice_index, IfOk, OnOk};
+ghost use Rattle.std.specs.Prelude.{◌≡◌, ◌+◌, ◌*◌, ◌%◌, ◌<◌, ◌≤◌, ◌++◌, length, take, drop, slice_index, IfOk, OnOk};
 ghost use Rattle.std.specs.List.{All};
 ghost use Rattle.xt_model.specs.Quads.{IsBound, IsInRange, IsPairInRange};
 ghost use Rattle.xt_meaning.specs.Words.{number_for, numbers_of, quad_numbers, top_number};
@@ -9,7 +9,7 @@ ghost use Rattle.chaos_core.specs.Memories.{pair_numbers};
 
 use crate::loaded;
 use std::alloc::{AllocError, Global};
-use xt_model::{Pair, Quad};
+use xt_model::{Pair, Quad, Windows};
 
 /// The number that stands for a bound in a word.
 fn number_of(bound: i64) -> u64
@@ -108,4 +108,18 @@ pub(crate) fn pairs_of(alloc: Global, words: &[u64]) -> Result<Vec<Pair>, AllocE
         from += 8;
     }
     Ok(pairs)
+}
+
+/// Gives each net the windows whose numbers are in its words.
+pub(crate) fn set_pairs(windows: &mut Windows, words: &[u64])
+    requires count { length words.now ≡ 8 * length windows.old }
+    requires range { All (λ n. n ≤ top_number) words.now }
+    ensures numbers { numbers_of windows.new ≡ words.now }
+    ensures range { All IsPairInRange windows.new }
+{
+    for net in 0..windows.pairs().len() {
+        let rise = quad_at(words, 8 * net);
+        let fall = quad_at(words, 8 * net + 4);
+        windows.set(net, Pair { rise, fall });
+    }
 }

@@ -1,6 +1,6 @@
-ghost use Rattle.std.specs.Prelude.{◌≡◌, ℕ, ◌*◌, ◌≤◌, length, vec_capacity, IfOk};
+ghost use Rattle.std.specs.Prelude.{◌≡◌, ℕ, ◌*◌, ◌≤◌, length, IfOk};
 ghost use Rattle.net_eval.specs.ReadLists.{reads_of};
-ghost use Rattle.chaos_core.specs.Tasks.{task_of, idle};
+ghost use Rattle.chaos_core.specs.Tasks.{idle, places_of, room_of, task_of};
 ghost use Rattle.chaos_core.specs.Rounds.{HasRoom};
 
 use net_eval::ReadLists;
@@ -40,7 +40,7 @@ impl Worker {
     pub fn new(alloc: Global, lists: &ReadLists) -> Result<Worker, NoMemory>
         ensures idle { IfOk result (λ worker. task_of worker ≡ idle) }
         ensures room { IfOk result (λ worker. (net : ℕ)
-            → 8 * length (reads_of lists.now net) ≤ vec_capacity worker.loaded) }
+            → 8 * length (reads_of lists.now net) ≤ room_of worker) }
         ensures rooms { IfOk result (HasRoom lists.now) }
     {
         let Some(room) = lists.longest().checked_mul(8) else {
@@ -58,8 +58,8 @@ impl Worker {
     /// Makes it idle again.
     pub fn reset(&mut self)
         ensures idle { task_of self.new ≡ idle }
-        ensures room { vec_capacity self.new.loaded ≡ vec_capacity self.old.loaded }
-        ensures places { length self.new.places.items ≡ length self.old.places.items }
+        ensures room { room_of self.new ≡ room_of self.old }
+        ensures places { places_of self.new ≡ places_of self.old }
     {
         self.stage = Stage::Idle;
         self.loaded.clear();

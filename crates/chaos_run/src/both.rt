@@ -30,7 +30,7 @@ pub struct Both {
     pub high_rounds: u64,
 }
 
-/// A run of `workers` workers from a fitting start on words of its own: several run in threads of their own on a board
+/// A run from a fitting start on words of its own, with so many workers: several run in threads of their own on a board
 /// that they share, and pass the gate in each round; one alone takes its turns on words in memory, and passes no gate.
 /// The windows are then the least fixpoint in widening and the greatest in narrowing, whatever the workers, and in
 /// narrowing all transitions that explain one another lie within them. The run makes no more rounds than the design's

@@ -129,7 +129,10 @@ fn new_command<'a>(alloc: Global) -> Command<'a>
 }
 
 // A command of these options.
-fn command_of_options<'a>(alloc: Global, options: &'static [&'static str]) -> Result<Command<'a>, AllocError>
+fn command_of_options<'a>(
+    alloc: Global,
+    options: &'static [&'static str],
+) -> Result<Command<'a>, AllocError>
     ensures { IfOk result (λ c. app_of c ≡ Reading.app_with (map Reading.option_rule (texts_of options.now))) }
 {
     let mut command = new_command(alloc);

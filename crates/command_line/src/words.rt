@@ -242,7 +242,11 @@ fn gen_job(given: &ArgMatches) -> Option<Job>
 }
 
 // The job of a command whose words are these, if they say one.
-fn job_for(alloc: Global, command: CommandName, given: &ArgMatches) -> Result<Option<Job>, AllocError>
+fn job_for(
+    alloc: Global,
+    command: CommandName,
+    given: &ArgMatches,
+) -> Result<Option<Job>, AllocError>
     ensures { IfOk result (λ job. job ≡ Words.job_for command (first_value (found_of given.now))) }
 {
     match command {

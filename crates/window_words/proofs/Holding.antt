@@ -12,7 +12,7 @@ use Rattle.chaos_core.specs.Boards.{nets_of, IsSeen, Loads, Publishes, Draws, la
 use Rattle.window_words.specs.declared.view.View.{View}
 use Rattle.window_words.specs.Views.{IsUnspent, count_from, begun_anew, with_one_out, sent_out, with_both}
 use Rattle.window_words.specs.Boards.{BoardId, Holding, IsOf, IsHeld, IsAlone, late_of, home_of, knowledge_of}
-use Rattle.window_words.specs.Steps.{Loaded, Published, Drew}
+use Rattle.window_words.specs.Steps.{Loaded, Published, Drew, IsRested}
 use Rattle.window_words.proofs.Views.{count_from_both}
 use Rattle.window_words.proofs.Parting.{seen_both}
 
@@ -140,6 +140,12 @@ pub loads_same : (v w : View) (word number : ℕ) → IsAlone v → Loaded v wor
 loads_same v w word number alone step =
     let e : set v.seen word number ≡ v.seen = rw (step.whole alone).exact (set-get_or v.seen word (quiet_number (word % 2))) in
     step.after ∙ ap (λ (seen : List ℕ). record v { seen = seen }) e
+
+pub rested : (v w : View) (word number : ℕ) → IsAlone v → Loaded v word number w → IsRested v
+rested v w word number alone step =
+    let same : w ≡ v = loads_same v w word number alone step in
+    let whole = step.whole alone in
+    record { kept = record { seen = subst (λ (x : View). IsSeen x.setting x.seen) same step.seen; fits = whole.fits }; next = whole.next; drawn = whole.drawn }
 
 pub loads_next : (v w : View) (word number : ℕ) (words : List ℕ) → IsAlone v → Loaded v word number w → word < length v.seen → words ≡ take word v.seen → words ++ number ∷ [] ≡ take (word + 1) v.seen
 loads_next v w word number words alone step h e =

@@ -5,6 +5,7 @@ use Rattle.atomic_table.specs.Table.{Me, Step}
 use Rattle.xt_meaning.specs.Barrier.{IsBoundNoFurther, RespectsAt}
 use Rattle.xt_meaning.specs.Words.{bound_in, number_at, bounds_in, onward, AreNoFurther}
 use Rattle.chaos_core.specs.Boards.{IsSeen}
+use Rattle.chaos_core.specs.Memories.{AreKept}
 use Rattle.window_words.specs.declared.view.View.{View}
 use Rattle.window_words.specs.Views.{times, with_seen, begun_anew}
 use Rattle.window_words.specs.Rule.{once_below}
@@ -20,6 +21,13 @@ pub record IsFound (v : View) (word number : ℕ) : Type 0 where
 pub record IsWhole (v : View) (word number : ℕ) : Type 0 where
   pub exact : number ≡ number_at v.seen word
   pub fits : AreNoFurther v.setting.way (bounds_in v.seen) (onward v.setting.design (bounds_in v.seen))
+  pub next : ℕ
+  pub drawn : (x : ℕ) → times x v.drawn ≡ once_below next x
+
+-- what the first pass knows while none is out, once it has loaded a word: what it has seen is what the words hold, so
+-- it is no further than what the operator makes of it; and the drawn numbers are those below some number, each once
+pub record IsRested (v : View) : Type 0 where
+  pub kept : AreKept v.setting v.seen
   pub next : ℕ
   pub drawn : (x : ℕ) → times x v.drawn ≡ once_below next x
 

@@ -7,7 +7,7 @@ ghost use Rattle.xt_meaning.specs.Words.{MovesDown, MovesUp};
 ghost use Rattle.chaos_core.specs.Boards.{nets_of, CanPublish, IsSeen};
 ghost use Rattle.window_words.specs.Views.{first_view, begun_anew, with_one_out, sent_out, with_both};
 ghost use Rattle.window_words.specs.Boards.{knowledge_of, late_of, IsAlone, IsFirst, IsOf, IsSplitOff};
-ghost use Rattle.window_words.specs.Steps.{Loaded, Published, Drew};
+ghost use Rattle.window_words.specs.Steps.{Loaded, Published, Drew, IsRested};
 
 use crate::rule::{Draw, JoinAgain, Key, Load, Lower, Raise, Restart, SplitOff, WindowRule};
 use crate::view::View;
@@ -193,11 +193,14 @@ impl SharedBoard {
             .join_seat::<JoinAgain>(&mut first.seat, seat);
     }
 
-    /// The words, which are what the first pass has seen. Where there is no memory, the board and the pass are gone.
+    /// The words, which are what the first pass has seen: they are no further than what the operator makes of them, and
+    /// the numbers that all passes drew are those below some number, each once. Where there is no memory, the board and
+    /// the pass are gone.
     pub fn close(self, first: Pass) -> Result<Vec<u64>, NoMemory>
         requires own { IsOf self first }
         requires alone { IsAlone first.view }
-        ensures { IfOk result (λ words. words.items ≡ first.view.seen) }
+        ensures words { IfOk result (λ words. words.items ≡ first.view.seen) }
+        ensures rested { IfOk result (λ _. 0 < nets_of first.view.setting → IsRested first.view) }
     {
         let mut first = first;
         let count = self.draw_word();

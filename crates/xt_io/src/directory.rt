@@ -1,20 +1,23 @@
-ghost use Rattle.std.specs.Prelude.{◌≡◌, ℕ, List, Option, Some, None, IfSome};
+ghost use Rattle.std.specs.Prelude.{◌≡◌, ⊤, ℕ, List, Option, Some, None, IfNone, IfSome};
 
+use crate::source::Source;
 use std::fs::File;
-use std::io::Read;
 
 /// Opens files by name, each as a stream from its first byte.
 ///
-/// An implementation says what each name holds, where that is known.
+/// An implementation says what each name holds, where that is known, and which names it may refuse to open.
 pub trait Directory {
-    type Stream: Read + Drop;
+    type Stream: Source + Drop;
 
     ghost content: { Self → List ℕ → Option (List ℕ) };
 
+    ghost refuses: { Self → List ℕ → Type 0 };
+
     /// The file of a name, at its first byte. `None` where it cannot be opened.
     fn open(&self, name: &str) -> Option<Self::Stream>
-        ensures { IfSome result (λ stream. IfSome (content self.now name.now)
-            (λ whole. Self.Stream.remaining stream ≡ Some whole)) };
+        ensures content { IfSome result (λ stream. IfSome (content self.now name.now)
+            (λ whole. Self.Stream.remaining stream ≡ Some whole)) }
+        ensures refused { IfNone result (refuses self.now name.now) };
 }
 
 /// The files of the system.
@@ -22,6 +25,8 @@ impl Directory for HostRuntime {
     type Stream = File;
 
     ghost content = { λ _ _. None };
+
+    ghost refuses = { λ _ _. ⊤ };
 
     fn open(&self, name: &str) -> Option<File> {
         File::open(self, name).ok()

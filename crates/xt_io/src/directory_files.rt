@@ -22,10 +22,11 @@ impl<D: Directory> Model for DirectoryFiles<D> {
     ghost use Rattle.std.specs.Prelude.{option_map, IfSome};
     ghost use Rattle.xt_io.specs.Host.{DirectoryState, IsLeft};
 
-    ghost Value = { DirectoryState D };
+    ghost Value = { DirectoryState D D.Stream };
 
     ghost view = { λ s. record {
       directory = s.directory;
+      stream = option_map (λ f. f.stream) s.file;
       place = option_map (λ f. record { name = f.name.bytes; read = f.read }) s.file;
       faults = s.faults;
     } };
@@ -38,7 +39,7 @@ impl<D: Directory> Model for DirectoryFiles<D> {
 impl<D: Directory> DirectoryFiles<D> {
     /// The files of this directory, with none open and no faults yet.
     pub fn new(directory: D) -> DirectoryFiles<D>
-        ensures { result ≡ record { directory = directory; place = None; faults = 0 } }
+        ensures { result ≡ record { directory = directory; stream = None; place = None; faults = 0 } }
     {
         DirectoryFiles {
             directory,
@@ -53,6 +54,7 @@ impl<D: Directory> Files for DirectoryFiles<D> {
     ghost use Rattle.std.specs.Prelude.{OnErr, IfSome};
     ghost use Rattle.xt_io.specs.Outside.{Rose, moved_by, AreNext, IsAtEnd};
     ghost use Rattle.xt_io.specs.Memory.{one_more};
+    ghost use Rattle.xt_io.specs.Host.{MayNotOpen, MayNotRead};
 
     ghost content = { λ s. D.content s.directory };
 
@@ -68,6 +70,7 @@ impl<D: Directory> Files for DirectoryFiles<D> {
         ensures kept { OnOk result (self.new.faults ≡ self.old.faults) }
         ensures failed { OnErr result (Rose self.old.faults self.new.faults) }
         ensures raised { OnErr result (self.new.faults ≡ one_more self.old.faults) }
+        ensures cause { OnErr result (MayNotOpen (D.refuses self.old.directory) name.now) }
     {
         self.file = open_file(&self.directory, name);
         if self.file.is_none() {
@@ -89,6 +92,8 @@ impl<D: Directory> Files for DirectoryFiles<D> {
         ensures kept { OnOk result (self.new.faults ≡ self.old.faults) }
         ensures failed { OnErr result (IfSome self.old.place (λ _. Rose self.old.faults self.new.faults)) }
         ensures raised { OnErr result (self.new.faults ≡ one_more self.old.faults) }
+        ensures cause { OnErr result (IfSome self.old.stream (λ stream. IfSome self.old.place
+            (λ p. MayNotRead D.Stream.fails stream p.read (length buffer.old)))) }
     {
         let mut file = self.file.take().unwrap();
         let answer = file.read(buffer);

@@ -1,5 +1,5 @@
-ghost use Rattle.std.specs.Prelude.{◌≡◌, Some, IfSome};
-ghost use Rattle.xt_io.specs.Host.{known_bytes};
+ghost use Rattle.std.specs.Prelude.{◌≡◌};
+ghost use Rattle.xt_io.specs.Host.{fresh_stream};
 
 use crate::failed::Failed;
 use crate::sink::Sink;
@@ -24,22 +24,26 @@ pub type HostErr = HostStream<Stderr>;
 impl<W: Stream> Model for HostStream<W> {
     ghost use Rattle.xt_io.specs.Host.{StreamState, known_bytes};
 
-    ghost Value = { StreamState };
+    ghost Value = { StreamState W };
 
-    ghost view = { λ s. record { written = known_bytes W.known (W.contents s.stream); faults = s.faults } };
+    ghost view = { λ s. record {
+      stream = s.stream;
+      written = known_bytes W.known (W.contents s.stream);
+      faults = s.faults;
+    } };
 }
 
 impl<W: Stream> HostStream<W> {
     /// A sink over this stream, with no faults yet.
     pub fn new(stream: W) -> HostStream<W>
-        ensures { result ≡ record { written = known_bytes W.known (W.contents stream); faults = 0 } }
+        ensures { result ≡ fresh_stream W.known W.contents stream }
     {
         HostStream { stream, faults: 0 }
     }
 
     /// The stream, with what was written.
     pub fn into_stream(self) -> W
-        ensures { IfSome self.written (λ bytes. W.contents result ≡ Some bytes) }
+        ensures { result ≡ self.stream }
     {
         self.stream
     }
@@ -63,13 +67,12 @@ impl<W: Stream> Sink for HostStream<W> {
         ensures kept { OnOk result (self.new.faults ≡ self.old.faults) }
         ensures failed { OnErr result (Rose self.old.faults self.new.faults) }
         ensures raised { OnErr result (self.new.faults ≡ one_more self.old.faults) }
+        ensures cause { OnErr result (W.fails self.old.stream) }
     {
-        match self.stream.write(piece) {
-            Ok(count) if count > 0 => Ok(count),
-            _ => {
-                self.faults = self.faults.saturating_add(1);
-                Err(Failed)
-            }
+        let answer = self.stream.write_some(piece);
+        if answer.is_err() {
+            self.faults = self.faults.saturating_add(1);
         }
+        answer
     }
 }

@@ -16,6 +16,7 @@ mod read_fail;
 mod reading;
 mod recorded_files;
 mod sink;
+mod source;
 mod stream;
 mod writing;
 
@@ -30,5 +31,6 @@ pub use read_fail::ReadFail;
 pub use reading::{MOST_BYTES, read_whole};
 pub use recorded_files::RecordedFiles;
 pub use sink::Sink;
+pub use source::Source;
 pub use stream::Stream;
 pub use writing::write_whole;

@@ -13,7 +13,7 @@ are_marked-requires c = reads_inside c.args.design.now c.args.lists.now c.args.n
 
 pub returns-then-are_marked : goal.returns-then-are_marked
 returns-then-are_marked c = (
-  λ t. c.requires.marked (subst (λ xs. AreMarked c.args.marks.now xs) (ap ids c.of.ensures) (c.are_marked.ensures c.if-are_marked.true)),
+  λ t. c.requires.marked (subst (λ xs. AreMarked c.args.marks.now xs) (ap ids c.of.ensures) (c.are_marked.ensures.0 c.if-are_marked.true)),
   λ h. refl,
 )
 

@@ -2,7 +2,7 @@ use Rattle.std.proofs.Common.{◌≡◌, ℕ, List, length}
 use Rattle.std.specs.Prelude.{vec_capacity}
 use Rattle.xt_model.specs.Levels.{IsOrder}
 use Rattle.chaos_core.specs.Tasks.{task_of}
-use Rattle.chaos_core.specs.Steps.{IsFitting}
+use Rattle.chaos_core.specs.Steps.{AreSteps, IsFitting}
 use Rattle.chaos_core.proofs.Running.{Running}
 use Rattle.chaos_core.proofs.Ends.{ahead}
 use Rattle.chaos_core.proofs.run.run_worker.Given as goal
@@ -10,6 +10,7 @@ use Rattle.chaos_core.proofs.run.run_worker.Given as goal
 abbrev pub invariant-steps : goal.invariant-steps
 invariant-steps g l = record {
   running : (order : List ℕ) → IsOrder l.design.nets order → Running l.lists order (g.B.Board.knows l.initial.board) (g.B.Board.knows l.board) (task_of l.worker);
+  steps : (order : List ℕ) → IsOrder l.design.nets order → (count : ℕ) × AreSteps l.design l.lists order count (g.B.Board.knows l.initial.board) (task_of l.initial.worker) (g.B.Board.knows l.board) (task_of l.worker);
   fits : IsFitting (g.B.Board.knows l.board) l.lists l.worker;
   room : vec_capacity l.worker.loaded ≡ vec_capacity l.initial.worker.loaded;
   places : length l.worker.places.items ≡ length l.initial.worker.places.items;

@@ -1,11 +1,11 @@
-use Rattle.std.proofs.Common.{◌≡◌, ℕ, ◌+◌, arith, refl, subst, ◌∙◌, List, length}
+use Rattle.std.proofs.Common.{◌≡◌, ℕ, ◌+◌, ap, arith, refl, subst, ◌∙◌, List, length}
 use Rattle.std.proofs.lemmas.Bool.{both_ways}
 use Rattle.xt_meaning.proofs.Extremes.{extreme_from_fixpoint}
 use Rattle.xt_model.specs.declared.net.NetId.{NetId}
 use Rattle.chaos_core.specs.declared.setting.Setting.{Setting}
 use Rattle.chaos_core.specs.Rounds.{Pause, IsRound, pause_at}
 use Rattle.chaos_core.proofs.Chained.{few_here}
-use Rattle.chaos_core.proofs.LookLaws.{steady_kept}
+use Rattle.chaos_core.proofs.LookLaws.{marks_back, steady_kept}
 use Rattle.chaos_core.proofs.Settling.{carried, run_nearer, fits_under, one_more, settles_there}
 use Rattle.chaos_core.proofs.settle.settle_on.Goals as goal
 
@@ -16,31 +16,31 @@ rounds_here a b lists order m n p q same count h = subst (λ (x : Setting). IsRo
 pub closed-done-requires-clause-count : goal.closed-done-requires-clause-count
 closed-done-requires-clause-count c =
     let a = c.args.board.now.setting in
-    (fits_under a a c.args.design.now c.args.direction c.in_ok-windows.windows refl c.requires.design c.requires.direction c.in_ok-windows.ensures.fits).windows.count
+    (fits_under a a c.args.design.now c.args.direction c.args.room.before refl c.requires.design c.requires.direction c.requires.room.fits).windows.count
 
 pub closed-done-requires-clause-within : goal.closed-done-requires-clause-within
 closed-done-requires-clause-within c =
     let a = c.args.board.now.setting in
-    (fits_under a a c.args.design.now c.args.direction c.in_ok-windows.windows refl c.requires.design c.requires.direction c.in_ok-windows.ensures.fits).within
+    (fits_under a a c.args.design.now c.args.direction c.args.room.before refl c.requires.design c.requires.direction c.requires.room.fits).within
 
-pub closed_after-requires-clause-before : goal.closed_after-requires-clause-before
-closed_after-requires-clause-before c = c.rounds.invariant.fits.windows.count
+pub closed_after-done-requires-clause-before : goal.closed_after-done-requires-clause-before
+closed_after-done-requires-clause-before c = c.rounds.invariant.fits.windows.count
 
-pub closed_after-requires-clause-after : goal.closed_after-requires-clause-after
-closed_after-requires-clause-after c =
+pub closed_after-done-requires-clause-after : goal.closed_after-done-requires-clause-after
+closed_after-done-requires-clause-after c =
     let a = c.args.board.now.setting in
     let own = c.round.ensures.setting ∙ c.rounds.invariant.setting in
-    (fits_under a c.round.new.board.setting c.args.design.now c.args.direction c.in_ok-later.later own c.requires.design c.requires.direction c.in_ok-later.ensures.fits).windows.count
+    (fits_under a c.round.new.board.setting c.args.design.now c.args.direction c.load_into.new.windows own c.requires.design c.requires.direction c.load_into.ensures.fits).windows.count
 
-pub closed_after-requires-clause-within : goal.closed_after-requires-clause-within
-closed_after-requires-clause-within c =
+pub closed_after-done-requires-clause-within : goal.closed_after-done-requires-clause-within
+closed_after-done-requires-clause-within c =
     let a = c.args.board.now.setting in
     let own = c.round.ensures.setting ∙ c.rounds.invariant.setting in
-    (fits_under a c.round.new.board.setting c.args.design.now c.args.direction c.in_ok-later.later own c.requires.design c.requires.direction c.in_ok-later.ensures.fits).within
+    (fits_under a c.round.new.board.setting c.args.design.now c.args.direction c.load_into.new.windows own c.requires.design c.requires.direction c.load_into.ensures.fits).within
 
 -- a net whose reads the round did not move is steady after it
-pub closed_after-requires-clause-kept : goal.closed_after-requires-clause-kept
-closed_after-requires-clause-kept c = λ net there alike.
+pub closed_after-done-requires-clause-kept : goal.closed_after-done-requires-clause-kept
+closed_after-done-requires-clause-kept c = λ net there alike.
     let a = c.args.board.now.setting in
     let b = c.rounds.board.setting in
     let d = c.args.design.now in
@@ -52,8 +52,8 @@ closed_after-requires-clause-kept c = λ net there alike.
     let q = pause_at c.round.new.source.state c.round.new.board in
     let round = rounds_here a b c.args.lists.now order (length c.rounds.workers) n p q inv.setting inv.count (c.round.ensures.round order o) in
     let carry = carried a d c.args.lists.now order n p q c.requires.design c.requires.some c.requires.lists o inv.kept round in
-    let after = fits_under a c.round.new.board.setting d c.args.direction c.in_ok-later.later (c.round.ensures.setting ∙ inv.setting) c.requires.design c.requires.direction c.in_ok-later.ensures.fits in
-    steady_kept a d c.args.direction c.args.lists.now c.rounds.windows c.in_ok-later.later p.words q.words c.requires.design c.requires.direction c.requires.lists inv.fits after inv.numbers c.in_ok-later.ensures.numbers carry net there alike
+    let after = fits_under a c.round.new.board.setting d c.args.direction c.load_into.new.windows (c.round.ensures.setting ∙ inv.setting) c.requires.design c.requires.direction c.load_into.ensures.fits in
+    steady_kept a d c.args.direction c.args.lists.now c.rounds.windows c.load_into.new.windows p.words q.words c.requires.design c.requires.direction c.requires.lists inv.fits after inv.numbers c.load_into.ensures.numbers carry net there alike
 
 pub rounds-smaller : goal.rounds-smaller
 rounds-smaller c =
@@ -68,8 +68,8 @@ rounds-smaller c =
     let q = pause_at c.round.new.source.state c.round.new.board in
     let round = rounds_here a b c.args.lists.now order (length c.rounds.workers) n p q inv.setting inv.count (c.round.ensures.round order o) in
     let carry = carried a d c.args.lists.now order n p q c.requires.design c.requires.some c.requires.lists o inv.kept round in
-    let after = fits_under a c.round.new.board.setting d c.args.direction c.in_ok-later.later (c.round.ensures.setting ∙ inv.setting) c.requires.design c.requires.direction c.in_ok-later.ensures.fits in
-    run_nearer a d c.args.direction c.rounds.windows c.in_ok-later.later p.words q.words c.requires.design c.requires.direction inv.fits after inv.numbers c.in_ok-later.ensures.numbers carry
+    let after = fits_under a c.round.new.board.setting d c.args.direction c.load_into.new.windows (c.round.ensures.setting ∙ inv.setting) c.requires.design c.requires.direction c.load_into.ensures.fits in
+    run_nearer a d c.args.direction c.rounds.windows c.load_into.new.windows p.words q.words c.requires.design c.requires.direction inv.fits after inv.numbers c.load_into.ensures.numbers carry
     (λ h. both_ways c.rounds.done c.rounds-test.true (inv.steady.1 h))
 
 pub rounds-preserved : goal.rounds-preserved
@@ -92,9 +92,11 @@ rounds-preserved c =
       setting = own;
       count = c.round.ensures.count ∙ inv.count;
       rooms = c.round.ensures.rooms;
-      fits = fits_under a c.round.new.board.setting d c.args.direction c.in_ok-later.later own c.requires.design c.requires.direction c.in_ok-later.ensures.fits;
-      numbers = c.in_ok-later.ensures.numbers;
-      steady = c.in_ok-done.ensures;
+      fits = fits_under a c.round.new.board.setting d c.args.direction c.load_into.new.windows own c.requires.design c.requires.direction c.load_into.ensures.fits;
+      numbers = c.load_into.ensures.numbers;
+      steady = c.closed_after-done.ensures.closed;
+      later = inv.fits.windows.count;
+      marks = marks_back c.rounds.marks.len c.rounds.marks.items c.closed_after-done.new.marks c.rounds.marks.ok.0 (c.closed_after-done.ensures.marks ∙ ap length c.as_mut_slice.ensures.value) ∙ inv.marks;
       kept = carry.kept;
       path = λ order oo.
           let round = rounds_here a b lists order m n p q inv.setting inv.count (c.round.ensures.round order oo) in
@@ -120,7 +122,7 @@ returns-clause-few c = λ bound b.
     let begin : Pause = record { source = c.args.number; words = c.args.board.now.words } in
     let end = pause_at c.rounds.source.state c.rounds.board in
     few_here c.args.board.now.setting c.args.design.now c.args.lists.now order (length c.args.workers.now) c.rounds.rounds bound begin end c.requires.design c.requires.some c.requires.lists o
-    c.in_ok-windows.ensures.kept.words (c.rounds.invariant.path order o) b
+    c.requires.kept.words (c.rounds.invariant.path order o) b
 
 pub prove-unreachable-requires : goal.prove-unreachable-requires
 prove-unreachable-requires c =
@@ -137,7 +139,7 @@ prove-unreachable-requires c =
     let round = rounds_here a c.rounds.board.setting lists order (length c.rounds.workers) n p q inv.setting inv.count (c.round.ensures.round order o) in
     let longer = one_more a d lists order n c.rounds.rounds begin p q c.rounds.windows c.requires.design inv.fits.windows.in_range inv.numbers (λ h. both_ways c.rounds.done c.rounds-test.true (inv.steady.1 h))
     (inv.path order o) round in
-    let few = few_here a d lists order n (c.rounds.rounds + 1) c.bound.result begin q c.requires.design c.requires.some c.requires.lists o c.in_ok-windows.ensures.kept.words longer c.bound.ensures in
+    let few = few_here a d lists order n (c.rounds.rounds + 1) c.bound.result begin q c.requires.design c.requires.some c.requires.lists o c.requires.kept.words longer c.bound.ensures.value in
     omega (arith, few, c.if-prove.true)
 
 pub overflow_add-rounds : goal.overflow_add-rounds

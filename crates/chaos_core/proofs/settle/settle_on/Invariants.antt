@@ -17,6 +17,8 @@ invariant-rounds l = record {
   rooms : All (HasRoom l.lists) l.workers;
   fits : IsFittingStart l.direction l.design l.windows;
   numbers : numbers_of l.windows ≡ l.board.words;
+  later : length l.later ≡ length l.design.nets;
+  marks : length l.marks.items ≡ length l.design.nets;
   steady : IsTrue l.done ↔ IsSteady l.design l.windows;
   kept : AreKept l.fn.board.setting l.board.words;
   path : (order : List ℕ) → IsOrder l.design.nets order

@@ -1,6 +1,4 @@
 use Rattle.std.proofs.Common.{◌≡◌, ℕ, subst, ap, ◌∙◌, List, length}
-use Rattle.std.specs.Prelude.{IfOk}
-use Rattle.std.proofs.lemmas.Result.{IfOk-weaker}
 use Rattle.xt_model.specs.Levels.{IsOrder}
 use Rattle.xt_model.specs.declared.direction.Direction.{Direction}
 use Rattle.xt_model.specs.Assign.{assigned}
@@ -19,20 +17,15 @@ returns-clause-rounds c =
     let s : c.in_ok-board.board.setting ≡ a = ap (λ (m : Memory). m.setting) c.in_ok-board.ensures in
     let n : length c.as_mut_slice.result.now ≡ c.args.workers = ap length c.as_mut_slice.ensures.value ∙ c.in_ok-workers.ensures.count in
     let lists = c.args.lists.now in
-    subst (λ (k : ℕ). IfOk c.settle_on.result
-    (λ settled. (order : List ℕ) → IsOrder c.args.design.now.nets order → Settles a lists order k c.args.number settled.windows settled.rounds)) n
-    (subst (λ (x : Setting). IfOk c.settle_on.result
-    (λ settled. (order : List ℕ) → IsOrder c.args.design.now.nets order
-    → Settles x lists order (length c.as_mut_slice.result.now) c.args.number settled.windows settled.rounds)) s c.settle_on.ensures.rounds)
+    let settled = c.settle_on.result in
+    subst (λ (k : ℕ). (order : List ℕ) → IsOrder c.args.design.now.nets order → Settles a lists order k c.args.number settled.windows settled.rounds) n
+    (subst (λ (x : Setting). (order : List ℕ) → IsOrder c.args.design.now.nets order
+    → Settles x lists order (length c.as_mut_slice.result.now) c.args.number settled.windows settled.rounds) s c.settle_on.ensures.rounds)
 
 pub returns-clause-consistent : goal.returns-clause-consistent
 returns-clause-consistent c = λ narrow.
     let d = c.args.design.now in
     let within = c.requires.start.within in
     let o = c.requires.lists.ordered.1 in
-    IfOk-weaker
-    c.settle_on.result
-    (λ settled. IsExtremeFixpoint c.args.direction d settled.windows)
-    (λ settled. (xs : List Transition) → AreConsistent d xs → LieWithin (assigned settled.windows) xs)
-    (λ settled h xs are. within_greatest d o.0 within.top settled.windows xs c.requires.lists.sound o.1 within.envelope (subst (λ (way : Direction). IsExtremeFixpoint way d settled.windows) narrow h) are)
-    c.settle_on.ensures.extreme
+    let settled = c.settle_on.result in
+    λ xs are. within_greatest d o.0 within.top settled.windows xs c.requires.lists.sound o.1 within.envelope (subst (λ (way : Direction). IsExtremeFixpoint way d settled.windows) narrow c.settle_on.ensures.extreme) are

@@ -19,7 +19,7 @@ prove-unreachable-requires g c =
     let d = c.args.run.now.design.now in
     let inv = c.rounds.invariant in
     let few = turns_fewer a d c.rounds.rounds c.bound.result c.args.first.now.view.seen c.rounds.first.view.seen c.requires.run.design c.look-done.ensures.kept inv.steps
-    (λ k. both_ways c.rounds.done c.rounds-test.true (inv.closed.1 k)) c.bound.ensures in
+    (λ k. both_ways c.rounds.done c.rounds-test.true (inv.closed.1 k)) c.bound.ensures.value in
     omega (arith, few, c.if-prove.true)
 
 pub rounds-smaller : goal.rounds-smaller

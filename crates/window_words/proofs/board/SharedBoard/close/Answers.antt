@@ -5,7 +5,7 @@ use Rattle.chaos_core.specs.Boards.{nets_of}
 use Rattle.window_words.specs.declared.view.View.{View}
 use Rattle.window_words.specs.Boards.{Holding}
 use Rattle.window_words.specs.Steps.{Loaded}
-use Rattle.window_words.proofs.Holding.{loads_same, loads_next}
+use Rattle.window_words.proofs.Holding.{loads_same, loads_next, rested}
 use Rattle.window_words.proofs.board.SharedBoard.close.Goals as goal
 
 pub load-requires-clause-word : goal.load-requires-clause-word
@@ -32,11 +32,12 @@ loop-word-preserved c =
     record {
       own = c.load.ensures.own;
       view = loads_same first after word number c.requires.alone step;
+      rested = λ some. rested first after word number c.requires.alone step;
       words = c.in_ok-push.ensures.items ∙ loads_next first after word number c.loop-word.words.items c.requires.alone step inside c.loop-word.invariant.words;
     }
 
-pub returns : goal.returns
-returns c =
+pub returns-clause-words : goal.returns-clause-words
+returns-clause-words c =
     let first : View = c.args.first.view in
     let whole = subst (λ (h : Holding). length h.view.seen ≡ 8 * nets_of h.view.setting) c.first.view_is c.first.invariant.seen.count in
     let end : length first.seen ≤ c.loop-word.word =
@@ -45,3 +46,10 @@ returns c =
     let run = ap (λ (a : Setting). 8 * nets_of a) c.requires.own.setting in
     omega (arith, past, count, run, whole) in
     c.loop-word.invariant.words ∙ take_all c.loop-word.word first.seen end
+
+pub returns-clause-rested : goal.returns-clause-rested
+returns-clause-rested c = λ some.
+    let past = c.loop-word-test.false in
+    let count = c.draw_word-count.ensures.word in
+    let run = ap (λ (a : Setting). 8 * nets_of a) c.requires.own.setting in
+    c.loop-word.invariant.rested (omega (arith, past, count, run, some))
