@@ -1,6 +1,6 @@
 use Rattle.std.proofs.Common.{subst}
 use Rattle.std.proofs.lemmas.Result.{err_from_is_err_and}
-use Rattle.xtalk_top.specs.Outcome.{DesignMeans, counted_by, prints}
+use Rattle.xtalk_top.specs.Outcome.{DesignMeans, Outcome, counted_by, prints}
 use Rattle.xtalk_top.specs.Linking.{BlockMeans}
 use Rattle.xtalk_top.specs.Report.{ReportMeans}
 use Rattle.xtalk_top.proofs.Blocks.{block_leads, block_stops}
@@ -20,7 +20,7 @@ pub returns : goal.returns
 returns g c =
     let content = g.F.Files.content c.args.files.now in
     let faults = g.F.Files.faults in
-    let leads = λ o m. block_leads c.args.job.files content (λ d. DesignMeans c.args.job.kind (counted_by c.args.job.miller d) o) o c.in_ok-design.design c.in_ok-design.ensures.0
+    let leads : (o : Outcome) → DesignMeans c.args.job.kind c.counted_by-design.result o → ReportMeans c.args.job content o = λ o m. block_leads c.args.job.files content (λ d. DesignMeans c.args.job.kind (counted_by c.args.job.miller d) o) o c.in_ok-design.design c.in_ok-design.ensures.0
     (subst (λ d. DesignMeans c.args.job.kind d o) c.counted_by-design.ensures.value m) in
     answers_unread (DesignMeans c.args.job.kind c.counted_by-design.result) (ReportMeans c.args.job content) leads
     _ (λ text. ReportMeans c.args.job content (prints text.items)) (λ text h. leads (prints text.items) h)

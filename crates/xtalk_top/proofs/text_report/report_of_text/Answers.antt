@@ -1,5 +1,5 @@
 use Rattle.std.proofs.lemmas.Result.{err_from_is_err_and}
-use Rattle.xtalk_top.specs.Outcome.{FileMeans, LinkedMeans, DesignMeans, TextReportMeans, counted_by, prints}
+use Rattle.xtalk_top.specs.Outcome.{FileMeans, LinkedMeans, DesignMeans, Outcome, TextReportMeans, counted_by, prints}
 use Rattle.xtalk_top.proofs.Given.{design_leads}
 use Rattle.xtalk_top.proofs.Lifts.{answers_unread, file_leads, file_stops, linked_stops, stops_first, stops_unread}
 use Rattle.xtalk_top.proofs.text_report.report_of_text.Goals as goal
@@ -32,7 +32,7 @@ returns g c =
     let text = c.in_ok-design.ensures.ok in
     let content = g.F.Files.content c.args.files.now in
     let faults = g.F.Files.faults in
-    let leads = λ o m. design_leads c.args.file c.args.miller c.args.kind content c.in_ok-file.bytes.items c.in_ok-design.design c.counted_by-design.result o c.in_ok-file.ensures.whole
+    let leads : (o : Outcome) → DesignMeans c.args.kind c.counted_by-design.result o → TextReportMeans c.args.file c.args.miller c.args.kind content o = λ o m. design_leads c.args.file c.args.miller c.args.kind content c.in_ok-file.bytes.items c.in_ok-design.design c.counted_by-design.result o c.in_ok-file.ensures.whole
     c.in_ok-file.ensures.fits text c.counted_by-design.ensures.value m in
     answers_unread (DesignMeans c.args.kind c.counted_by-design.result) (TextReportMeans c.args.file c.args.miller c.args.kind content) leads
     _ (λ text. TextReportMeans c.args.file c.args.miller c.args.kind content (prints text.items)) (λ text h. leads (prints text.items) h)

@@ -3,9 +3,9 @@ use Rattle.std.specs.Prelude.{MatchOption}
 use Rattle.command_line.specs.Words.{HasCount, bytes_of}
 use Rattle.command_line.specs.declared.words.Job.{Job}
 use Rattle.xtalk_top.specs.declared.refusal.Refusal.TheVariants.{Words}
-use Rattle.xtalk_top.specs.Outcome.{prints, refuses}
+use Rattle.xtalk_top.specs.Outcome.{Outcome, prints, refuses}
 use Rattle.xtalk_top.specs.Call.{JobMeans, Means}
-use Rattle.xtalk_top.proofs.Counts.{job_counts}
+use Rattle.command_line.proofs.Counts.{job_counts}
 use Rattle.xtalk_top.proofs.Lifts.{answers_first, job_means}
 use Rattle.xtalk_top.proofs.top.text_of.Goals as goal
 
@@ -19,7 +19,7 @@ returns-in-Ok g c =
     let words = bytes_of c.args.words.now in
     let content = g.F.Files.content c.args.files.now in
     let faults = g.F.Files.faults in
-    let leads = λ o m. job_means words content c.in-Ok.job o c.in-Ok.ensures.parsed m in
+    let leads : (o : Outcome) → JobMeans c.in-Ok.job content o → Means words content o = λ o m. job_means words content c.in-Ok.job o c.in-Ok.ensures.parsed m in
     answers_first (JobMeans c.in-Ok.job content) (Means words content) leads
     _ (λ text. Means words content (prints text.items)) (λ text h. leads (prints text.items) h)
     (faults c.args.files.now) (faults c.job_text.new.files) c.job_text.result c.job_text.ensures
