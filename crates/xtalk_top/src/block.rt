@@ -18,8 +18,7 @@ ghost use Rattle.xtalk_top.specs.declared.refusal.TextRefusal.TheVariants.{At};
 
 use crate::input::read_file;
 use crate::refusal::{FileRefusal, PassedLimit, Refusal, Stop, TextRefusal, Unlinked};
-use command_line::BlockFiles;
-use command_line::FileName;
+use command_line::{BlockFiles, FileName};
 use design_link::link;
 use liberty_cells::Library;
 use link_rules::LinkFault;
@@ -175,10 +174,12 @@ fn finish_block<F: Files>(
     requires time { IsScale library.now.time_scale }
     requires cap { IsScale library.now.cap_scale }
     requires netlist { IsSoundNetlist netlist.now }
-    ensures { let content = F.content files.old in
-        let Meant = λ o. LastFilesMean spef sdc content library.now netlist.now (λ x. LinkingMeans x (λ _. ⊥) o) o in
-        let IsValue = FinishDesign spef sdc content library.now netlist.now in
-        Answers result IsValue Meant (F.faults files.old) (F.faults files.new) }
+    ensures { Answers
+        result
+        (FinishDesign spef sdc (F.content files.old) library.now netlist.now)
+        (λ o. LastFilesMean spef sdc (F.content files.old) library.now netlist.now (λ x. LinkingMeans x (λ _. ⊥) o) o)
+        (F.faults files.old)
+        (F.faults files.new) }
 {
     let parasitics = parasitics(alloc, files, spef)?;
     let constraints = constraints(alloc, files, sdc, library, netlist)?;

@@ -26,10 +26,7 @@ pub enum DesignRefusal {
 #[derive(Drop)]
 pub enum TextRefusal {
     /// It is refused at this line, counted from 1.
-    At {
-        line: u32,
-        code: Code,
-    },
+    At { line: u32, code: Code },
     /// It passes a limit: a load has the name of its net.
     Beyond(PassedLimit<LimitKind, u128>),
 }

@@ -11,10 +11,10 @@ ghost use Rattle.xtalk_top.specs.declared.refusal.Refusal.TheVariants.{File};
 ghost use Rattle.xtalk_top.specs.declared.refusal.FileRefusal.TheVariants.{Content, TooLong};
 ghost use Rattle.xtalk_top.specs.declared.refusal.TextRefusal.TheVariants.{At};
 
-use command_line::FileName;
 use crate::refusal::{
     DesignRefusal, Failure, FileRefusal, PassedLimit, Refusal, Stop, TextRefusal, Unlinked,
 };
+use command_line::FileName;
 use envelope::What;
 use itoa::Buffer;
 use link_rules::LinkRefusal;
@@ -293,10 +293,7 @@ fn write_count_limit<E: Sink>(
 }
 
 // Writes which limit a window of an envelope passes.
-fn write_window_limit<E: Sink>(
-    err: &mut E,
-    limit: &PassedLimit<What, i128>,
-) -> Result<(), Failed>
+fn write_window_limit<E: Sink>(err: &mut E, limit: &PassedLimit<What, i128>) -> Result<(), Failed>
     ensures ok { OnOk result (E.written err.new ≡ appended (E.written err.old)
         (window_limit_words limit.now ++ 10 ∷ [])) }
     ensures err { OnErr result (IsPrefixAppended (E.written err.old) (E.written err.new)

@@ -51,17 +51,15 @@ fn run_from<R: Threads + Sync, G: Gate>(
 {
     let Runs { workers, turns } = runs;
     match turns {
-        Turns::InThreads => settle_from(
-            rt, alloc, design, lists, direction, start, workers, gate,
-        ),
+        Turns::InThreads => settle_from(rt, alloc, design, lists, direction, start, workers, gate),
         Turns::Picked(number) => settle_picked(
             alloc, design, lists, direction, start, workers, number,
         ),
     }
 }
 
-/// Runs twice, wider from `low` and narrower from `high`: to the least and the greatest windows of a design, each within
-/// the design's bound on rounds. Fails only for want of memory.
+/// Runs twice, wider from `low` and narrower from `high`: to the least and the greatest windows of a design, in rounds
+/// within its bound. Fails only for want of memory.
 pub fn both_from<R: Threads + Sync, G: Gate>(
     rt: &R,
     alloc: Global,
@@ -81,16 +79,7 @@ pub fn both_from<R: Threads + Sync, G: Gate>(
     ensures few { IfOk result (λ found. (bound : ℕ) → IsRoundBound design.now.nets bound
         → (found.low_rounds ≤ bound) × (found.high_rounds ≤ bound)) }
 {
-    let least = run_from(
-        rt,
-        alloc,
-        gate,
-        design,
-        lists,
-        Direction::Widen,
-        low,
-        runs,
-    )?;
+    let least = run_from(rt, alloc, gate, design, lists, Direction::Widen, low, runs)?;
     let greatest = run_from(
         rt,
         alloc,

@@ -33,9 +33,9 @@ fn envelope_of(alloc: Global, design: &Design) -> Result<Windows, Stop>
 {
     match envelope(alloc, design) {
         Ok(top) => Ok(top),
-        Err(EnvelopeFault::Limit { net, what, value }) => Err(
-            passed(alloc, design, net, what, value),
-        ),
+        Err(EnvelopeFault::Limit { net, what, value }) => Err(passed(
+            alloc, design, net, what, value,
+        )),
         Err(EnvelopeFault::NoMemory) => Err(Stop::NoMemory),
     }
 }

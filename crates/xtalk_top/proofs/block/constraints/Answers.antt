@@ -15,21 +15,25 @@ scale_kept x h = omega (arith, ints, h.0, h.1)
 pub returns-in-Ok-clause-answer : goal.returns-in-Ok-clause-answer
 returns-in-Ok-clause-answer g c =
     let time = scale_kept c.args.library.now.time_scale c.requires.time in
-    let cap = scale_kept c.args.library.now.cap_scale c.requires.cap in
-    (record {
-      bytes = c.in_ok-file.bytes.items;
-      held = c.in_ok-file.ensures.whole;
-      fits = c.in_ok-file.ensures.fits;
-      means = ap by_line (rw (c.deref.ensures.value, time, cap) at c.in-Ok.ensures.value);
-    }, c.in_ok-file.ensures.answer.1)
+    let cap = scale_kept c.args.library.now.cap_scale c.requires.cap in (
+      record {
+        bytes = c.in_ok-file.bytes.items;
+        held = c.in_ok-file.ensures.whole;
+        fits = c.in_ok-file.ensures.fits;
+        means = ap by_line (rw (c.deref.ensures.value, time, cap) at c.in-Ok.ensures.value);
+      },
+      c.in_ok-file.ensures.answer.1,
+    )
 
 pub returns-in-Err-Refused-clause-answer : goal.returns-in-Err-Refused-clause-answer
 returns-in-Err-Refused-clause-answer g c =
     let time = scale_kept c.args.library.now.time_scale c.requires.time in
     let cap = scale_kept c.args.library.now.cap_scale c.requires.cap in
-    rw c.refused.ensures (text_refused c.args.file c.in_ok-file.file (g.F.Files.content c.args.files.now) (constraints_in c.args.library.now c.args.netlist.now) c.in_ok-file.bytes.items c.in-Err-Refused.line c.in-Err-Refused.code
-    c.in_ok-file.ensures.answer.0 c.in_ok-file.ensures.whole c.in_ok-file.ensures.fits (ap by_line (rw (c.deref.ensures.value, c.in-Err-Refused.field-0-is, time, cap) at c.in-Err-Refused.ensures.value)),
-    λ _. c.in_ok-file.ensures.answer.1)
+    rw c.refused.ensures (
+      text_refused c.args.file c.in_ok-file.file (g.F.Files.content c.args.files.now) (constraints_in c.args.library.now c.args.netlist.now) c.in_ok-file.bytes.items c.in-Err-Refused.line c.in-Err-Refused.code
+          c.in_ok-file.ensures.answer.0 c.in_ok-file.ensures.whole c.in_ok-file.ensures.fits (ap by_line (rw (c.deref.ensures.value, c.in-Err-Refused.field-0-is, time, cap) at c.in-Err-Refused.ensures.value)),
+      λ _. c.in_ok-file.ensures.answer.1,
+    )
 
 pub returns-in-Err-NoMemory-clause-answer : goal.returns-in-Err-NoMemory-clause-answer
 returns-in-Err-NoMemory-clause-answer g c = (tt, λ _. c.in_ok-file.ensures.answer.1)

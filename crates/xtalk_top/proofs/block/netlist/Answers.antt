@@ -7,19 +7,23 @@ use Rattle.xtalk_top.proofs.Lifts.{file_stops, stops_first}
 use Rattle.xtalk_top.proofs.block.netlist.Goals as goal
 
 pub returns-in-Ok-clause-answer : goal.returns-in-Ok-clause-answer
-returns-in-Ok-clause-answer g c =
-    (record {
-      bytes = c.in_ok-file.bytes.items;
-      held = c.in_ok-file.ensures.whole;
-      fits = c.in_ok-file.ensures.fits;
-      means = ap by_line (rw c.deref.ensures.value at c.in-Ok.ensures.value);
-    }, c.in_ok-file.ensures.answer.1)
+returns-in-Ok-clause-answer g c = (
+  record {
+    bytes = c.in_ok-file.bytes.items;
+    held = c.in_ok-file.ensures.whole;
+    fits = c.in_ok-file.ensures.fits;
+    means = ap by_line (rw c.deref.ensures.value at c.in-Ok.ensures.value);
+  },
+  c.in_ok-file.ensures.answer.1,
+)
 
 pub returns-in-Err-Refused-clause-answer : goal.returns-in-Err-Refused-clause-answer
 returns-in-Err-Refused-clause-answer g c =
-    rw c.refused.ensures (text_refused c.args.file c.in_ok-file.file (g.F.Files.content c.args.files.now) netlist_in c.in_ok-file.bytes.items c.in-Err-Refused.line c.in-Err-Refused.code
-    c.in_ok-file.ensures.answer.0 c.in_ok-file.ensures.whole c.in_ok-file.ensures.fits (ap by_line (rw (c.deref.ensures.value, c.in-Err-Refused.field-0-is) at c.in-Err-Refused.ensures.value)),
-    λ _. c.in_ok-file.ensures.answer.1)
+    rw c.refused.ensures (
+      text_refused c.args.file c.in_ok-file.file (g.F.Files.content c.args.files.now) netlist_in c.in_ok-file.bytes.items c.in-Err-Refused.line c.in-Err-Refused.code
+          c.in_ok-file.ensures.answer.0 c.in_ok-file.ensures.whole c.in_ok-file.ensures.fits (ap by_line (rw (c.deref.ensures.value, c.in-Err-Refused.field-0-is) at c.in-Err-Refused.ensures.value)),
+      λ _. c.in_ok-file.ensures.answer.1,
+    )
 
 pub returns-in-Err-NoMemory-clause-answer : goal.returns-in-Err-NoMemory-clause-answer
 returns-in-Err-NoMemory-clause-answer g c = (tt, λ _. c.in_ok-file.ensures.answer.1)

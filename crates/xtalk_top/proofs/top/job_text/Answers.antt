@@ -6,7 +6,7 @@ use Rattle.xtalk_top.specs.Gen.{GenMeans}
 use Rattle.xtalk_top.proofs.top.job_text.Goals as goal
 
 pub summary_of_generated-requires-clause-nets : goal.summary_of_generated-requires-clause-nets
-summary_of_generated-requires-clause-nets g c =
+summary_of_generated-requires-clause-nets g c = λ _ _.
     let counts : HasCount c.args.job = c.requires.count in
     let of_gen = rw c.in-Gen.is at counts in
     record { some = of_gen.0.some; most = of_gen.0.most }

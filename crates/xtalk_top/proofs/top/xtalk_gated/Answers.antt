@@ -42,11 +42,11 @@ returns-in-Ok g c =
     let text = c.in-Ok.text.items in
     record {
       printed = λ whole.
-      let written = c.write_text.ensures.whole whole in
-      (text, c.in-Ok.ensures.0, rw c.deref.ensures.value at written.0, written.2);
+          let written = c.write_text.ensures.whole whole in
+          (text, c.in-Ok.ensures.0, rw c.deref.ensures.value at written.0, written.2);
       failed = λ bad.
-      let cut = c.write_text.ensures.cut_off bad in
-      (Unwritten, cut.0, (text, c.in-Ok.ensures.0, rw c.deref.ensures.value at cut.1), cut.2);
+          let cut = c.write_text.ensures.cut_off bad in
+          (Unwritten, cut.0, (text, c.in-Ok.ensures.0, rw c.deref.ensures.value at cut.1), cut.2);
       kept = (
         λ bad other. absurd (other (c.write_text.ensures.cut_off bad).0),
         unless_seven c.write_text.result (g.O.Sink.faults c.write_text.new.out ≡ g.O.Sink.faults c.args.out.now)
@@ -55,8 +55,8 @@ returns-in-Ok g c =
       );
       refused = λ why meant known. absurd (not_both (Means words content) (one_outcome words content known) text why c.in-Ok.ensures.0 meant);
       complete = λ accepted calm quiet.
-      zero_or_eight c.write_text.result (Rose (g.O.Sink.faults c.args.out.now) (g.O.Sink.faults c.write_text.new.out))
-      (λ bad. (c.write_text.ensures.cut_off bad).1.1) quiet;
+          zero_or_eight c.write_text.result (Rose (g.O.Sink.faults c.args.out.now) (g.O.Sink.faults c.write_text.new.out))
+          (λ bad. (c.write_text.ensures.cut_off bad).1.1) quiet;
     }
 
 pub returns-in-Err : goal.returns-in-Err
@@ -71,6 +71,6 @@ returns-in-Err g c =
       failed = λ _. (NoText stop, status, c.in-Err.ensures.0, c.refuse.ensures.line);
       kept = (λ _ _. refl, λ _. refl, λ other. c.in-Err.ensures.1 (λ six. other (status ∙ six)));
       refused = λ why meant known.
-      refused (Means words content) Fault (one_outcome words content known) why stop c.refuse.result meant c.in-Err.ensures.0 status;
+          refused (Means words content) Fault (one_outcome words content known) why stop c.refuse.result meant c.in-Err.ensures.0 status;
       complete = λ accepted calm quiet. completed (Means words content) Fault stop c.refuse.result accepted calm c.in-Err.ensures.0 status;
     }
