@@ -19,10 +19,10 @@ use Rattle.xtalk_edge.specs.Run.{IsCallStatus}
 not_nine : (failure : Failure) → status_of failure ≡ 9 → ⊥
 not_nine (NoText (Refused Words)) e = omega (arith, e)
 not_nine (NoText (Refused (File file (Content (At line code))))) e = omega (arith, e)
-not_nine (NoText (Refused (File file (Content (Beyond what name value))))) e = omega (arith, e)
+not_nine (NoText (Refused (File file (Content (Beyond limit))))) e = omega (arith, e)
 not_nine (NoText (Refused (File file TooLong))) e = omega (arith, e)
 not_nine (NoText (Refused (Linking (unlinked.Refused why)))) e = omega (arith, e)
-not_nine (NoText (Refused (Linking (unlinked.Beyond what name value)))) e = omega (arith, e)
+not_nine (NoText (Refused (Linking (unlinked.Beyond limit)))) e = omega (arith, e)
 not_nine (NoText (Refused (Design (Limit passed)))) e = omega (arith, e)
 not_nine (NoText (Unread file)) e = omega (arith, e)
 not_nine (NoText NoMemory) e = omega (arith, e)

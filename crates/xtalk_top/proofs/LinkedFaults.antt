@@ -21,7 +21,7 @@ pub at_is : (bytes : Text) (line : ℕ) (code : Code) (f : Fault) → ◌≡◌ 
 at_is bytes line code (faults.Refused left c) e = cc
 at_is bytes line code (faults.Limit what name value) e = absurd cc
 
-pub beyond_is : (bytes : Text) (what : LimitKind) (name : Option Text) (value : ℕ) (f : Fault) → ◌≡◌ {A = LinkedFault} (linked.Limit what name value) (with_line bytes f) → ◌≡◌ {A = TextRefusal} (Beyond what name value) (why_refused bytes f)
+pub beyond_is : (bytes : Text) (what : LimitKind) (name : Option Text) (value : ℕ) (f : Fault) → ◌≡◌ {A = LinkedFault} (linked.Limit what name value) (with_line bytes f) → ◌≡◌ {A = TextRefusal} (Beyond (record { what = what; name = name; value = value })) (why_refused bytes f)
 beyond_is bytes what name value (faults.Refused left c) e = absurd cc
 beyond_is bytes what name value (faults.Limit w n v) e = cc
 
@@ -29,7 +29,7 @@ beyond_is bytes what name value (faults.Limit w n v) e = cc
 pub refused_at : (file bytes : Text) (line : ℕ) (code : Code) → IsRefusalWithLine bytes (linked.Refused line code) → LinkedMeans file bytes (λ d. ⊥) (refuses (File file (Content (At line code))))
 refused_at file bytes line code t = inl (t.0, t.1, ap (λ w. refuses (File file (Content w))) (at_is bytes line code t.0 t.2))
 
-pub refused_beyond : (file bytes : Text) (what : LimitKind) (name : Option Text) (value : ℕ) → IsRefusalWithLine bytes (linked.Limit what name value) → LinkedMeans file bytes (λ d. ⊥) (refuses (File file (Content (Beyond what name value))))
+pub refused_beyond : (file bytes : Text) (what : LimitKind) (name : Option Text) (value : ℕ) → IsRefusalWithLine bytes (linked.Limit what name value) → LinkedMeans file bytes (λ d. ⊥) (refuses (File file (Content (Beyond (record { what = what; name = name; value = value })))))
 refused_beyond file bytes what name value t = inl (t.0, t.1, ap (λ w. refuses (File file (Content w))) (beyond_is bytes what name value t.0 t.2))
 
 -- a file has fewer lines than there are numbers for them

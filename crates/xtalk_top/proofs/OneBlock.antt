@@ -1,20 +1,16 @@
 -- Where the contents of the files are known, the files of a block lead to one outcome.
 use Rattle.std.proofs.Common.{◌≡◌, ◌≤◌, length, Result, Ok, Err, IfSome, refl, subst, inl, inr}
 use Rattle.std.specs.Prelude.{IsSome}
-use Rattle.xt_model.specs.declared.code.Code.{Code}
 use Rattle.xt_model.specs.Parts.{Parts}
 use Rattle.xt_model.specs.Sound.{IsSound}
-use Rattle.text_forms.specs.Forms.{Refusal as Place}
-use Rattle.liberty_cells.specs.Library.{library_meant}
-use Rattle.verilog_net.specs.Reading.{netlist_of_text}
-use Rattle.spef_read.specs.Reading.{parasitics_of}
 use Rattle.link_rules.specs.Bare.{Inputs}
 use Rattle.link_rules.proofs.OneOutcome.{design_is_one, fault_is_one, linked_is_accepted}
 use Rattle.command_line.specs.Words.{Text}
 use Rattle.xtalk_top.specs.Outcome.{Contents, Outcome, unread, most_bytes}
-use Rattle.xtalk_top.specs.Linking.{BlockMeans, FileAndText, HoldsText, LinkingMeans, SourceMeans, constraints_for, fault_of}
+use Rattle.xtalk_top.specs.Linking.{BlockMeans, FileAndText, HoldsText, LinkingMeans, SourceMeans, constraints_in, fault_of, library_in, netlist_in, parasitics_in}
 use Rattle.xtalk_top.specs.Call.{status_of}
 use Rattle.command_line.specs.declared.words.BlockFiles.{BlockFiles}
+use Rattle.xtalk_top.specs.declared.refusal.TextRefusal.{TextRefusal}
 use Rattle.xtalk_top.specs.declared.refusal.Unlinked.{Unlinked}
 use Rattle.xtalk_top.specs.declared.refusal.Unlinked.TheVariants as unlinked
 use Rattle.xtalk_top.specs.declared.refusal.Refusal.TheVariants.{Linking}
@@ -26,9 +22,9 @@ use Rattle.xtalk_top.proofs.Blocks.{text_leads}
 -- refusals of linking that are one fault have one status
 same_status : (v w : Unlinked) → fault_of v ≡ fault_of w → status_of (NoText (Refused (Linking v))) ≡ status_of (NoText (Refused (Linking w)))
 same_status (unlinked.Refused a) (unlinked.Refused b) e = refl
-same_status (unlinked.Refused a) (unlinked.Beyond what name value) e = absurd cc
-same_status (unlinked.Beyond what name value) (unlinked.Refused b) e = absurd cc
-same_status (unlinked.Beyond what name value) (unlinked.Beyond other third number) e = refl
+same_status (unlinked.Refused a) (unlinked.Beyond limit) e = absurd cc
+same_status (unlinked.Beyond limit) (unlinked.Refused b) e = absurd cc
+same_status (unlinked.Beyond limit) (unlinked.Beyond other) e = refl
 
 -- linking has one outcome: its first fault, or else the one design
 one_of_linking : (x : Inputs) (Leads : Parts → Outcome → Type 0) → ((d : Parts) → IsSound d → LeavesOne (Leads d)) → LeavesOne (λ o. LinkingMeans x (λ d. Leads d o) o)
@@ -38,39 +34,39 @@ one_of_linking x Leads one o p (inr a) (inl b) = absurd (linked_is_accepted x (f
 one_of_linking x Leads one o p (inr a) (inr b) = one a.0 a.2 o p a.3 (subst (λ d. Leads d p) (design_is_one x b.0 a.0 b.1 a.1) b.3)
 
 -- a file and its text, where what the values lead to leaves one outcome for each value that the file holds
-one_of_text : {V : Type 0} (file : Text) (content : Contents) (meant : Text → Result V (Place Code)) (Leads : V → Outcome → Type 0)
+one_of_text : {V : Type 0} (file : Text) (content : Contents) (meant : Text → Result V TextRefusal) (Leads : V → Outcome → Type 0)
     → IsSome (content file) → ((v : V) → HoldsText file content meant v → LeavesOne (Leads v)) → LeavesOne (λ o. FileAndText file content meant (λ v. Leads v o) o)
 one_of_text {V} file content meant Leads known one =
     one_of_file_at file content (λ bytes o. SourceMeans file (meant bytes) (λ v. Leads v o) o) known (λ bytes held fits. go bytes held fits (meant bytes) refl)
   where
-    go : (bytes : Text) → IfSome (content file) (λ whole. bytes ≡ whole) → length bytes ≤ most_bytes → (r : Result V (Place Code)) → meant bytes ≡ r
+    go : (bytes : Text) → IfSome (content file) (λ whole. bytes ≡ whole) → length bytes ≤ most_bytes → (r : Result V TextRefusal) → meant bytes ≡ r
         → LeavesOne (λ o. SourceMeans file r (λ v. Leads v o) o)
     go bytes held fits (Ok v) e = one v (record { bytes = bytes; held = held; fits = fits; means = e })
-    go bytes held fits (Err place) e = λ o p a b. agree_as o p _ _ a b refl
+    go bytes held fits (Err why) e = λ o p a b. agree_as o p _ _ a b refl
 
 pub one_of_block : (files : BlockFiles) (content : Contents) (Leads : Parts → Outcome → Type 0)
     → ((f : Text) → BlockMeans files content (λ d. Leads d (unread f)) (unread f) → IsSome (content f))
     → ((d : Parts) → IsSound d → LeavesOne (Leads d)) → LeavesOne (λ o. BlockMeans files content (λ d. Leads d o) o)
 one_of_block files content Leads known one =
-    one_of_text files.lib content library_meant (λ library o.
-    FileAndText files.netlist content netlist_of_text (λ netlist.
-    FileAndText files.spef content parasitics_of (λ parasitics.
-    FileAndText files.sdc content (constraints_for library netlist) (λ constraints.
+    one_of_text files.lib content library_in (λ library o.
+    FileAndText files.netlist content netlist_in (λ netlist.
+    FileAndText files.spef content parasitics_in (λ parasitics.
+    FileAndText files.sdc content (constraints_in library netlist) (λ constraints.
     LinkingMeans (record { library = library; netlist = netlist; parasitics = parasitics; constraints = constraints }) (λ d. Leads d o) o) o) o) o)
     (known files.lib (inl refl)) (λ library a.
-    one_of_text files.netlist content netlist_of_text (λ netlist o.
-    FileAndText files.spef content parasitics_of (λ parasitics.
-    FileAndText files.sdc content (constraints_for library netlist) (λ constraints.
+    one_of_text files.netlist content netlist_in (λ netlist o.
+    FileAndText files.spef content parasitics_in (λ parasitics.
+    FileAndText files.sdc content (constraints_in library netlist) (λ constraints.
     LinkingMeans (record { library = library; netlist = netlist; parasitics = parasitics; constraints = constraints }) (λ d. Leads d o) o) o) o)
-    (known files.netlist (text_leads files.lib content library_meant _ (unread files.netlist) library a (inl refl))) (λ netlist b.
-    one_of_text files.spef content parasitics_of (λ parasitics o.
-    FileAndText files.sdc content (constraints_for library netlist) (λ constraints.
+    (known files.netlist (text_leads files.lib content library_in _ (unread files.netlist) library a (inl refl))) (λ netlist b.
+    one_of_text files.spef content parasitics_in (λ parasitics o.
+    FileAndText files.sdc content (constraints_in library netlist) (λ constraints.
     LinkingMeans (record { library = library; netlist = netlist; parasitics = parasitics; constraints = constraints }) (λ d. Leads d o) o) o)
-    (known files.spef (text_leads files.lib content library_meant _ (unread files.spef) library a
-    (text_leads files.netlist content netlist_of_text _ (unread files.spef) netlist b (inl refl)))) (λ parasitics k.
-    one_of_text files.sdc content (constraints_for library netlist) (λ constraints o.
+    (known files.spef (text_leads files.lib content library_in _ (unread files.spef) library a
+    (text_leads files.netlist content netlist_in _ (unread files.spef) netlist b (inl refl)))) (λ parasitics k.
+    one_of_text files.sdc content (constraints_in library netlist) (λ constraints o.
     LinkingMeans (record { library = library; netlist = netlist; parasitics = parasitics; constraints = constraints }) (λ d. Leads d o) o)
-    (known files.sdc (text_leads files.lib content library_meant _ (unread files.sdc) library a
-    (text_leads files.netlist content netlist_of_text _ (unread files.sdc) netlist b
-    (text_leads files.spef content parasitics_of _ (unread files.sdc) parasitics k (inl refl))))) (λ constraints h.
+    (known files.sdc (text_leads files.lib content library_in _ (unread files.sdc) library a
+    (text_leads files.netlist content netlist_in _ (unread files.sdc) netlist b
+    (text_leads files.spef content parasitics_in _ (unread files.sdc) parasitics k (inl refl))))) (λ constraints h.
     one_of_linking _ Leads one))))

@@ -2,7 +2,7 @@
 -- and the greatest of which holds all consistent transitions.
 use Rattle.xt_model.specs.Parts.{Parts}
 use Rattle.xt_model.specs.Sound.{IsSound}
-use Rattle.std.specs.Prelude.{List}
+use Rattle.std.specs.Prelude.{List, ℤ}
 use Rattle.xt_model.specs.declared.quad.Pair.{Pair}
 use Rattle.xt_model.specs.Levels.{AreLevelled}
 use Rattle.xt_model.specs.declared.direction.Direction.TheVariants.{Narrow}
@@ -14,11 +14,12 @@ use Rattle.run_laws.proofs.Hulls.{within_greatest as consistent_within}
 use Rattle.xt_meaning.specs.Fixpoint.{IsContained, IsFixpoint, IsLeastFixpoint, IsGreatestFixpoint}
 use Rattle.xt_meaning.proofs.Extremes.{fixpoint_closed, least_within, within_greatest}
 use Rattle.xt_meaning.proofs.Steps.{contained_narrow}
+use Rattle.envelope.specs.declared.fault.What.{What}
 use Rattle.envelope.proofs.Turns.{none_stopped}
 use Rattle.xtalk_top.specs.Outcome.{AreBounds, KeepsLimits, IsPassed}
 use Rattle.xtalk_top.specs.declared.refusal.PassedLimit.{PassedLimit}
 
-pub within_or_passed : (d : Parts) (passed : PassedLimit) → IsSound d → KeepsLimits d → IsPassed d passed → ⊥
+pub within_or_passed : (d : Parts) (passed : PassedLimit What ℤ) → IsSound d → KeepsLimits d → IsPassed d passed → ⊥
 within_or_passed d passed sound within p = none_stopped d p.number passed.what passed.value within.envelope sound p.first within.widest within.accepted
 
 pub are_bounds : (d : Parts) (top low high : List Pair) → IsSound d → AreLevelled d.nets → IsEnvelope d top → IsLeastFixpoint d low → IsGreatestFixpoint d high

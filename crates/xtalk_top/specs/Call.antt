@@ -1,16 +1,16 @@
 -- What a call does, from its words and its files to its status and its line.
-use Rattle.std.specs.Prelude.{◌≡◌, ℕ, ◌+◌, ◌⊎◌, ◌≤◌, ◌++◌, [], ◌∷◌, List, length, take, codes}
-use Rattle.std.specs.Prelude.{Option, IsSome, MatchOption}
+use Rattle.std.specs.Prelude.{◌≡◌, ◌≢◌, ℕ, ◌+◌, ◌⊎◌, ◌≤◌, ◌++◌, [], ◌∷◌, List, length, take, codes}
+use Rattle.std.specs.Prelude.{Option, IsSome, MatchOption, Result, Ok, Err}
 use Rattle.std.specs.Fmt.{decimal}
 use Rattle.xt_model.specs.Codes.{code_text}
-use Rattle.xt_io.specs.Outside.{Rose, ChangesOnly, IsPrefixAppended, appended}
+use Rattle.xt_io.specs.Outside.{Rose, ChangesOnly, KeepsCounts, IsPrefixAppended, appended}
 use Rattle.xtalk_top.specs.Outcome.{Contents, Outcome, prints, refuses, unread, most_bytes}
 use Rattle.xtalk_top.specs.Report.{ReportMeans}
 use Rattle.xtalk_top.specs.Solve.{SolveMeans}
 use Rattle.xtalk_top.specs.Replay.{ReplayMeans}
 use Rattle.xtalk_top.specs.Link.{LinkMeans}
 use Rattle.xtalk_top.specs.Gen.{GenMeans}
-use Rattle.xtalk_top.specs.FailureWords.{beyond_words, limit_words, link_words}
+use Rattle.xtalk_top.specs.FailureWords.{count_limit_words, window_limit_words, link_words}
 use Rattle.command_line.specs.Words.{Text, job_of}
 use Rattle.command_line.specs.declared.words.Job.{Job}
 use Rattle.command_line.specs.declared.words.Job.TheVariants.{Report, Solve, Replay, Link, Gen}
@@ -18,6 +18,7 @@ use Rattle.xtalk_top.specs.declared.refusal.DesignRefusal.TheVariants.{Limit}
 use Rattle.xtalk_top.specs.declared.refusal.Unlinked.TheVariants as unlinked
 use Rattle.xtalk_top.specs.declared.refusal.TextRefusal.TheVariants.{At, Beyond}
 use Rattle.xtalk_top.specs.declared.refusal.FileRefusal.TheVariants.{TooLong, Content}
+use Rattle.xtalk_top.specs.declared.refusal.Refusal.{Refusal}
 use Rattle.xtalk_top.specs.declared.refusal.Refusal.TheVariants.{Words, File, Linking, Design}
 use Rattle.xtalk_top.specs.declared.refusal.Stop.{Stop}
 use Rattle.xtalk_top.specs.declared.refusal.Stop.TheVariants.{Refused, Unread, NoMemory}
@@ -73,13 +74,12 @@ abbrev pub status_and_line : Failure → ℕ × Text
 status_and_line (NoText (Refused Words)) = (2, codes "xtalk: bad command line")
 status_and_line (NoText (Refused (File file (Content (At line code))))) =
     (3, file ++ (codes ":" ++ (decimal line ++ (codes ": " ++ code_text code))))
-status_and_line (NoText (Refused (File file (Content (Beyond what name value))))) =
-    (5, beyond_words what name value)
+status_and_line (NoText (Refused (File file (Content (Beyond limit))))) = (5, count_limit_words limit)
 status_and_line (NoText (Refused (File file TooLong))) =
     (5, codes "limit: file " ++ (file ++ (codes " " ++ decimal (most_bytes + 1))))
 status_and_line (NoText (Refused (Linking (unlinked.Refused why)))) = (4, codes "link: " ++ link_words why)
-status_and_line (NoText (Refused (Linking (unlinked.Beyond what name value)))) = (5, beyond_words what name value)
-status_and_line (NoText (Refused (Design (Limit passed)))) = (5, limit_words passed)
+status_and_line (NoText (Refused (Linking (unlinked.Beyond limit)))) = (5, count_limit_words limit)
+status_and_line (NoText (Refused (Design (Limit limit)))) = (5, window_limit_words limit)
 status_and_line (NoText (Unread file)) = (6, codes "read fault: " ++ file)
 status_and_line Unwritten = (7, codes "write fault")
 status_and_line (NoText NoMemory) = (8, codes "out of memory")
@@ -97,3 +97,41 @@ pub record WritesLine (before after : Option Text) (faults_before faults_after :
   pub within : count ≤ length line
   pub prefix : after ≡ appended before (take count line)
   pub whole : (count ≡ length line) ⊎ Rose faults_before faults_after
+
+-- ---- what a step answers, and what the whole call does
+
+-- why a step has no value, by what its words and files mean; a count of faults changed only where a file could not be
+-- read
+abbrev pub Stops : Stop → (Outcome → Type 0) → (Text → ℕ) → (Text → ℕ) → Type 0
+Stops stop Meant before after =
+    IsStop Meant (HasFault before after) stop × (status_of (NoText stop) ≢ 6 → KeepsCounts before after)
+
+-- a step answers a value that is as it is to be, and no count of faults changed; or it has none
+abbrev pub Answers : {V : Type 0} → Result V Stop → (V → Type 0) → (Outcome → Type 0) → (Text → ℕ) → (Text → ℕ)
+    → Type 0
+Answers (Ok value) IsValue Meant before after = IsValue value × KeepsCounts before after
+Answers (Err stop) IsValue Meant before after = Stops stop Meant before after
+
+-- what a whole call does, by what its words and files mean, the counts of faults of the files, and what its output and
+-- its error stream have: `texts` and `lines` are what they hold, `text_faults` and `line_faults` count their faults
+pub record IsCall {O E : Type 0} (texts : O → Option Text) (text_faults : O → ℕ) (lines : E → Option Text)
+    (line_faults : E → ℕ) (Meant : Outcome → Type 0) (Known : Type 0) (before after : Text → ℕ) (out new_out : O)
+    (err new_err : E) (status : ℕ) : Type 0 where
+  -- 0: the text that is meant was written, and nothing else
+  pub printed : status ≡ 0 → (text : Text) × Meant (prints text) × (texts new_out ≡ appended (texts out) text)
+      × (new_err ≡ err)
+  -- any other status has one failure as its cause, and the line of that failure on the error stream
+  pub failed : status ≢ 0 → (failure : Failure) × (status ≡ status_of failure)
+      × IsFailure Meant (HasFault before after)
+      (IsCutOff (texts out) (texts new_out) (text_faults out) (text_faults new_out)) failure
+      × WritesLine (lines err) (lines new_err) (line_faults err) (line_faults new_err) (line_of failure)
+  -- all else stays as it was
+  pub kept : (status ≢ 0 → status ≢ 7 → new_out ≡ out) × (status ≢ 7 → text_faults new_out ≡ text_faults out)
+      × (status ≢ 6 → KeepsCounts before after)
+  -- a refusal that is meant comes, unless memory runs out or a read fault came before it
+  pub refused : (why : Refusal) → Meant (refuses why) → Known → (status ≡ status_of (NoText (Refused why)))
+      ⊎ ((status ≡ 8) ⊎ ((status ≡ 6) × (file : Text) × Meant (unread file) × HasFault before after file))
+  -- where no refusal is meant and no fault came, the text comes, unless memory runs out
+  pub complete : ((why : Refusal) → Meant (refuses why) → ⊥)
+      → ((file : Text) → Meant (unread file) → HasFault before after file → ⊥)
+      → (Rose (text_faults out) (text_faults new_out) → ⊥) → (status ≡ 0) ⊎ (status ≡ 8)

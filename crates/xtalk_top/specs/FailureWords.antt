@@ -1,5 +1,5 @@
 -- What the line of a failure says of limits and of linking.
-use Rattle.std.specs.Prelude.{ℕ, ◌++◌, [], ◌∷◌, List, codes, Option, Some, None}
+use Rattle.std.specs.Prelude.{ℕ, ℤ, ◌++◌, [], ◌∷◌, List, codes, Option, Some, None}
 use Rattle.std.specs.Fmt.{decimal, signed_decimal}
 use Rattle.xt_model.specs.declared.fault.LimitKind.{LimitKind}
 use Rattle.xt_model.specs.declared.fault.LimitKind.TheVariants as kinds
@@ -34,12 +34,16 @@ kind_word kinds.Checks = codes "checks"
 kind_word kinds.Reads = codes "reads"
 
 -- `limit: WHAT NAME VALUE`, or without a name
-abbrev pub limit_words : PassedLimit → Text
-limit_words l = codes "limit: " ++ (what_word l.what ++ (codes " " ++ (name_field l.name ++ signed_decimal l.value)))
+abbrev pub limit_words : Text → Option Text → Text → Text
+limit_words what name value = codes "limit: " ++ (what ++ (codes " " ++ (name_field name ++ value)))
 
--- the same of a limit that a linked text or a block passes
-abbrev pub beyond_words : LimitKind → Option Text → ℕ → Text
-beyond_words what name value = codes "limit: " ++ (kind_word what ++ (codes " " ++ (name_field name ++ decimal value)))
+-- of a limit that a text or a block passes
+abbrev pub count_limit_words : PassedLimit LimitKind ℕ → Text
+count_limit_words l = limit_words (kind_word l.what) l.name (decimal l.value)
+
+-- of a limit that a window of an envelope passes
+abbrev pub window_limit_words : PassedLimit What ℤ → Text
+window_limit_words l = limit_words (what_word l.what) l.name (signed_decimal l.value)
 
 -- a code with one name, or with two
 abbrev pub one_name : Text → Text → Text

@@ -22,33 +22,48 @@ use Rattle.xtalk_top.specs.Outcome.{Contents, Outcome, refuses, FileMeans, most_
 use Rattle.command_line.specs.declared.words.BlockFiles.{BlockFiles}
 use Rattle.xtalk_top.specs.declared.refusal.Unlinked.{Unlinked}
 use Rattle.xtalk_top.specs.declared.refusal.Unlinked.TheVariants as unlinked
+use Rattle.xtalk_top.specs.declared.refusal.TextRefusal.{TextRefusal}
 use Rattle.xtalk_top.specs.declared.refusal.TextRefusal.TheVariants.{At}
 use Rattle.xtalk_top.specs.declared.refusal.FileRefusal.TheVariants.{Content}
 use Rattle.xtalk_top.specs.declared.refusal.Refusal.TheVariants.{File, Linking}
 
 -- ---- the texts
 
--- what the text of a file means: its first refusal, by its line; or a value that leads to the outcome
-abbrev pub SourceMeans : {V : Type 0} → Text → Result V (Place Code) → (V → Type 0) → Outcome → Type 0
+-- what the text of a file means: why it is refused; or a value that leads to the outcome
+abbrev pub SourceMeans : {V : Type 0} → Text → Result V TextRefusal → (V → Type 0) → Outcome → Type 0
 SourceMeans file (Ok value) Leads outcome = Leads value
-SourceMeans file (Err place) Leads outcome = outcome ≡ refuses (File file (Content (At place.line place.code)))
+SourceMeans file (Err why) Leads outcome = outcome ≡ refuses (File file (Content why))
 
 -- a file, and then its text
-abbrev pub FileAndText : {V : Type 0} → Text → Contents → (Text → Result V (Place Code)) → (V → Type 0) → Outcome
+abbrev pub FileAndText : {V : Type 0} → Text → Contents → (Text → Result V TextRefusal) → (V → Type 0) → Outcome
     → Type 0
 FileAndText file content meant Leads outcome =
     FileMeans file content (λ bytes. SourceMeans file (meant bytes) Leads outcome) outcome
 
+-- where a text is refused by its first place, it is refused at its line
+abbrev pub by_line : {V : Type 0} → Result V (Place Code) → Result V TextRefusal
+by_line (Ok value) = Ok value
+by_line (Err place) = Err (At place.line place.code)
+
+abbrev pub library_in : Text → Result Library TextRefusal
+library_in bytes = by_line (library_meant bytes)
+
+abbrev pub netlist_in : Text → Result Netlist TextRefusal
+netlist_in bytes = by_line (netlist_of_text bytes)
+
+abbrev pub parasitics_in : Text → Result Parasitics TextRefusal
+parasitics_in bytes = by_line (parasitics_of bytes)
+
 -- the constraints are for the netlist, and count by the units of the library until they give their own
-abbrev pub constraints_for : Library → Netlist → Text → Result Constraints (Place Code)
-constraints_for library netlist bytes =
-    constraints_of bytes netlist.nets library.time_scale library.cap_scale
+abbrev pub constraints_in : Library → Netlist → Text → Result Constraints TextRefusal
+constraints_in library netlist bytes =
+    by_line (constraints_of bytes netlist.nets library.time_scale library.cap_scale)
 
 -- the last two files in their order, for the library and the netlist of the first two
 abbrev pub LastFilesMean : Text → Text → Contents → Library → Netlist → (Inputs → Type 0) → Outcome → Type 0
 LastFilesMean spef sdc content library netlist Leads outcome =
-    FileAndText spef content parasitics_of (λ parasitics.
-    FileAndText sdc content (constraints_for library netlist) (λ constraints.
+    FileAndText spef content parasitics_in (λ parasitics.
+    FileAndText sdc content (constraints_in library netlist) (λ constraints.
     Leads (record {
       library = library;
       netlist = netlist;
@@ -60,8 +75,8 @@ LastFilesMean spef sdc content library netlist Leads outcome =
 -- values lead to it
 abbrev pub FilesMean : BlockFiles → Contents → (Inputs → Type 0) → Outcome → Type 0
 FilesMean files content Leads outcome =
-    FileAndText files.lib content library_meant (λ library.
-    FileAndText files.netlist content netlist_of_text (λ netlist.
+    FileAndText files.lib content library_in (λ library.
+    FileAndText files.netlist content netlist_in (λ netlist.
     LastFilesMean files.spef files.sdc content library netlist Leads outcome) outcome) outcome
 
 -- ---- linking
@@ -69,7 +84,7 @@ FilesMean files content Leads outcome =
 -- why the values make no design, as the fault of linking that it is
 abbrev pub fault_of : Unlinked → LinkFault
 fault_of (unlinked.Refused why) = faults.Refused why
-fault_of (unlinked.Beyond what name value) = faults.Limit what name value
+fault_of (unlinked.Beyond limit) = faults.Limit limit.what limit.name limit.value
 
 -- the values are refused, by their first fault; or they make a design, which is sound, that leads to the outcome
 abbrev pub LinkingMeans : Inputs → (Parts → Type 0) → Outcome → Type 0
@@ -84,7 +99,7 @@ BlockMeans files content Leads outcome = FilesMean files content (λ x. LinkingM
 -- ---- what was read
 
 -- the file holds bytes, no more than a file may have and its content where that is known, that mean this value
-pub record HoldsText {V : Type 0} (file : Text) (content : Contents) (meant : Text → Result V (Place Code)) (value : V)
+pub record HoldsText {V : Type 0} (file : Text) (content : Contents) (meant : Text → Result V TextRefusal) (value : V)
     : Type 0 where
   pub bytes : Text
   pub held : IfSome (content file) (λ whole. bytes ≡ whole)
@@ -93,18 +108,18 @@ pub record HoldsText {V : Type 0} (file : Text) (content : Contents) (meant : Te
 
 -- the four files hold texts of these values
 pub record HoldInputs (files : BlockFiles) (content : Contents) (x : Inputs) : Type 0 where
-  pub library : HoldsText files.lib content library_meant x.library
-  pub netlist : HoldsText files.netlist content netlist_of_text x.netlist
-  pub parasitics : HoldsText files.spef content parasitics_of x.parasitics
-  pub constraints : HoldsText files.sdc content (constraints_for x.library x.netlist) x.constraints
+  pub library : HoldsText files.lib content library_in x.library
+  pub netlist : HoldsText files.netlist content netlist_in x.netlist
+  pub parasitics : HoldsText files.spef content parasitics_in x.parasitics
+  pub constraints : HoldsText files.sdc content (constraints_in x.library x.netlist) x.constraints
 
 -- the last two files make this design, for the library and the netlist of the first two
 pub record FinishDesign (spef sdc : Text) (content : Contents) (library : Library) (netlist : Netlist) (d : Parts)
     : Type 0 where
   pub parasitics : Parasitics
   pub constraints : Constraints
-  pub spef_held : HoldsText spef content parasitics_of parasitics
-  pub sdc_held : HoldsText sdc content (constraints_for library netlist) constraints
+  pub spef_held : HoldsText spef content parasitics_in parasitics
+  pub sdc_held : HoldsText sdc content (constraints_in library netlist) constraints
   pub linked : IsLinked (record {
     library = library;
     netlist = netlist;

@@ -1,5 +1,5 @@
 -- What a call comes to, and the steps that its commands share: a file, a linked text, a design.
-use Rattle.std.specs.Prelude.{◌≡◌, ℕ, ◌<◌, ◌≤◌, ◌⊎◌, List, length, Option, Some, None, Err, IfSome}
+use Rattle.std.specs.Prelude.{◌≡◌, ℕ, ℤ, ◌<◌, ◌≤◌, ◌⊎◌, List, length, Option, Some, None, Err, IfSome}
 use Rattle.xt_model.specs.declared.quad.Pair.{Pair}
 use Rattle.xt_model.specs.declared.net.Net.{Net}
 use Rattle.std.specs.List.{slice_get}
@@ -15,6 +15,7 @@ use Rattle.xt_meaning.specs.Envelope.{IsWidest, IsAccepted}
 use Rattle.xt_meaning.specs.Fixpoint.{IsContained, IsFixpoint}
 use Rattle.report_text.specs.Report.{IsReport}
 use Rattle.envelope.specs.Firsts.{IsFirstPassed}
+use Rattle.envelope.specs.declared.fault.What.{What}
 use Rattle.report_kind.specs.declared.kind.ReportKind.{ReportKind}
 use Rattle.run_laws.specs.Transitions.{Transition, AreConsistent}
 use Rattle.run_laws.specs.Laws.{LieWithin}
@@ -62,7 +63,7 @@ IsDesignText bytes d = IsTextOf bytes d
 -- limit that it passes
 abbrev pub why_refused : Text → Fault → TextRefusal
 why_refused bytes (faults.Refused left code) = At (line_number bytes left) code
-why_refused bytes (faults.Limit what name value) = Beyond what name value
+why_refused bytes (faults.Limit what name value) = Beyond (record { what = what; name = name; value = value })
 
 -- the bytes of a file as a linked text: they mean a refusal; or their design leads to the outcome
 abbrev pub LinkedMeans : Text → Text → (Parts → Type 0) → Outcome → Type 0
@@ -79,7 +80,7 @@ counted_by None d = d
 counted_by (Some m) d = record d { miller = m }
 
 -- in the envelope, where everything overlaps, this is the first limit that is passed
-pub record IsPassed (d : Parts) (passed : PassedLimit) : Type 0 where
+pub record IsPassed (d : Parts) (passed : PassedLimit What ℤ) : Type 0 where
   pub number : ℕ
   pub net : Net
   pub there : slice_get d.nets number ≡ Some net
@@ -108,7 +109,7 @@ pub record IsSolution (kind : ReportKind) (d : Parts) (text : Text) : Type 0 whe
 -- a design that is solved: its envelope passes a limit; or it keeps the limits, and such a text is printed
 abbrev pub SolvedMeans : (Text → Type 0) → Parts → Outcome → Type 0
 SolvedMeans IsText d outcome =
-    ((passed : PassedLimit) × IsPassed d passed × (outcome ≡ refuses (Design (Limit passed))))
+    ((passed : PassedLimit What ℤ) × IsPassed d passed × (outcome ≡ refuses (Design (Limit passed))))
     ⊎ (KeepsLimits d × (text : Text) × IsText text × (outcome ≡ prints text))
 
 -- the text is its report

@@ -1,30 +1,24 @@
 //! The files of a block, each read and then its text, in their order; and their linking.
 
-ghost use Rattle.std.specs.Prelude.{◌≡◌, ◌≢◌, IfOk, IfErr};
-ghost use Rattle.xt_io.specs.Outside.{KeepsCounts};
+ghost use Rattle.std.specs.Prelude.{◌≡◌, IfOk, IfErr};
 ghost use Rattle.xt_model.specs.Sound.{IsSound};
-ghost use Rattle.liberty_cells.specs.Library.{library_meant};
-ghost use Rattle.verilog_net.specs.Reading.{netlist_of_text};
-ghost use Rattle.spef_read.specs.Reading.{parasitics_of};
 ghost use Rattle.sdc_read.specs.Meaning.{IsScale};
 ghost use Rattle.link_rules.specs.Bare.{Inputs};
 ghost use Rattle.link_rules.specs.Link.{IsLinked};
 ghost use Rattle.link_rules.specs.Sound.{AreSoundConstraints, AreSoundParasitics, IsSoundLibrary, IsSoundNetlist};
-ghost use Rattle.xtalk_top.specs.Call.{HasFault, IsStop, status_of};
+ghost use Rattle.xtalk_top.specs.Call.{Answers, IsStop};
 ghost use Rattle.xtalk_top.specs.Linking.{BlockMeans, FileAndText, HoldsText, LinkingMeans, MakeDesign};
 ghost use Rattle.xtalk_top.specs.Linking.{FinishDesign, LastFilesMean};
-ghost use Rattle.xtalk_top.specs.Linking.{constraints_for};
+ghost use Rattle.xtalk_top.specs.Linking.{constraints_in, library_in, netlist_in, parasitics_in};
 ghost use Rattle.command_line.specs.Words.{Text};
-ghost use Rattle.xtalk_top.specs.declared.refusal.Failure.TheVariants.{NoText};
 ghost use Rattle.xtalk_top.specs.declared.refusal.Stop.TheVariants.{Refused};
 ghost use Rattle.xtalk_top.specs.declared.refusal.Refusal.TheVariants.{File};
 ghost use Rattle.xtalk_top.specs.declared.refusal.FileRefusal.TheVariants.{Content};
 ghost use Rattle.xtalk_top.specs.declared.refusal.TextRefusal.TheVariants.{At};
 
-use command_line::FileName;
 use crate::input::read_file;
-use crate::refusal::{FileRefusal, Refusal, Stop, TextRefusal, Unlinked};
-use command_line::BlockFiles;
+use crate::refusal::{FileRefusal, PassedLimit, Refusal, Stop, TextRefusal, Unlinked};
+use command_line::{BlockFiles, FileName};
 use design_link::link;
 use liberty_cells::Library;
 use link_rules::LinkFault;
@@ -49,15 +43,12 @@ fn refused(file: FileName, line: u32, code: Code) -> Stop
 
 // The Liberty library whose text the file holds.
 fn library<F: Files>(alloc: Global, files: &mut F, file: FileName) -> Result<Library, Stop>
-    ensures ok { IfOk result (HoldsText file (F.content files.old) library_meant) }
+    ensures answer { let Meant = FileAndText file (F.content files.old) library_in (λ _. ⊥) in
+        let IsValue = HoldsText file (F.content files.old) library_in in
+        Answers result IsValue Meant (F.faults files.old) (F.faults files.new) }
     ensures sound { IfOk result IsSoundLibrary }
     ensures scales { IfOk result (λ v. IsScale v.time_scale × IsScale v.cap_scale) }
-    ensures stop { IfErr result (IsStop (FileAndText file (F.content files.old) library_meant (λ _. ⊥))
-        (HasFault (F.faults files.old) (F.faults files.new))) }
     ensures content { (m : Text) → F.content files.new m ≡ F.content files.old m }
-    ensures calm { IfOk result (λ _. KeepsCounts (F.faults files.old) (F.faults files.new)) }
-    ensures read { IfErr result (λ stop. status_of (NoText stop) ≢ 6
-        → KeepsCounts (F.faults files.old) (F.faults files.new)) }
 {
     let (file, bytes) = read_file(alloc, files, file)?;
     match read_library(alloc, &bytes) {
@@ -69,14 +60,11 @@ fn library<F: Files>(alloc: Global, files: &mut F, file: FileName) -> Result<Lib
 
 // The structural Verilog netlist whose text the file holds.
 fn netlist<F: Files>(alloc: Global, files: &mut F, file: FileName) -> Result<Netlist, Stop>
-    ensures ok { IfOk result (HoldsText file (F.content files.old) netlist_of_text) }
+    ensures answer { let Meant = FileAndText file (F.content files.old) netlist_in (λ _. ⊥) in
+        let IsValue = HoldsText file (F.content files.old) netlist_in in
+        Answers result IsValue Meant (F.faults files.old) (F.faults files.new) }
     ensures sound { IfOk result IsSoundNetlist }
-    ensures stop { IfErr result (IsStop (FileAndText file (F.content files.old) netlist_of_text (λ _. ⊥))
-        (HasFault (F.faults files.old) (F.faults files.new))) }
     ensures content { (m : Text) → F.content files.new m ≡ F.content files.old m }
-    ensures calm { IfOk result (λ _. KeepsCounts (F.faults files.old) (F.faults files.new)) }
-    ensures read { IfErr result (λ stop. status_of (NoText stop) ≢ 6
-        → KeepsCounts (F.faults files.old) (F.faults files.new)) }
 {
     let (file, bytes) = read_file(alloc, files, file)?;
     match read_netlist(alloc, &bytes) {
@@ -88,14 +76,11 @@ fn netlist<F: Files>(alloc: Global, files: &mut F, file: FileName) -> Result<Net
 
 // The SPEF parasitics whose text the file holds.
 fn parasitics<F: Files>(alloc: Global, files: &mut F, file: FileName) -> Result<Parasitics, Stop>
-    ensures ok { IfOk result (HoldsText file (F.content files.old) parasitics_of) }
+    ensures answer { let Meant = FileAndText file (F.content files.old) parasitics_in (λ _. ⊥) in
+        let IsValue = HoldsText file (F.content files.old) parasitics_in in
+        Answers result IsValue Meant (F.faults files.old) (F.faults files.new) }
     ensures sound { IfOk result AreSoundParasitics }
-    ensures stop { IfErr result (IsStop (FileAndText file (F.content files.old) parasitics_of (λ _. ⊥))
-        (HasFault (F.faults files.old) (F.faults files.new))) }
     ensures content { (m : Text) → F.content files.new m ≡ F.content files.old m }
-    ensures calm { IfOk result (λ _. KeepsCounts (F.faults files.old) (F.faults files.new)) }
-    ensures read { IfErr result (λ stop. status_of (NoText stop) ≢ 6
-        → KeepsCounts (F.faults files.old) (F.faults files.new)) }
 {
     let (file, bytes) = read_file(alloc, files, file)?;
     match read_spef(alloc, &bytes) {
@@ -115,15 +100,12 @@ fn constraints<F: Files>(
 ) -> Result<Constraints, Stop>
     requires time { IsScale library.now.time_scale }
     requires cap { IsScale library.now.cap_scale }
-    ensures ok { IfOk result (HoldsText file (F.content files.old) (constraints_for library.now netlist.now)) }
+    ensures answer { let meant = constraints_in library.now netlist.now in
+        let IsValue = HoldsText file (F.content files.old) meant in
+        let Meant = FileAndText file (F.content files.old) meant (λ _. ⊥) in
+        Answers result IsValue Meant (F.faults files.old) (F.faults files.new) }
     ensures sound { IfOk result AreSoundConstraints }
-    ensures stop { IfErr result (IsStop (FileAndText
-        file (F.content files.old) (constraints_for library.now netlist.now) (λ _. ⊥))
-        (HasFault (F.faults files.old) (F.faults files.new))) }
     ensures content { (m : Text) → F.content files.new m ≡ F.content files.old m }
-    ensures calm { IfOk result (λ _. KeepsCounts (F.faults files.old) (F.faults files.new)) }
-    ensures read { IfErr result (λ stop. status_of (NoText stop) ≢ 6
-        → KeepsCounts (F.faults files.old) (F.faults files.new)) }
 {
     let (file, bytes) = read_file(alloc, files, file)?;
     match read_sdc(
@@ -173,7 +155,7 @@ fn linked(
             why,
         )))),
         Err(LinkFault::Limit { what, name, value }) => Err(Stop::Refused(Refusal::Linking(
-            Unlinked::Beyond { what, name, value },
+            Unlinked::Beyond(PassedLimit { what, name, value }),
         ))),
         Err(LinkFault::NoMemory) => Err(Stop::NoMemory),
     }
@@ -192,13 +174,12 @@ fn finish_block<F: Files>(
     requires time { IsScale library.now.time_scale }
     requires cap { IsScale library.now.cap_scale }
     requires netlist { IsSoundNetlist netlist.now }
-    ensures ok { IfOk result (FinishDesign spef sdc (F.content files.old) library.now netlist.now) }
-    ensures stop { IfErr result (IsStop
+    ensures { Answers
+        result
+        (FinishDesign spef sdc (F.content files.old) library.now netlist.now)
         (λ o. LastFilesMean spef sdc (F.content files.old) library.now netlist.now (λ x. LinkingMeans x (λ _. ⊥) o) o)
-        (HasFault (F.faults files.old) (F.faults files.new))) }
-    ensures calm { IfOk result (λ _. KeepsCounts (F.faults files.old) (F.faults files.new)) }
-    ensures read { IfErr result (λ stop. status_of (NoText stop) ≢ 6
-        → KeepsCounts (F.faults files.old) (F.faults files.new)) }
+        (F.faults files.old)
+        (F.faults files.new) }
 {
     let parasitics = parasitics(alloc, files, spef)?;
     let constraints = constraints(alloc, files, sdc, library, netlist)?;
@@ -207,12 +188,9 @@ fn finish_block<F: Files>(
 
 /// The design that the four files of a block make.
 pub fn read_block<F: Files>(alloc: Global, files: &mut F, block: BlockFiles) -> Result<Design, Stop>
-    ensures ok { IfOk result (MakeDesign block (F.content files.old)) }
-    ensures stop { IfErr result (IsStop (BlockMeans block (F.content files.old) (λ _. ⊥))
-        (HasFault (F.faults files.old) (F.faults files.new))) }
-    ensures calm { IfOk result (λ _. KeepsCounts (F.faults files.old) (F.faults files.new)) }
-    ensures read { IfErr result (λ stop. status_of (NoText stop) ≢ 6
-        → KeepsCounts (F.faults files.old) (F.faults files.new)) }
+    ensures { let Meant = BlockMeans block (F.content files.old) (λ _. ⊥) in
+        let IsValue = MakeDesign block (F.content files.old) in
+        Answers result IsValue Meant (F.faults files.old) (F.faults files.new) }
 {
     let BlockFiles {
         lib,

@@ -7,8 +7,8 @@ ghost use Rattle.command_line.specs.Words.{IsWorkerCount};
 ghost use Rattle.xtalk_top.specs.Outcome.{DesignMeans, prints};
 ghost use Rattle.xtalk_top.specs.Call.{IsStop};
 
-use crate::fixpoints::Runs;
 use crate::refusal::Stop;
+use crate::runs::Runs;
 use crate::solution::solved;
 use chaos_core::Gate;
 use report_text::{ReportKind, write_report};

@@ -9,11 +9,11 @@ ghost use Rattle.xtalk_top.specs.Outcome.{prints};
 ghost use Rattle.xtalk_top.specs.Call.{IsStop};
 ghost use Rattle.xtalk_top.specs.Gen.{GenMeans, SummaryMeans};
 
-use crate::fixpoints::Runs;
 use crate::refusal::Stop;
+use crate::runs::{Runs, Turns};
 use crate::solution::solved;
-use command_line::GenJob;
 use chaos_core::Gate;
+use command_line::GenJob;
 use design_gen::generate;
 use report_text::write_summary;
 use std::alloc::Global;
@@ -58,8 +58,8 @@ pub fn summary_of_generated<R: Threads + Sync, G: Gate>(
         nets,
         workers,
     } = job;
-    let picks = None;
-    let runs = Runs { workers, picks };
+    let turns = Turns::InThreads;
+    let runs = Runs { workers, turns };
     match generate(alloc, number, nets) {
         Ok(design) => summary(rt, alloc, gate, &design, runs),
         Err(NoMemory) => Err(Stop::NoMemory),

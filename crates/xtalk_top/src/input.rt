@@ -1,14 +1,12 @@
 //! The files of a command: their bytes, and the designs that they hold.
 
-ghost use Rattle.std.specs.Prelude.{◌≡◌, ◌≢◌, ◌≤◌, length, IfOk, IfErr, IfSome};
-ghost use Rattle.xt_io.specs.Outside.{KeepsCounts};
+ghost use Rattle.std.specs.Prelude.{◌≡◌, ◌≤◌, length, IfOk, IfErr, IfSome};
 ghost use Rattle.command_line.specs.Words.{Text};
 ghost use Rattle.xtalk_top.specs.Outcome.{FileMeans, LinkedMeans, IsDesignText, most_bytes};
-ghost use Rattle.xtalk_top.specs.Call.{HasFault, IsStop, status_of};
-ghost use Rattle.xtalk_top.specs.declared.refusal.Failure.TheVariants.{NoText};
+ghost use Rattle.xtalk_top.specs.Call.{Answers, IsStop};
 
+use crate::refusal::{FileRefusal, PassedLimit, Refusal, Stop, TextRefusal};
 use command_line::FileName;
-use crate::refusal::{FileRefusal, Refusal, Stop, TextRefusal};
 use linked_text::{LinkedFault, read_linked_text};
 use std::alloc::Global;
 use xt_io::{Files, ReadFail, read_whole};
@@ -21,14 +19,10 @@ pub fn read_file<F: Files>(
     file: FileName,
 ) -> Result<(FileName, Vec<u8>), Stop>
     ensures content { (m : Text) → F.content files.new m ≡ F.content files.old m }
-    ensures name { IfOk result (λ r. r.0 ≡ file) }
     ensures whole { IfOk result (λ r. IfSome (F.content files.old file) (λ whole. r.1.items ≡ whole)) }
     ensures fits { IfOk result (λ r. length r.1.items ≤ most_bytes) }
-    ensures stop { IfErr result (IsStop (FileMeans file (F.content files.old) (λ _. ⊥))
-        (HasFault (F.faults files.old) (F.faults files.new))) }
-    ensures calm { IfOk result (λ _. KeepsCounts (F.faults files.old) (F.faults files.new)) }
-    ensures read { IfErr result (λ stop. status_of (NoText stop) ≢ 6
-        → KeepsCounts (F.faults files.old) (F.faults files.new)) }
+    ensures answer { let Meant = FileMeans file (F.content files.old) (λ _. ⊥) in
+        Answers result (λ r. r.0 ≡ file) Meant (F.faults files.old) (F.faults files.new) }
 {
     match read_whole(alloc, files, file.as_str()) {
         Ok(bytes) => Ok((file, bytes)),
@@ -55,7 +49,7 @@ pub fn read_design(alloc: Global, file: FileName, bytes: Vec<u8>) -> Result<Desi
         })),
         Err(LinkedFault::Limit { what, name, value }) => Err(Stop::Refused(Refusal::File {
             file,
-            why: FileRefusal::Content(TextRefusal::Beyond { what, name, value }),
+            why: FileRefusal::Content(TextRefusal::Beyond(PassedLimit { what, name, value })),
         })),
         Err(LinkedFault::NoMemory) => Err(Stop::NoMemory),
     }

@@ -4,7 +4,6 @@
 mod block;
 mod counted;
 mod design_report;
-mod fixpoints;
 mod generated;
 mod input;
 mod link;
@@ -12,6 +11,7 @@ mod refusal;
 mod refuse;
 mod replay;
 mod report;
+mod runs;
 mod solution;
 mod solve;
 mod text_report;

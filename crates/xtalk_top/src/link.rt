@@ -1,12 +1,10 @@
 //! The command `link`.
 
-ghost use Rattle.std.specs.Prelude.{◌≡◌, ◌≢◌, IfOk, IfErr};
+ghost use Rattle.std.specs.Prelude.{◌≡◌, IfOk, IfErr};
 ghost use Rattle.text_lines.specs.Lines.{text_of};
 ghost use Rattle.linked_text.specs.Linked.{linked};
-ghost use Rattle.xt_io.specs.Outside.{KeepsCounts};
 ghost use Rattle.xtalk_top.specs.Outcome.{prints};
-ghost use Rattle.xtalk_top.specs.Call.{HasFault, IsStop, status_of};
-ghost use Rattle.xtalk_top.specs.declared.refusal.Failure.TheVariants.{NoText};
+ghost use Rattle.xtalk_top.specs.Call.{Answers, IsStop};
 ghost use Rattle.xtalk_top.specs.Link.{LinkMeans};
 
 use crate::block::read_block;
@@ -32,12 +30,8 @@ fn text_of_design(alloc: Global, design: &Design) -> Result<Vec<u8>, Stop>
 /// The linked text of the design that the four files of the job's block make, by the job's Miller numbers where it
 /// has any.
 pub fn text_of_block<F: Files>(alloc: Global, files: &mut F, job: LinkJob) -> Result<Vec<u8>, Stop>
-    ensures ok { IfOk result (λ text. LinkMeans job (F.content files.old) (prints text.items)) }
-    ensures stop { IfErr result (IsStop (LinkMeans job (F.content files.old))
-        (HasFault (F.faults files.old) (F.faults files.new))) }
-    ensures calm { IfOk result (λ _. KeepsCounts (F.faults files.old) (F.faults files.new)) }
-    ensures read { IfErr result (λ stop. status_of (NoText stop) ≢ 6
-        → KeepsCounts (F.faults files.old) (F.faults files.new)) }
+    ensures { let Meant = LinkMeans job (F.content files.old) in
+        Answers result (λ text. Meant (prints text.items)) Meant (F.faults files.old) (F.faults files.new) }
 {
     let LinkJob {
         files: block,

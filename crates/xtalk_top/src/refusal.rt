@@ -6,35 +6,29 @@ use envelope::What;
 use link_rules::LinkRefusal;
 use xt_model::{Code, LimitKind, Name};
 
-/// A limit that is passed: what has it, the name of its net, if it is a net's, and the number that passes it.
+/// A limit that is passed: what has it, the name of its net, if it is a net's, and the number that passes it (of a time
+/// or a slew in fs, of a load in aF).
 #[derive(Drop)]
-pub struct PassedLimit {
-    pub what: What,
+pub struct PassedLimit<W, V> {
+    pub what: W,
     pub name: Option<Name>,
-    pub value: i128,
+    pub value: V,
 }
 
 /// Why a design has no report.
 #[derive(Drop)]
 pub enum DesignRefusal {
     /// A window of its envelope passes a limit: the first one that does.
-    Limit(PassedLimit),
+    Limit(PassedLimit<What, i128>),
 }
 
 /// Why a text means nothing.
 #[derive(Drop)]
 pub enum TextRefusal {
     /// It is refused at this line, counted from 1.
-    At {
-        line: u32,
-        code: Code,
-    },
-    /// It passes a limit, by this value: for a load that of the net of this name in aF.
-    Beyond {
-        what: LimitKind,
-        name: Option<Name>,
-        value: u128,
-    },
+    At { line: u32, code: Code },
+    /// It passes a limit: a load has the name of its net.
+    Beyond(PassedLimit<LimitKind, u128>),
 }
 
 /// Why a file that was read gives nothing.
@@ -51,12 +45,8 @@ pub enum FileRefusal {
 pub enum Unlinked {
     /// They do not agree on something.
     Refused(LinkRefusal),
-    /// They pass a limit, by this value: for nodes, and for a load in aF, that of the net of this name.
-    Beyond {
-        what: LimitKind,
-        name: Option<Name>,
-        value: u128,
-    },
+    /// They pass a limit: nodes and a load have the name of their net.
+    Beyond(PassedLimit<LimitKind, u128>),
 }
 
 /// Why the words and the files of a call mean no text.

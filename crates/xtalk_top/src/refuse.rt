@@ -3,19 +3,18 @@
 ghost use Rattle.std.specs.Prelude.{◌≡◌, ℕ, ◌≤◌, List, [], ◌∷◌, ◌++◌, OnOk, OnErr, codes};
 ghost use Rattle.xt_io.specs.Outside.{Rose, appended, IsPrefixAppended};
 ghost use Rattle.xtalk_top.specs.Call.{line_of, status_of, WritesLine};
-ghost use Rattle.xtalk_top.specs.FailureWords.{beyond_words, first_name, kind_word, link_words, name_field};
-ghost use Rattle.xtalk_top.specs.FailureWords.{one_name, two_names, what_word};
+ghost use Rattle.xtalk_top.specs.FailureWords.{count_limit_words, first_name, kind_word, limit_words, link_words};
+ghost use Rattle.xtalk_top.specs.FailureWords.{name_field, one_name, two_names, what_word, window_limit_words};
 ghost use Rattle.xtalk_top.specs.declared.refusal.Failure.TheVariants.{NoText};
 ghost use Rattle.xtalk_top.specs.declared.refusal.Stop.TheVariants.{Refused};
-ghost use Rattle.xtalk_top.specs.declared.refusal.Refusal.TheVariants.{File, Design};
+ghost use Rattle.xtalk_top.specs.declared.refusal.Refusal.TheVariants.{File};
 ghost use Rattle.xtalk_top.specs.declared.refusal.FileRefusal.TheVariants.{Content, TooLong};
-ghost use Rattle.xtalk_top.specs.declared.refusal.TextRefusal.TheVariants.{At, Beyond};
-ghost use Rattle.xtalk_top.specs.declared.refusal.DesignRefusal.TheVariants.{Limit};
+ghost use Rattle.xtalk_top.specs.declared.refusal.TextRefusal.TheVariants.{At};
 
-use command_line::FileName;
 use crate::refusal::{
     DesignRefusal, Failure, FileRefusal, PassedLimit, Refusal, Stop, TextRefusal, Unlinked,
 };
+use command_line::FileName;
 use envelope::What;
 use itoa::Buffer;
 use link_rules::LinkRefusal;
@@ -57,26 +56,14 @@ fn refusal_status(why: &Refusal) -> u8
         } => 3,
         Refusal::File {
             file: _,
-            why: FileRefusal::Content(
-                TextRefusal::Beyond {
-                    what: _,
-                    name: _,
-                    value: _,
-                },
-            ),
+            why: FileRefusal::Content(TextRefusal::Beyond(_)),
         } => 5,
         Refusal::File {
             file: _,
             why: FileRefusal::TooLong,
         } => 5,
         Refusal::Linking(Unlinked::Refused(_)) => 4,
-        Refusal::Linking(
-            Unlinked::Beyond {
-                what: _,
-                name: _,
-                value: _,
-            },
-        ) => 5,
+        Refusal::Linking(Unlinked::Beyond(_)) => 5,
         Refusal::Design(DesignRefusal::Limit(_)) => 5,
     }
 }
@@ -133,10 +120,8 @@ fn write_refusal<E: Sink>(err: &mut E, why: &Refusal) -> Result<(), Failed>
         Refusal::Words => write_whole(err, b"xtalk: bad command line\n"),
         Refusal::File { file, why } => write_file_refusal(err, file, why),
         Refusal::Linking(Unlinked::Refused(why)) => write_unlinked(err, why),
-        Refusal::Linking(Unlinked::Beyond { what, name, value }) => write_beyond(
-            err, *what, name, *value,
-        ),
-        Refusal::Design(DesignRefusal::Limit(passed)) => write_limit(err, passed),
+        Refusal::Linking(Unlinked::Beyond(limit)) => write_count_limit(err, limit),
+        Refusal::Design(DesignRefusal::Limit(limit)) => write_window_limit(err, limit),
     }
 }
 
@@ -157,9 +142,7 @@ fn write_file_refusal<E: Sink>(
         FileRefusal::Content(TextRefusal::At { line, code }) => write_place(
             err, file, *line, *code,
         ),
-        FileRefusal::Content(TextRefusal::Beyond { what, name, value }) => write_beyond(
-            err, *what, name, *value,
-        ),
+        FileRefusal::Content(TextRefusal::Beyond(limit)) => write_count_limit(err, limit),
     }
 }
 
@@ -271,42 +254,58 @@ fn write_unlinked<E: Sink>(err: &mut E, why: &LinkRefusal) -> Result<(), Failed>
     }
 }
 
-// Writes which limit a linked text passes, at which net, and by what.
-fn write_beyond<E: Sink>(
+// Writes which limit is passed, at which net, and by what.
+fn write_limit<E: Sink>(
     err: &mut E,
-    what: LimitKind,
+    what: &[u8],
     name: &Option<Name>,
-    value: u128,
+    value: &[u8],
 ) -> Result<(), Failed>
     ensures ok { OnOk result (E.written err.new ≡ appended (E.written err.old)
-        (beyond_words what name.now value ++ 10 ∷ [])) }
+        (limit_words what.now name.now value.now ++ 10 ∷ [])) }
     ensures err { OnErr result (IsPrefixAppended (E.written err.old) (E.written err.new)
-        (beyond_words what name.now value ++ 10 ∷ [])) }
+        (limit_words what.now name.now value.now ++ 10 ∷ [])) }
     ensures failed { OnErr result (Rose (E.faults err.old) (E.faults err.new)) }
 {
-    let mut buffer = Buffer::new();
     let (name, space) = name_pieces(name);
-    write_three(err, b"limit: ", word_of_kind(what), b" ")?;
-    write_four(err, name, space, buffer.format(value).as_bytes(), b"\n")
+    write_three(err, b"limit: ", what, b" ")?;
+    write_four(err, name, space, value, b"\n")
 }
 
-// Writes which limit is passed, at which net, and by what.
-fn write_limit<E: Sink>(err: &mut E, passed: &PassedLimit) -> Result<(), Failed>
+// Writes which limit a text or a block passes.
+fn write_count_limit<E: Sink>(
+    err: &mut E,
+    limit: &PassedLimit<LimitKind, u128>,
+) -> Result<(), Failed>
     ensures ok { OnOk result (E.written err.new ≡ appended (E.written err.old)
-        (line_of (NoText (Refused (Design (Limit passed.now)))))) }
+        (count_limit_words limit.now ++ 10 ∷ [])) }
     ensures err { OnErr result (IsPrefixAppended (E.written err.old) (E.written err.new)
-        (line_of (NoText (Refused (Design (Limit passed.now)))))) }
+        (count_limit_words limit.now ++ 10 ∷ [])) }
     ensures failed { OnErr result (Rose (E.faults err.old) (E.faults err.new)) }
 {
     let mut buffer = Buffer::new();
-    let (name, space) = name_pieces(&passed.name);
-    write_three(err, b"limit: ", word_of_what(passed.what), b" ")?;
-    write_four(
+    write_limit(
         err,
-        name,
-        space,
-        buffer.format(passed.value).as_bytes(),
-        b"\n",
+        word_of_kind(limit.what),
+        &limit.name,
+        buffer.format(limit.value).as_bytes(),
+    )
+}
+
+// Writes which limit a window of an envelope passes.
+fn write_window_limit<E: Sink>(err: &mut E, limit: &PassedLimit<What, i128>) -> Result<(), Failed>
+    ensures ok { OnOk result (E.written err.new ≡ appended (E.written err.old)
+        (window_limit_words limit.now ++ 10 ∷ [])) }
+    ensures err { OnErr result (IsPrefixAppended (E.written err.old) (E.written err.new)
+        (window_limit_words limit.now ++ 10 ∷ [])) }
+    ensures failed { OnErr result (Rose (E.faults err.old) (E.faults err.new)) }
+{
+    let mut buffer = Buffer::new();
+    write_limit(
+        err,
+        word_of_what(limit.what),
+        &limit.name,
+        buffer.format(limit.value).as_bytes(),
     )
 }
 

@@ -1,18 +1,15 @@
 //! The command `replay`.
 
-ghost use Rattle.std.specs.Prelude.{◌≢◌, IfOk, IfErr};
-ghost use Rattle.xt_io.specs.Outside.{KeepsCounts};
 ghost use Rattle.command_line.specs.Words.{IsWorkerCount};
 ghost use Rattle.xtalk_top.specs.Outcome.{prints};
-ghost use Rattle.xtalk_top.specs.Call.{HasFault, IsStop, status_of};
-ghost use Rattle.xtalk_top.specs.declared.refusal.Failure.TheVariants.{NoText};
+ghost use Rattle.xtalk_top.specs.Call.{Answers};
 ghost use Rattle.xtalk_top.specs.Replay.{ReplayMeans};
 
-use crate::fixpoints::Runs;
 use crate::refusal::Stop;
+use crate::runs::{Runs, Turns};
 use crate::text_report::report_of_text;
-use command_line::ReplayJob;
 use chaos_core::Gate;
+use command_line::ReplayJob;
 use report_text::ReportKind;
 use std::alloc::Global;
 use std::thread::Threads;
@@ -28,12 +25,8 @@ pub fn replay<R: Threads + Sync, F: Files, G: Gate>(
     job: ReplayJob,
 ) -> Result<Vec<u8>, Stop>
     requires { IsWorkerCount job.workers }
-    ensures ok { IfOk result (λ text. ReplayMeans job (F.content files.old) (prints text.items)) }
-    ensures stop { IfErr result (IsStop (ReplayMeans job (F.content files.old))
-        (HasFault (F.faults files.old) (F.faults files.new))) }
-    ensures calm { IfOk result (λ _. KeepsCounts (F.faults files.old) (F.faults files.new)) }
-    ensures read { IfErr result (λ stop. status_of (NoText stop) ≢ 6
-        → KeepsCounts (F.faults files.old) (F.faults files.new)) }
+    ensures { let Meant = ReplayMeans job (F.content files.old) in
+        Answers result (λ text. Meant (prints text.items)) Meant (F.faults files.old) (F.faults files.new) }
 {
     let ReplayJob {
         file,
@@ -41,7 +34,7 @@ pub fn replay<R: Threads + Sync, F: Files, G: Gate>(
         workers,
         miller,
     } = job;
-    let picks = Some(order);
-    let runs = Runs { workers, picks };
+    let turns = Turns::Picked(order);
+    let runs = Runs { workers, turns };
     report_of_text(rt, alloc, gate, files, file, miller, ReportKind::All, runs)
 }

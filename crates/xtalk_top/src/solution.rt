@@ -1,52 +1,42 @@
 //! The least and the greatest windows of a design, or the limit that it passes.
 
-ghost use Rattle.std.specs.Prelude.{IfOk, IfErr};
-ghost use Rattle.envelope.specs.Firsts.{IsFirstPassed};
-ghost use Rattle.xt_meaning.specs.Barrier.{IsWithinEnvelope};
-ghost use Rattle.xt_meaning.specs.Fixpoint.{IsLeastFixpoint, IsGreatestFixpoint};
+ghost use Rattle.std.specs.Prelude.{List, IfOk, IfErr};
+ghost use Rattle.xt_model.specs.declared.direction.Direction.TheVariants.{Narrow};
+ghost use Rattle.xt_model.specs.declared.quad.Pair.{Pair};
 ghost use Rattle.xt_model.specs.Levels.{AreLevelled};
 ghost use Rattle.xt_model.specs.Sound.{IsSound};
+ghost use Rattle.xt_meaning.specs.Barrier.{IsFittingStart, IsWithinEnvelope};
+ghost use Rattle.xt_meaning.specs.Envelope.{IsEnvelope};
+ghost use Rattle.xt_meaning.specs.Fixpoint.{IsFixpoint, IsLeastFixpoint, IsGreatestFixpoint};
+ghost use Rattle.envelope.specs.Firsts.{IsFirstPassed};
 ghost use Rattle.command_line.specs.Words.{IsWorkerCount};
 ghost use Rattle.xtalk_top.specs.Outcome.{AreBounds, KeepsLimits, SolvedMeans};
 ghost use Rattle.xtalk_top.specs.Call.{IsStop};
 
-use crate::fixpoints::{Fixpoints, Runs, least_and_greatest};
 use crate::refusal::{DesignRefusal, PassedLimit, Refusal, Stop};
+use crate::runs::{Runs, both_from};
 use chaos_core::Gate;
-use envelope::{EnvelopeFault, What, envelope};
+use chaos_run::Both;
+use envelope::{EnvelopeFault, What, envelope, quiet};
+use net_eval::read_lists;
 use std::alloc::Global;
 use std::thread::Threads;
-use xt_model::{Design, Name, NetId};
+use xt_model::{Design, Name, NetId, NoMemory, Windows};
 
-/// The least and the greatest windows of a design.
-pub fn solved<R: Threads + Sync, G: Gate>(
-    rt: &R,
-    alloc: Global,
-    gate: &G,
-    design: &Design,
-    runs: Runs,
-) -> Result<Fixpoints, Stop>
-    requires sound { IsSound design.now }
-    requires levelled { AreLevelled design.now.nets }
-    requires workers { IsWorkerCount runs.workers }
-    ensures least { IfOk result (λ found. IsLeastFixpoint design.now found.low) }
-    ensures greatest { IfOk result (λ found. IsGreatestFixpoint design.now found.high) }
-    ensures low_within { IfOk result (λ found. IsWithinEnvelope design.now found.low) }
-    ensures high_within { IfOk result (λ found. IsWithinEnvelope design.now found.high) }
-    ensures bounds { IfOk result (λ found. AreBounds design.now found.low found.high) }
-    ensures within { IfOk result (λ _. KeepsLimits design.now) }
+// The envelope of a design.
+fn envelope_of(alloc: Global, design: &Design) -> Result<Windows, Stop>
+    ensures envelope { IfOk result (IsEnvelope design.now) }
+    ensures starts { IfOk result (IsFittingStart Narrow design.now) }
+    ensures within { IfOk result (λ _. (v : List Pair) → IsFixpoint design.now v → IsWithinEnvelope design.now v) }
+    ensures kept { IfOk result (λ _. KeepsLimits design.now) }
     ensures stop { IfErr result (IsStop (SolvedMeans (λ _. ⊥) design.now) (λ _. ⊥)) }
 {
-    let top = match envelope(alloc, design) {
-        Ok(top) => top,
-        Err(EnvelopeFault::Limit { net, what, value }) => {
-            return Err(passed(alloc, design, net, what, value));
-        }
-        Err(EnvelopeFault::NoMemory) => return Err(Stop::NoMemory),
-    };
-    match least_and_greatest(rt, alloc, gate, design, &top, runs) {
-        Ok(found) => Ok(found),
-        Err(_) => Err(Stop::NoMemory),
+    match envelope(alloc, design) {
+        Ok(top) => Ok(top),
+        Err(EnvelopeFault::Limit { net, what, value }) => Err(passed(
+            alloc, design, net, what, value,
+        )),
+        Err(EnvelopeFault::NoMemory) => Err(Stop::NoMemory),
     }
 }
 
@@ -63,5 +53,50 @@ fn passed(alloc: Global, design: &Design, net: NetId, what: What, value: i128) -
             value,
         }))),
         Err(_) => Stop::NoMemory,
+    }
+}
+
+// Runs twice: wider from windows in which nothing switches, and narrower from `top`, the envelope.
+fn least_and_greatest<R: Threads + Sync, G: Gate>(
+    rt: &R,
+    alloc: Global,
+    gate: &G,
+    design: &Design,
+    top: &Windows,
+    runs: Runs,
+) -> Result<Both, NoMemory>
+    requires start { IsFittingStart Narrow design.now top.now }
+    requires workers { IsWorkerCount runs.workers }
+    ensures least { IfOk result (λ found. IsLeastFixpoint design.now found.low) }
+    ensures greatest { IfOk result (λ found. IsGreatestFixpoint design.now found.high) }
+{
+    let lists = read_lists(alloc, design)?;
+    let bottom = quiet(alloc, design)?;
+    both_from(rt, alloc, gate, design, &lists, &bottom, top, runs)
+}
+
+/// The least and the greatest windows of a design.
+pub fn solved<R: Threads + Sync, G: Gate>(
+    rt: &R,
+    alloc: Global,
+    gate: &G,
+    design: &Design,
+    runs: Runs,
+) -> Result<Both, Stop>
+    requires sound { IsSound design.now }
+    requires levelled { AreLevelled design.now.nets }
+    requires workers { IsWorkerCount runs.workers }
+    ensures least { IfOk result (λ found. IsLeastFixpoint design.now found.low) }
+    ensures greatest { IfOk result (λ found. IsGreatestFixpoint design.now found.high) }
+    ensures low_within { IfOk result (λ found. IsWithinEnvelope design.now found.low) }
+    ensures high_within { IfOk result (λ found. IsWithinEnvelope design.now found.high) }
+    ensures bounds { IfOk result (λ found. AreBounds design.now found.low found.high) }
+    ensures within { IfOk result (λ _. KeepsLimits design.now) }
+    ensures stop { IfErr result (IsStop (SolvedMeans (λ _. ⊥) design.now) (λ _. ⊥)) }
+{
+    let top = envelope_of(alloc, design)?;
+    match least_and_greatest(rt, alloc, gate, design, &top, runs) {
+        Ok(found) => Ok(found),
+        Err(NoMemory) => Err(Stop::NoMemory),
     }
 }

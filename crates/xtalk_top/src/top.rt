@@ -1,8 +1,8 @@
-ghost use Rattle.std.specs.Prelude.{◌≡◌, ◌≢◌, ◌⊎◌, IfOk, IfErr};
+ghost use Rattle.std.specs.Prelude.{◌≡◌, ◌≢◌, ◌⊎◌};
 ghost use Rattle.xt_io.specs.Outside.{Rose, KeepsCounts, appended};
 ghost use Rattle.command_line.specs.Words.{Text, HasCount, bytes_of};
 ghost use Rattle.xtalk_top.specs.Outcome.{prints, refuses, unread};
-ghost use Rattle.xtalk_top.specs.Call.{JobMeans, Means, AreKnown, IsStop, IsFailure, HasFault, IsCutOff};
+ghost use Rattle.xtalk_top.specs.Call.{JobMeans, Means, AreKnown, Answers, IsCall, IsFailure, HasFault, IsCutOff};
 ghost use Rattle.xtalk_top.specs.Call.{WritesLine, line_of, status_of};
 ghost use Rattle.xtalk_top.specs.declared.refusal.Refusal.{Refusal};
 ghost use Rattle.xtalk_top.specs.declared.refusal.Failure.{Failure};
@@ -16,8 +16,8 @@ use crate::refuse::refuse;
 use crate::replay::replay;
 use crate::report::report_of_block;
 use crate::solve::solve;
-use command_line::{Job, WordsFault, parse_words};
 use chaos_core::{Gate, OpenGate};
+use command_line::{Job, WordsFault, parse_words};
 use std::alloc::Global;
 use std::thread::Threads;
 use xt_io::{Files, Sink, write_whole};
@@ -77,35 +77,9 @@ pub fn xtalk_gated<R: Threads + Sync, F: Files, O: Sink, E: Sink, G: Gate>(
     out: &mut O,
     err: &mut E,
 ) -> u8
-    // 0: the text that the words and the files mean was written, and nothing else.
-    ensures printed { result ≡ 0 → (text : Text) × Means (bytes_of words.now) (F.content files.old) (prints text)
-        × (O.written out.new ≡ appended (O.written out.old) text) × (err.new ≡ err.old) }
-
-    // Any other status has one failure as its cause, and the line of that failure on err.
-    ensures failed { result ≢ 0 → (failure : Failure) × (result ≡ status_of failure)
-        × IsFailure (Means (bytes_of words.now) (F.content files.old))
-        (HasFault (F.faults files.old) (F.faults files.new))
-        (IsCutOff (O.written out.old) (O.written out.new) (O.faults out.old) (O.faults out.new)) failure
-        × WritesLine (E.written err.old) (E.written err.new) (E.faults err.old) (E.faults err.new) (line_of failure) }
-
-    // All else stays as it was: out, but for a text (0) and for a first part of one, behind which a write came to a
-    // fault (7); its count of faults, but for 7; the counts of all files, but for a read fault (6).
-    ensures kept { (result ≢ 0 → result ≢ 7 → out.new ≡ out.old)
-        × (result ≢ 7 → O.faults out.new ≡ O.faults out.old)
-        × (result ≢ 6 → KeepsCounts (F.faults files.old) (F.faults files.new)) }
-
-    // A refusal that the words and the files mean comes, unless memory runs out or a read fault came before it.
-    ensures refused { (why : Refusal) → Means (bytes_of words.now) (F.content files.old) (refuses why)
-        → AreKnown (bytes_of words.now) (F.content files.old)
-        → (result ≡ status_of (NoText (Refused why))) ⊎ ((result ≡ 8) ⊎ ((result ≡ 6)
-        × (file : Text) × Means (bytes_of words.now) (F.content files.old) (unread file)
-        × HasFault (F.faults files.old) (F.faults files.new) file)) }
-
-    // Where they mean no refusal, and neither a file nor out had a fault, the text comes, unless memory runs out.
-    ensures complete { ((why : Refusal) → Means (bytes_of words.now) (F.content files.old) (refuses why) → ⊥)
-        → ((file : Text) → Means (bytes_of words.now) (F.content files.old) (unread file)
-        → HasFault (F.faults files.old) (F.faults files.new) file → ⊥)
-        → (Rose (O.faults out.old) (O.faults out.new) → ⊥) → (result ≡ 0) ⊎ (result ≡ 8) }
+    ensures { IsCall O.written O.faults E.written E.faults (Means (bytes_of words.now) (F.content files.old))
+        (AreKnown (bytes_of words.now) (F.content files.old)) (F.faults files.old) (F.faults files.new)
+        out.old out.new err.old err.new result }
 {
     match text_of(rt, alloc, gate, words, files) {
         Ok(text) => write_text(out, err, &text),
@@ -136,12 +110,8 @@ fn text_of<R: Threads + Sync, F: Files, G: Gate>(
     words: &[String],
     files: &mut F,
 ) -> Result<Vec<u8>, Stop>
-    ensures ok { IfOk result (λ text. Means (bytes_of words.now) (F.content files.old) (prints text.items)) }
-    ensures stop { IfErr result (IsStop (Means (bytes_of words.now) (F.content files.old))
-        (HasFault (F.faults files.old) (F.faults files.new))) }
-    ensures calm { IfOk result (λ _. KeepsCounts (F.faults files.old) (F.faults files.new)) }
-    ensures read { IfErr result (λ stop. status_of (NoText stop) ≢ 6
-        → KeepsCounts (F.faults files.old) (F.faults files.new)) }
+    ensures { let Meant = Means (bytes_of words.now) (F.content files.old) in
+        Answers result (λ text. Meant (prints text.items)) Meant (F.faults files.old) (F.faults files.new) }
 {
     match parse_words(alloc, words) {
         Ok(job) => job_text(rt, alloc, gate, files, job),
@@ -159,12 +129,8 @@ fn job_text<R: Threads + Sync, F: Files, G: Gate>(
     job: Job,
 ) -> Result<Vec<u8>, Stop>
     requires count { HasCount job }
-    ensures ok { IfOk result (λ text. JobMeans job (F.content files.old) (prints text.items)) }
-    ensures stop { IfErr result (IsStop (JobMeans job (F.content files.old))
-        (HasFault (F.faults files.old) (F.faults files.new))) }
-    ensures calm { IfOk result (λ _. KeepsCounts (F.faults files.old) (F.faults files.new)) }
-    ensures read { IfErr result (λ stop. status_of (NoText stop) ≢ 6
-        → KeepsCounts (F.faults files.old) (F.faults files.new)) }
+    ensures { let Meant = JobMeans job (F.content files.old) in
+        Answers result (λ text. Meant (prints text.items)) Meant (F.faults files.old) (F.faults files.new) }
 {
     match job {
         Job::Report(job) => report_of_block(rt, alloc, gate, files, job),

@@ -22,7 +22,7 @@ pub returns-in-Linking-Refused-clause-failed : goal.returns-in-Linking-Refused-c
 returns-in-Linking-Refused-clause-failed g c = c.write_unlinked.ensures.failed
 
 pub returns-in-Linking-Beyond-clause-failed : goal.returns-in-Linking-Beyond-clause-failed
-returns-in-Linking-Beyond-clause-failed g c = c.write_beyond.ensures.failed
+returns-in-Linking-Beyond-clause-failed g c = c.write_count_limit.ensures.failed
 
 pub returns-in-Design-Limit-clause-failed : goal.returns-in-Design-Limit-clause-failed
-returns-in-Design-Limit-clause-failed g c = c.write_limit.ensures.failed
+returns-in-Design-Limit-clause-failed g c = c.write_window_limit.ensures.failed

@@ -1,38 +1,27 @@
 use Rattle.std.proofs.Common.{subst}
-use Rattle.std.proofs.lemmas.Result.{err_from_is_err_and, IfErr-weaker, IfOk-weaker}
-use Rattle.xtalk_top.specs.Outcome.{DesignMeans, counted_by, prints}
-use Rattle.xtalk_top.specs.Call.{HasFault}
+use Rattle.std.proofs.lemmas.Result.{err_from_is_err_and}
+use Rattle.xtalk_top.specs.Outcome.{DesignMeans, Outcome, counted_by, prints}
 use Rattle.xtalk_top.specs.Linking.{BlockMeans}
 use Rattle.xtalk_top.specs.Report.{ReportMeans}
 use Rattle.xtalk_top.proofs.Blocks.{block_leads, block_stops}
-use Rattle.xtalk_top.proofs.Lifts.{lift_stop}
+use Rattle.xtalk_top.proofs.Lifts.{answers_unread, stops_first}
 use Rattle.xtalk_top.proofs.report.report_of_block.Goals as goal
 
-pub returns-in_err-design-clause-stop : goal.returns-in_err-design-clause-stop
-returns-in_err-design-clause-stop g c =
+pub returns-in_err-design : goal.returns-in_err-design
+returns-in_err-design g c =
     let content = g.F.Files.content c.args.files.now in
-    let Fault = HasFault (g.F.Files.faults c.args.files.now) (g.F.Files.faults c.read_block.new.files) in
+    let faults = g.F.Files.faults in
     let failed = err_from_is_err_and c.from_residual.result c.from_residual.ensures.1 in
-    rw failed.1 (rw failed.2 (lift_stop (BlockMeans c.args.job.files content (λ _. ⊥)) (ReportMeans c.args.job content) Fault Fault c.in_err-design.field-0.0
-    (λ o h. block_stops c.args.job.files content (λ d. DesignMeans c.args.job.kind (counted_by c.args.job.miller d) o) o h) (λ f r. r) c.in_err-design.ensures.stop))
+    rw failed.1 (rw failed.2 (stops_first (BlockMeans c.args.job.files content (λ _. ⊥)) (ReportMeans c.args.job content)
+    (λ o h. block_stops c.args.job.files content (λ d. DesignMeans c.args.job.kind (counted_by c.args.job.miller d) o) o h)
+    (faults c.args.files.now) (faults c.read_block.new.files) c.in_err-design.field-0.0 c.in_err-design.ensures))
 
-pub returns-clause-ok : goal.returns-clause-ok
-returns-clause-ok g c =
-    IfOk-weaker c.report.result _ _ (λ text h.
-    block_leads c.args.job.files (g.F.Files.content c.args.files.now) (λ d. DesignMeans c.args.job.kind (counted_by c.args.job.miller d) (prints text.items)) (prints text.items)
-    c.in_ok-design.design c.in_ok-design.ensures.ok (subst (λ d. DesignMeans c.args.job.kind d (prints text.items)) c.counted_by-design.ensures.value h)) c.report.ensures.ok
-
-pub returns-clause-stop : goal.returns-clause-stop
-returns-clause-stop g c =
+pub returns : goal.returns
+returns g c =
     let content = g.F.Files.content c.args.files.now in
-    IfErr-weaker c.report.result _ _ (λ stop h.
-    lift_stop (DesignMeans c.args.job.kind c.counted_by-design.result) (ReportMeans c.args.job content) (λ _. ⊥)
-    (HasFault (g.F.Files.faults c.args.files.now) (g.F.Files.faults c.read_block.new.files)) stop
-    (λ o m. block_leads c.args.job.files content (λ d. DesignMeans c.args.job.kind (counted_by c.args.job.miller d) o) o c.in_ok-design.design c.in_ok-design.ensures.ok
-    (subst (λ d. DesignMeans c.args.job.kind d o) c.counted_by-design.ensures.value m)) (λ f r. absurd r) h) c.report.ensures.stop
-
-pub returns-clause-calm : goal.returns-clause-calm
-returns-clause-calm g c = IfOk-weaker c.report.result _ _ (λ text h. c.in_ok-design.ensures.calm) c.report.ensures.ok
-
-pub returns-clause-read : goal.returns-clause-read
-returns-clause-read g c = IfErr-weaker c.report.result _ _ (λ stop h other. c.in_ok-design.ensures.calm) c.report.ensures.stop
+    let faults = g.F.Files.faults in
+    let leads : (o : Outcome) → DesignMeans c.args.job.kind c.counted_by-design.result o → ReportMeans c.args.job content o = λ o m. block_leads c.args.job.files content (λ d. DesignMeans c.args.job.kind (counted_by c.args.job.miller d) o) o c.in_ok-design.design c.in_ok-design.ensures.0
+    (subst (λ d. DesignMeans c.args.job.kind d o) c.counted_by-design.ensures.value m) in
+    answers_unread (DesignMeans c.args.job.kind c.counted_by-design.result) (ReportMeans c.args.job content) leads
+    _ (λ text. ReportMeans c.args.job content (prints text.items)) (λ text h. leads (prints text.items) h)
+    (faults c.args.files.now) (faults c.read_block.new.files) c.report.result c.in_ok-design.ensures.1 c.report.ensures.ok c.report.ensures.stop

@@ -1,11 +1,12 @@
-use Rattle.std.proofs.lemmas.Result.{IfOk-weaker, IfErr-weaker}
-use Rattle.std.proofs.Common.{Option, IfSome, subst}
+use Rattle.std.proofs.Common.{◌≡◌, Err, Option, IfSome, ap, refl, sym, subst}
+use Rattle.std.specs.Prelude.{MatchOption}
 use Rattle.command_line.specs.Words.{HasCount, bytes_of}
 use Rattle.command_line.specs.declared.words.Job.{Job}
+use Rattle.xtalk_top.specs.declared.refusal.Refusal.TheVariants.{Words}
+use Rattle.xtalk_top.specs.Outcome.{Outcome, prints, refuses}
+use Rattle.xtalk_top.specs.Call.{JobMeans, Means}
 use Rattle.command_line.proofs.Counts.{job_counts}
-use Rattle.xtalk_top.specs.Outcome.{prints}
-use Rattle.xtalk_top.specs.Call.{JobMeans, Means, HasFault}
-use Rattle.xtalk_top.proofs.Lifts.{job_means, lift_stop}
+use Rattle.xtalk_top.proofs.Lifts.{answers_first, job_means}
 use Rattle.xtalk_top.proofs.top.text_of.Goals as goal
 
 pub job_text-requires-clause-count : goal.job_text-requires-clause-count
@@ -13,14 +14,21 @@ job_text-requires-clause-count g c = λ _ _.
     let P : Option Job → Type 0 = λ j. IfSome j HasCount in
     subst P c.in-Ok.ensures.parsed (job_counts (bytes_of c.args.words.now))
 
-pub returns-in-Ok-clause-ok : goal.returns-in-Ok-clause-ok
-returns-in-Ok-clause-ok g c =
-    IfOk-weaker c.job_text.result _ _ (λ text h. job_means (bytes_of c.args.words.now) (g.F.Files.content c.args.files.now) c.in-Ok.job (prints text.items) c.in-Ok.ensures.parsed h) c.job_text.ensures.ok
-
-pub returns-in-Ok-clause-stop : goal.returns-in-Ok-clause-stop
-returns-in-Ok-clause-stop g c =
+pub returns-in-Ok : goal.returns-in-Ok
+returns-in-Ok g c =
     let words = bytes_of c.args.words.now in
     let content = g.F.Files.content c.args.files.now in
-    IfErr-weaker c.job_text.result _ _ (λ stop h.
-    lift_stop (JobMeans c.in-Ok.job content) (Means words content) (HasFault (g.F.Files.faults c.args.files.now) (g.F.Files.faults c.job_text.new.files)) (HasFault (g.F.Files.faults c.args.files.now) (g.F.Files.faults c.job_text.new.files)) stop
-    (λ o m. job_means words content c.in-Ok.job o c.in-Ok.ensures.parsed m) (λ f r. r) h) c.job_text.ensures.stop
+    let faults = g.F.Files.faults in
+    let leads : (o : Outcome) → JobMeans c.in-Ok.job content o → Means words content o = λ o m. job_means words content c.in-Ok.job o c.in-Ok.ensures.parsed m in
+    answers_first (JobMeans c.in-Ok.job content) (Means words content) leads
+    _ (λ text. Means words content (prints text.items)) (λ text h. leads (prints text.items) h)
+    (faults c.args.files.now) (faults c.job_text.new.files) c.job_text.result c.job_text.ensures
+
+pub returns-in-Err-Bad : goal.returns-in-Err-Bad
+returns-in-Err-Bad g c =
+    let content = g.F.Files.content c.args.files.now in
+    let none = c.in-Err-Bad.ensures.bad (ap Err c.in-Err-Bad.field-0-is) in
+    (subst (λ j. MatchOption j (refuses Words ≡ refuses Words) (λ job. JobMeans job content (refuses Words))) (sym none) refl, λ _ m. refl)
+
+pub returns-in-Err-NoMemory : goal.returns-in-Err-NoMemory
+returns-in-Err-NoMemory g c = (tt, λ _ m. refl)

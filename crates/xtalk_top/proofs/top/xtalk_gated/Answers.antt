@@ -1,8 +1,15 @@
-use Rattle.std.proofs.Common.{◌≡◌, ◌≢◌, ◌⊎◌, ℕ, zero, suc, inl, refl, arith}
+use Rattle.std.proofs.Common.{◌≡◌, ◌≢◌, ◌⊎◌, ◌∙◌, ℕ, zero, suc, inl, refl, arith}
 use Rattle.xt_io.specs.Outside.{Rose}
-use Rattle.xtalk_top.specs.declared.refusal.Failure.TheVariants.{Unwritten}
+use Rattle.xtalk_top.specs.declared.refusal.Refusal.TheVariants.{Words, File, Linking, Design}
+use Rattle.xtalk_top.specs.declared.refusal.Unlinked.TheVariants as unlinked
+use Rattle.xtalk_top.specs.declared.refusal.DesignRefusal.TheVariants.{Limit}
+use Rattle.xtalk_top.specs.declared.refusal.TextRefusal.TheVariants.{At, Beyond}
+use Rattle.xtalk_top.specs.declared.refusal.FileRefusal.TheVariants.{TooLong, Content}
+use Rattle.xtalk_top.specs.declared.refusal.Stop.{Stop}
+use Rattle.xtalk_top.specs.declared.refusal.Stop.TheVariants.{Refused, Unread, NoMemory}
+use Rattle.xtalk_top.specs.declared.refusal.Failure.TheVariants.{NoText, Unwritten}
 use Rattle.command_line.specs.Words.{bytes_of}
-use Rattle.xtalk_top.specs.Call.{Means, HasFault}
+use Rattle.xtalk_top.specs.Call.{Means, HasFault, status_of}
 use Rattle.xtalk_top.proofs.Agreement.{one_outcome, refused, not_both, completed}
 use Rattle.xtalk_top.proofs.top.xtalk_gated.Goals as goal
 
@@ -16,38 +23,54 @@ zero_or_eight : (status : ℕ) (Fault : Type 0) → (status ≢ 0 → Fault) →
 zero_or_eight zero Fault cut_off quiet = inl refl
 zero_or_eight (suc n) Fault cut_off quiet = absurd (quiet (cut_off (λ e. omega (arith, e))))
 
-pub returns-in-Ok-clause-printed : goal.returns-in-Ok-clause-printed
-returns-in-Ok-clause-printed g c = λ whole.
-    let written = c.write_text.ensures.whole whole in
-    (c.in-Ok.text.items, c.in-Ok.ensures.ok, rw c.deref.ensures.value at written.0, written.2)
+-- no call without a text has the status 0
+not_zero : (stop : Stop) (status : ℕ) → status ≡ status_of (NoText stop) → status ≡ 0 → ⊥
+not_zero (Refused Words) status e z = omega (arith, e, z)
+not_zero (Refused (File file (Content (At line code)))) status e z = omega (arith, e, z)
+not_zero (Refused (File file (Content (Beyond limit)))) status e z = omega (arith, e, z)
+not_zero (Refused (File file TooLong)) status e z = omega (arith, e, z)
+not_zero (Refused (Linking (unlinked.Refused why))) status e z = omega (arith, e, z)
+not_zero (Refused (Linking (unlinked.Beyond limit))) status e z = omega (arith, e, z)
+not_zero (Refused (Design (Limit limit))) status e z = omega (arith, e, z)
+not_zero (Unread file) status e z = omega (arith, e, z)
+not_zero NoMemory status e z = omega (arith, e, z)
 
-pub returns-in-Ok-clause-failed : goal.returns-in-Ok-clause-failed
-returns-in-Ok-clause-failed g c = λ bad.
-    let cut = c.write_text.ensures.cut_off bad in
-    (Unwritten, cut.0, (c.in-Ok.text.items, c.in-Ok.ensures.ok, rw c.deref.ensures.value at cut.1), cut.2)
+pub returns-in-Ok : goal.returns-in-Ok
+returns-in-Ok g c =
+    let words = bytes_of c.args.words.now in
+    let content = g.F.Files.content c.args.files.now in
+    let text = c.in-Ok.text.items in
+    record {
+      printed = λ whole.
+          let written = c.write_text.ensures.whole whole in
+          (text, c.in-Ok.ensures.0, rw c.deref.ensures.value at written.0, written.2);
+      failed = λ bad.
+          let cut = c.write_text.ensures.cut_off bad in
+          (Unwritten, cut.0, (text, c.in-Ok.ensures.0, rw c.deref.ensures.value at cut.1), cut.2);
+      kept = (
+        λ bad other. absurd (other (c.write_text.ensures.cut_off bad).0),
+        unless_seven c.write_text.result (g.O.Sink.faults c.write_text.new.out ≡ g.O.Sink.faults c.args.out.now)
+            (λ whole. (c.write_text.ensures.whole whole).1) (λ bad. (c.write_text.ensures.cut_off bad).0),
+        λ _. c.in-Ok.ensures.1,
+      );
+      refused = λ why meant known. absurd (not_both (Means words content) (one_outcome words content known) text why c.in-Ok.ensures.0 meant);
+      complete = λ accepted calm quiet.
+          zero_or_eight c.write_text.result (Rose (g.O.Sink.faults c.args.out.now) (g.O.Sink.faults c.write_text.new.out))
+          (λ bad. (c.write_text.ensures.cut_off bad).1.1) quiet;
+    }
 
-pub returns-in-Ok-clause-kept : goal.returns-in-Ok-clause-kept
-returns-in-Ok-clause-kept g c = (
-  λ bad other. absurd (other (c.write_text.ensures.cut_off bad).0),
-  unless_seven c.write_text.result (g.O.Sink.faults c.write_text.new.out ≡ g.O.Sink.faults c.args.out.now)
-      (λ whole. (c.write_text.ensures.whole whole).1) (λ bad. (c.write_text.ensures.cut_off bad).0),
-  λ _. c.in-Ok.ensures.calm,
-)
-
-pub returns-in-Ok-clause-complete : goal.returns-in-Ok-clause-complete
-returns-in-Ok-clause-complete g c = λ accepted calm quiet.
-    zero_or_eight c.write_text.result (Rose (g.O.Sink.faults c.args.out.now) (g.O.Sink.faults c.write_text.new.out))
-    (λ bad. (c.write_text.ensures.cut_off bad).1.1) quiet
-
-pub returns-in-Ok-clause-refused : goal.returns-in-Ok-clause-refused
-returns-in-Ok-clause-refused g c = λ why meant known.
-    absurd (not_both (Means (bytes_of c.args.words.now) (g.F.Files.content c.args.files.now)) (one_outcome (bytes_of c.args.words.now) (g.F.Files.content c.args.files.now) known) c.in-Ok.text.items why c.in-Ok.ensures.ok meant)
-
-pub returns-in-Err-clause-refused : goal.returns-in-Err-clause-refused
-returns-in-Err-clause-refused g c = λ why meant known.
-    refused (Means (bytes_of c.args.words.now) (g.F.Files.content c.args.files.now)) (HasFault (g.F.Files.faults c.args.files.now) (g.F.Files.faults c.text_of.new.files)) (one_outcome (bytes_of c.args.words.now) (g.F.Files.content c.args.files.now) known) why c.in-Err.stop c.refuse.result meant c.in-Err.ensures.stop c.refuse.ensures.status
-
-pub returns-in-Err-clause-complete : goal.returns-in-Err-clause-complete
-returns-in-Err-clause-complete g c = λ accepted calm quiet.
-    completed (Means (bytes_of c.args.words.now) (g.F.Files.content c.args.files.now)) (HasFault (g.F.Files.faults c.args.files.now) (g.F.Files.faults c.text_of.new.files))
-    c.in-Err.stop c.refuse.result accepted calm c.in-Err.ensures.stop c.refuse.ensures.status
+pub returns-in-Err : goal.returns-in-Err
+returns-in-Err g c =
+    let words = bytes_of c.args.words.now in
+    let content = g.F.Files.content c.args.files.now in
+    let Fault = HasFault (g.F.Files.faults c.args.files.now) (g.F.Files.faults c.text_of.new.files) in
+    let stop = c.in-Err.stop in
+    let status = c.refuse.ensures.status in
+    record {
+      printed = λ whole. absurd (not_zero stop c.refuse.result status whole);
+      failed = λ _. (NoText stop, status, c.in-Err.ensures.0, c.refuse.ensures.line);
+      kept = (λ _ _. refl, λ _. refl, λ other. c.in-Err.ensures.1 (λ six. other (status ∙ six)));
+      refused = λ why meant known.
+          refused (Means words content) Fault (one_outcome words content known) why stop c.refuse.result meant c.in-Err.ensures.0 status;
+      complete = λ accepted calm quiet. completed (Means words content) Fault stop c.refuse.result accepted calm c.in-Err.ensures.0 status;
+    }

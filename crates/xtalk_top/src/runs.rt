@@ -1,0 +1,99 @@
+//! How the runs of a design are made, and the windows in which they end.
+
+ghost use Rattle.std.specs.Prelude.{ℕ, ◌≤◌, IfOk};
+ghost use Rattle.xt_model.specs.declared.direction.Direction.TheVariants.{Narrow, Widen};
+ghost use Rattle.xt_model.specs.Build.{IsRoundBound};
+ghost use Rattle.xt_meaning.specs.Barrier.{IsFittingStart};
+ghost use Rattle.xt_meaning.specs.Fixpoint.{IsLeastFixpoint, IsGreatestFixpoint};
+ghost use Rattle.xt_meaning.specs.Laws.{IsExtremeFixpoint};
+ghost use Rattle.net_eval.specs.ReadLists.{AreReadLists};
+ghost use Rattle.command_line.specs.Words.{IsWorkerCount};
+
+use chaos_core::{Gate, Settled, settle_picked};
+use chaos_run::{Both, settle_from};
+use net_eval::ReadLists;
+use std::alloc::Global;
+use std::thread::Threads;
+use xt_model::{Design, Direction, NoMemory, Windows};
+
+/// Where and in which order workers take their turns.
+#[derive(Clone, Copy)]
+pub enum Turns {
+    /// Several in threads of their own, which pass a gate in each round; one alone in this thread, and it passes none.
+    InThreads,
+    /// All in this thread, as a source that starts at this number picks them.
+    Picked(u64),
+}
+
+/// How the runs of a design are made: by how many workers, from 1 to 64, and how these take turns.
+#[derive(Clone, Copy)]
+pub struct Runs {
+    pub workers: u32,
+    pub turns: Turns,
+}
+
+// A run from a fitting start.
+fn run_from<R: Threads + Sync, G: Gate>(
+    rt: &R,
+    alloc: Global,
+    gate: &G,
+    design: &Design,
+    lists: &ReadLists,
+    direction: Direction,
+    start: &Windows,
+    runs: Runs,
+) -> Result<Settled, NoMemory>
+    requires start { IsFittingStart direction design.now start.now }
+    requires lists { AreReadLists design.now lists.now }
+    requires workers { IsWorkerCount runs.workers }
+    ensures extreme { IfOk result (λ settled. IsExtremeFixpoint direction design.now settled.windows) }
+    ensures few { IfOk result (λ settled. (bound : ℕ) → IsRoundBound design.now.nets bound → settled.rounds ≤ bound) }
+{
+    let Runs { workers, turns } = runs;
+    match turns {
+        Turns::InThreads => settle_from(rt, alloc, design, lists, direction, start, workers, gate),
+        Turns::Picked(number) => settle_picked(
+            alloc, design, lists, direction, start, workers, number,
+        ),
+    }
+}
+
+/// Runs twice, wider from `low` and narrower from `high`: to the least and the greatest windows of a design, in rounds
+/// within its bound. Fails only for want of memory.
+pub fn both_from<R: Threads + Sync, G: Gate>(
+    rt: &R,
+    alloc: Global,
+    gate: &G,
+    design: &Design,
+    lists: &ReadLists,
+    low: &Windows,
+    high: &Windows,
+    runs: Runs,
+) -> Result<Both, NoMemory>
+    requires low { IsFittingStart Widen design.now low.now }
+    requires high { IsFittingStart Narrow design.now high.now }
+    requires lists { AreReadLists design.now lists.now }
+    requires workers { IsWorkerCount runs.workers }
+    ensures least { IfOk result (λ found. IsLeastFixpoint design.now found.low) }
+    ensures greatest { IfOk result (λ found. IsGreatestFixpoint design.now found.high) }
+    ensures few { IfOk result (λ found. (bound : ℕ) → IsRoundBound design.now.nets bound
+        → (found.low_rounds ≤ bound) × (found.high_rounds ≤ bound)) }
+{
+    let least = run_from(rt, alloc, gate, design, lists, Direction::Widen, low, runs)?;
+    let greatest = run_from(
+        rt,
+        alloc,
+        gate,
+        design,
+        lists,
+        Direction::Narrow,
+        high,
+        runs,
+    )?;
+    Ok(Both {
+        low: least.windows,
+        high: greatest.windows,
+        low_rounds: least.rounds,
+        high_rounds: greatest.rounds,
+    })
+}
