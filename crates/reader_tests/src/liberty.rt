@@ -454,6 +454,8 @@ L4 3 | lu_table_template (t) { variable_1 : input_net_transition; index_1 (1); i
     input_net_transition; } | (t) { values (1); }
 L5 3 | lu_table_template (t) { variable_1 : input_net_transition; values (1);⏎index_1 (1, 0); } \
     | (t) { values (1); }
+L5 3 | lu_table_template (t) { variable_1 : input_net_transition; values (1);⏎index_1 (0.1, 0.1); } \
+    | (t) { values (1); }
 L3 3 | lu_table_template (t) { variable_1 : input_net_transition;⏎index_1 (1, z); } \
     | (t) { index_2 (1);⏎values (z); }
 L4 3 | time_unit : 1ps; lu_table_template (t) {⏎variable_1 : x; index_1 (1.2e6); } | (t) { values (1); }

@@ -326,6 +326,7 @@ const CLOCKS: &str = "\
 clock ck 0 0 3 1 | create_clock -period 0.000003 ck
 clock ck 0 0 1 0 | create_clock -period 0.0000005 ck
 C4 1 | create_clock -period 0.00000049 ck
+C4 1 | create_clock -period 0 [get_ports ck]
 clock ck 0 0 3 2 | create_clock -period 0.000003 -waveform {0 0.0000024} ck
 C4 1 | create_clock -period 0.000003 -waveform {0 0.0000025} ck
 C4 1 | create_clock -period 0.000003 -waveform {0 0.0000004} ck

@@ -6,6 +6,8 @@
 #[cfg(test)]
 mod findings;
 #[cfg(test)]
+mod large;
+#[cfg(test)]
 mod orders;
 #[cfg(test)]
 mod passes;

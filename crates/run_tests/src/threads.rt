@@ -17,47 +17,66 @@ use std::thread::Threads;
 use window_words::SharedBoard;
 use xt_model::{Design, Direction, NoMemory, Pair, Quad, Windows};
 
-/// A gate that holds nobody, and counts the calls of each worker; those of all workers above 64 together.
+/// A gate that holds nobody, and counts the calls of each worker, with the round of the last; those of all workers above
+/// 64 together.
 #[derive(Drop)]
 struct CountGate {
     calls: Vec<AtomicU64>,
+    last: Vec<AtomicU64>,
     strayed: AtomicBool,
 }
 
 impl CountGate {
     /// A gate that nobody has passed.
     fn new(alloc: Global) -> Result<CountGate, AllocError> {
-        let mut calls = Vec::new(alloc);
-        for _worker in 0..66 {
-            calls.push(AtomicU64::new(0))?;
-        }
         Ok(CountGate {
-            calls,
+            calls: zeros(alloc)?,
+            last: zeros(alloc)?,
             strayed: AtomicBool::new(false),
         })
     }
 
-    /// Whether workers 1 to `workers` passed once in each of rounds 1 to `rounds`, in this order, and no other did.
-    fn counted(&self, workers: usize, rounds: u64) -> bool {
-        for (worker, calls) in self.calls.iter().enumerate() {
-            let passes = worker > 0 && worker <= workers;
-            let expected = if passes { rounds } else { 0 };
-            if calls.load(Ordering::SeqCst) != expected {
-                return false;
-            }
-        }
-        !self.strayed.load(Ordering::SeqCst)
+    /// Whether workers 1 to `workers` passed once in each round of one run or of several, in this order, `calls` times
+    /// in all and last in round `last`, and no other did.
+    fn counted(&self, workers: usize, calls: u64, last: u64) -> bool {
+        are_first(&self.calls, workers, calls)
+            && are_first(&self.last, workers, last)
+            && !self.strayed.load(Ordering::SeqCst)
     }
+}
+
+/// A zero for each number of a worker, and one for all others.
+fn zeros(alloc: Global) -> Result<Vec<AtomicU64>, AllocError> {
+    let mut zeros = Vec::new(alloc);
+    for _worker in 0..66 {
+        zeros.push(AtomicU64::new(0))?;
+    }
+    Ok(zeros)
+}
+
+/// Whether places 1 to `workers` have this number, and all others 0.
+fn are_first(numbers: &[AtomicU64], workers: usize, wanted: u64) -> bool {
+    for (worker, number) in numbers.iter().enumerate() {
+        let passes = worker > 0 && worker <= workers;
+        let expected = if passes { wanted } else { 0 };
+        if number.load(Ordering::SeqCst) != expected {
+            return false;
+        }
+    }
+    true
 }
 
 impl Gate for CountGate {
     fn pass(&self, worker: u32, round: u64) {
         let place = if worker > 64 { 65 } else { worker as usize };
-        let before = match self.calls.get(place) {
-            Some(calls) => calls.fetch_add(1, Ordering::SeqCst),
+        if let Some(calls) = self.calls.get(place) {
+            calls.fetch_add(1, Ordering::SeqCst);
+        }
+        let before = match self.last.get(place) {
+            Some(last) => last.swap(round, Ordering::SeqCst),
             None => 0,
         };
-        if before.checked_add(1) != Some(round) {
+        if round != 1 && before.checked_add(1) != Some(round) {
             self.strayed.store(true, Ordering::SeqCst);
         }
     }
@@ -257,7 +276,11 @@ fn each_passes<R: Threads + Sync>(
     let gate = CountGate::new(alloc)?;
     let twice = settled_twice(rt, alloc, text, workers, &gate)?;
     let rounds = twice.first.rounds;
-    Ok(end_in(&twice, nets) && are_from_one(rounds, most) && gate.counted(workers as usize, rounds))
+    Ok(
+        end_in(&twice, nets)
+            && are_from_one(rounds, most)
+            && gate.counted(workers as usize, rounds, rounds),
+    )
 }
 
 #[test]
@@ -266,6 +289,51 @@ fn each_worker_passes_the_gate_once_a_round(rt: HostRuntime) -> Result<(), Fail>
         assert!(rt; *workers >= 1 && *workers <= 64);
         assert!(rt;
             each_passes(&rt, rt.alloc(), text, *workers, nets, *most)?,
+            "{workers} workers"
+        );
+    }
+    Ok(())
+}
+
+/// Whether each of `workers` workers passes the gate once in every round of both runs over a design.
+fn both_pass<R: Threads + Sync>(
+    rt: &R,
+    alloc: Global,
+    design: &Design,
+    workers: u32,
+) -> Result<bool, Fail>
+    requires some { 1 ≤ workers }
+    requires few { workers ≤ 64 }
+{
+    let lists = read_lists(alloc, design)?;
+    let top = top(alloc, design)?;
+    let gate = CountGate::new(alloc)?;
+    let both = run_both(rt, alloc, design, &lists, &top, workers, &gate)?;
+    let rounds = both.low_rounds.saturating_add(both.high_rounds);
+    Ok(gate.counted(workers as usize, rounds, both.high_rounds))
+}
+
+/// The same of the design of a text.
+fn text_passes<R: Threads + Sync>(
+    rt: &R,
+    alloc: Global,
+    text: &[u8],
+    workers: u32,
+) -> Result<bool, Fail>
+    requires some { 1 ≤ workers }
+    requires few { workers ≤ 64 }
+{
+    let design = read(alloc, text)?;
+    both_pass(rt, alloc, &design, workers)
+}
+
+// Each of these designs makes a round in both runs.
+#[test]
+fn each_worker_passes_the_gate_in_both_runs(rt: HostRuntime) -> Result<(), Fail> {
+    for (text, workers) in [(LOAD_PAIR, 2), (LOAD_PAIR, 64), (CROSS, 3), (CROSS, 7)] {
+        assert!(rt; workers >= 1 && workers <= 64);
+        assert!(rt;
+            text_passes(&rt, rt.alloc(), text, workers)?,
             "{workers} workers"
         );
     }

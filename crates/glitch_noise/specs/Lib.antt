@@ -1,0 +1,4 @@
+pub mod Shares
+pub mod Peaks
+pub mod Changes
+pub mod Laws
