@@ -424,12 +424,31 @@ def examples(browser, folder):
         assert not browser.faults(), browser.faults()
 
 
+def noise_of_block(browser, folder):
+    """The noise lines that the program prints of the block."""
+    make_page(folder / "block.noise", folder / "noise.html")
+    browser.open(folder / "noise.html")
+    rows = Lines(folder / "block.noise").first.get("noise", [])
+    rows = [[net, edge, ppm, moment] for net, edge, _, ppm, _, moment in rows]
+    assert rows and browser.cells("#noise-rows") == sorted(rows, key=lambda row: -int(row[2]))[:ROWS]
+    assert not browser.faults(), browser.faults()
+
+
+def picture(browser):
+    """The page from its head to the end of the first path, somewhat smaller."""
+    end = browser.run("document.querySelector('#path-list svg').getBoundingClientRect().bottom + scrollY")
+    clip = {"x": 0, "y": 0, "width": WIDTH, "height": end + 12, "scale": .8}
+    return base64.b64decode(browser.call("Page.captureScreenshot", format="png", clip=clip,
+                                         captureBeyondViewport=True)["data"])
+
+
 def report_of_block(args, folder):
-    """The report of a block, by the program."""
+    """The report of a block, by the program; and that of its noise."""
     subprocess.run([sys.executable, TOP / "bench/block.py", str(args.cells), folder / "block"], check=True)
     files = [folder / f"block/block.{end}" for end in ("lib", "v", "spef", "sdc")]
-    with open(folder / "block.report", "wb") as file:
-        subprocess.run([args.program, "report", *files], stdout=file, check=True)
+    for name, words in (("block.report", []), ("block.noise", ["--kind", "noise"])):
+        with open(folder / name, "wb") as file:
+            subprocess.run([args.program, "report", *files, *words], stdout=file, check=True)
     return folder / "block.report"
 
 
@@ -457,8 +476,7 @@ def main():
             head(browser, lines)
             print("head: well", flush=True)
             if args.screenshot:
-                shot = browser.call("Page.captureScreenshot", format="png")["data"]
-                args.screenshot.write_bytes(base64.b64decode(shot))
+                args.screenshot.write_bytes(picture(browser))
             names = list(dict.fromkeys(net[0] for net in lines.nets))
             paths_of = [row[1] for row in lines.path_rows if row[0] in ("from", "step")]
             net_names = paths_of + rng.sample(names, min(40, len(names))) + names[:2] + names[-2:]
@@ -476,6 +494,8 @@ def main():
             if len(names) > 2000:
                 print(f"bounded: well, {bounded(browser, lines, report, folder)}", flush=True)
             noise(browser, folder, rng)
+            if not args.report:
+                noise_of_block(browser, folder)
             print("noise: well", flush=True)
             markup(browser, folder)
             print("markup: well", flush=True)
