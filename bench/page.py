@@ -7,9 +7,9 @@ runs `PROGRAM report` on a block of 20,000 cells of block.py, makes the page and
 fails, counts, bars and worst slacks are those of the report; the table of checks sorts by each column and filters; nets
 are looked up by name, and their windows, their picture and their couplings are compared with the report's lines; so are
 the paths. Then a page that is bounded to few bytes, one of noise lines, one whose names are markup, and those of the
-reports of examples/. PROGRAM is by default the launcher `xtalk` at the top; with --report it is not run. What is expected
-is read from the report by the few lines below, not by tools/. It prints a line for each test, and after how many seconds
-the page was open.
+reports of examples/. PROGRAM is by default the launcher `xtalk` at the top; with --report it is not run. What is
+expected is read from the report by the few lines below, not by tools/. It prints a line for each test, and after how
+many seconds the page was open. --screenshot writes a picture of the page, as docs/page.png is one.
 """
 import argparse
 import base64
@@ -217,7 +217,8 @@ def bars(browser, lines):
 def sorting(browser, lines):
     """The table of checks by each column, up and down, at its first page, its second and its last."""
     keys = [lambda check: check[0], lambda check: EDGES.index(check[1]),
-            lambda check: ["setup", "hold"].index(check[2]), lambda check: value(check[3]), lambda check: value(check[4]) if check[3] != "idle" else None,
+            lambda check: ["setup", "hold"].index(check[2]), lambda check: value(check[3]),
+            lambda check: value(check[4]) if check[3] != "idle" else None,
             lambda check: value(check[4]) - value(check[3]) if check[3] != "idle" else None]
     for column, key in enumerate(keys):
         for down in (False, True):
@@ -284,7 +285,8 @@ def lane_corners(browser):
     marks, bands = browser.run(
         "(() => { const drawing = document.querySelector('#net-picture svg'); return ["
         "[...drawing.querySelectorAll('text[text-anchor=middle]')].map(text => "
-        "[+text.getAttribute('x'), +text.textContent]), [...drawing.querySelectorAll('[data-lane]')].map(band => [band.dataset.lane, band.firstChild.textContent, "
+        "[+text.getAttribute('x'), +text.textContent]), "
+        "[...drawing.querySelectorAll('[data-lane]')].map(band => [band.dataset.lane, band.firstChild.textContent, "
         "[...band.querySelectorAll('polygon')].map(it => it.getAttribute('points'))])]; })()")
     (x0, t0), (x1, t1) = marks[0], marks[-1]
     scale = (t1 - t0) / (x1 - x0)
