@@ -229,10 +229,12 @@ def sorting(browser, lines):
             shown = browser.run("document.querySelectorAll('#check-heads th')[%d].getAttribute('aria-sort')" % column)
             assert shown == ("descending" if down else "ascending"), (column, shown)
             assert browser.cells("#check-rows") == wanted[:ROWS], (column, down)
-        browser.click("document.getElementById('check-next')")
-        assert browser.cells("#check-rows") == wanted[ROWS:2 * ROWS]
-        browser.run(f"checkTable.turn({(len(wanted) - 1) // ROWS - 1})")
-        assert browser.cells("#check-rows") == wanted[(len(wanted) - 1) // ROWS * ROWS:]
+        last = (len(wanted) - 1) // ROWS
+        if last > 0:
+            browser.click("document.getElementById('check-next')")
+            assert browser.cells("#check-rows") == wanted[ROWS:2 * ROWS]
+            browser.run(f"checkTable.turn({last - 1})")
+        assert browser.cells("#check-rows") == wanted[last * ROWS:]
         assert browser.run("document.getElementById('check-next').disabled")
     browser.click("document.querySelectorAll('#check-heads button')[3]")
 
@@ -240,7 +242,7 @@ def sorting(browser, lines):
 def filtering(browser, lines, rng):
     """Checks by a part of their name, by kind, and those below 0 alone."""
     by_slack = sorted(lines.checks, key=lambda check: (check[3] == "idle", value(check[3]) or 0))
-    names = [check[0] for check in rng.sample(lines.checks, 12)]
+    names = [check[0] for check in rng.sample(lines.checks, min(12, len(lines.checks)))]
     for part in names + [names[0][:3], names[1][-3:], "no such check"]:
         browser.type("check-filter", part)
         wanted = [as_cells(check) for check in by_slack if part.lower() in check[0].lower()]
