@@ -92,10 +92,11 @@ fn leaves(
     );
     let Ended {
         status,
-        files: _,
+        files,
         out,
         err,
     } = ended;
+    drop(files);
     let (out, err) = (out.into_stream(), err.into_stream());
     Ok((status, out.as_slice(), err.as_slice()) == wanted)
 }

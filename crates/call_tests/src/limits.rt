@@ -127,10 +127,12 @@ fn ends_at<R: Threads + Sync>(
 fn each_cut_ends<R: Threads + Sync>(rt: &R, alloc: Global) -> Result<bool, Fail> {
     let mut text = Vec::new(alloc);
     let whole = str::from_utf8(CROSS).unwrap_or("");
-    for (number, line) in whole.lines().enumerate() {
-        if !ends_at(rt, alloc, &text, number)? {
+    let mut lines: usize = 0;
+    for line in whole.lines() {
+        if !ends_at(rt, alloc, &text, lines)? {
             return Ok(false);
         }
+        lines = lines.saturating_add(1);
         text.extend_from_slice(line.as_bytes())?;
         text.push(b'\n')?;
     }
