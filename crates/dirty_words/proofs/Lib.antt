@@ -14,3 +14,4 @@ mod Parting
 mod Opening
 mod Calls
 mod Holding
+mod Rows

@@ -4,8 +4,12 @@
 #![tactic(auto)]
 
 mod board;
+mod reader_lists;
+mod reversing;
 mod rule;
 mod view;
 
 pub use board::{DirtyBoard, DirtyPass};
+pub use reader_lists::Readers;
+pub use reversing::readers;
 pub use view::{DirtyView, Flight};
