@@ -18,7 +18,7 @@ _xtalk() {
     *) return ;;
     esac
     case $before in
-    --kind) mapfile -t COMPREPLY < <(compgen -W 'all checks' -- "$now"); return ;;
+    --kind) mapfile -t COMPREPLY < <(compgen -W 'all checks noise' -- "$now"); return ;;
     --miller) mapfile -t COMPREPLY < <(compgen -W '0,4,8 0,4,12 4,4,4' -- "$now"); return ;;
     --workers | --order | --number | --nets) return ;;
     esac

@@ -57,6 +57,27 @@ fn the_checks_of_a_block_are_reported_alone(rt: HostRuntime) -> Result<(), Fail>
     Ok(())
 }
 
+/// The peaks of glitch noise of the block: each of its two nets that couple has 1 of 4 fF to the other. The greatest
+/// window of bus[0] begins at 90 ps and that of n1 at 68 ps, each with half a slew of 20 ps before it.
+const NOISE: &str = "\
+0 xtalk 1
+nets 6 couplings 2 pairs 1 levels 3 bound 15
+period 1000.000
+noise n1 rise ppm 250000 at 80.000
+noise n1 fall ppm 250000 at 80.000
+noise bus[0] rise ppm 250000 at 58.000
+noise bus[0] fall ppm 250000 at 58.000
+end
+";
+
+#[test]
+fn the_noise_of_a_block_is_reported(rt: HostRuntime) -> Result<(), Fail> {
+    let words = "report r.lib r.v r.spef r.sdc --kind noise";
+    let seen = outcome_of_block(&rt, rt.alloc(), words)?;
+    compare(&rt, seen.as_str(), NOISE, words);
+    Ok(())
+}
+
 /// What `words` say of a file `x.xt` that holds what the call before it printed.
 fn outcome_of_printed<R: Threads + Sync>(
     rt: &R,
@@ -77,6 +98,7 @@ const LINKED: &str = "\
 --miller 0,4,12 | | --miller=0,4,12
 --miller 3,3,3 | --miller 0,4,12 | --miller=0,4,12
 | --kind checks --miller 1,5,9 | --miller 1,5,9 --kind=checks
+| --kind noise | --kind=noise
 ";
 
 /// What a command says of the block with these options.

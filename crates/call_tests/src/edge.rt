@@ -5,27 +5,53 @@ use crate::designs::{ONE, ONE_REPORT};
 use crate::refused_texts::CHECKED;
 use std::alloc::Global;
 use std::io;
-use std::io::Write;
+use std::io::Read;
 use std::test::Fail;
-use xt_io::{Directory, Stream};
-use xtalk_edge::run;
+use xt_io::{Directory, Failed, Source};
+use xtalk_edge::{Ended, run};
 
 // There is no file `none/none`.
 #[test]
 fn ends_with_the_status_of_its_words(rt: HostRuntime) -> Result<(), Fail> {
     let alloc = rt.alloc();
     let none: Option<Vec<String>> = None;
-    assert_eq!(rt; run(&rt, none, rt, Vec::new(alloc), Vec::new(alloc)), 9);
+    let ended = run(&rt, none, rt, Vec::new(alloc), Vec::new(alloc));
+    assert_eq!(rt; ended.status, 9);
     for (words, wanted) in [
         ("", 2),
         ("gen --number=7 --nets=1", 0),
         ("solve none/none", 6),
     ] {
         let words = Some(words_of(alloc, words)?);
-        let status = run(&rt, words, rt, Vec::new(alloc), Vec::new(alloc));
-        assert_eq!(rt; status, wanted);
+        let ended = run(&rt, words, rt, Vec::new(alloc), Vec::new(alloc));
+        assert_eq!(rt; ended.status, wanted);
     }
     Ok(())
+}
+
+/// What is left of a text.
+#[derive(Drop)]
+struct Rest<'a> {
+    text: &'a [u8],
+}
+
+impl<'a> Read for Rest<'a> {
+    fn read(&mut self, buffer: &mut [u8]) -> io::Result<usize> {
+        self.text.read(buffer)
+    }
+}
+
+impl<'a> Source for Rest<'a> {
+    ghost use Rattle.std.specs.Prelude.{⊤};
+
+    ghost fails = { λ _. ⊤ };
+
+    fn read_some(&mut self, buffer: &mut [u8]) -> Result<usize, Failed> {
+        let Ok(count) = self.read(buffer) else {
+            return Err(Failed);
+        };
+        Ok(count)
+    }
 }
 
 /// A directory in which each name is a file with this text.
@@ -35,39 +61,17 @@ struct OneText<'a> {
 }
 
 impl<'a> Directory for OneText<'a> {
-    ghost use Rattle.std.specs.Prelude.{None};
+    ghost use Rattle.std.specs.Prelude.{None, ⊤};
 
-    type Stream = &'a [u8];
+    type Stream = Rest<'a>;
 
     ghost content = { λ _ _. None };
 
-    fn open(&self, _name: &str) -> Option<&'a [u8]> {
-        Some(self.text)
+    ghost refuses = { λ _ _. ⊤ };
+
+    fn open(&self, _name: &str) -> Option<Rest<'a>> {
+        Some(Rest { text: self.text })
     }
-}
-
-/// A stream whose bytes are there when it is gone.
-#[derive(Drop)]
-struct Kept<'a> {
-    bytes: &'a mut Vec<u8>,
-}
-
-impl<'a> Write for Kept<'a> {
-    fn write(&mut self, piece: &[u8]) -> io::Result<usize> {
-        self.bytes.write(piece)
-    }
-
-    fn flush(&mut self) -> io::Result<()> {
-        Ok(())
-    }
-}
-
-impl<'a> Stream for Kept<'a> {
-    ghost use Rattle.std.specs.Prelude.{false};
-
-    ghost known = { false };
-
-    ghost held = { λ _. tt };
 }
 
 /// Whether a run with these words, over files of this text, ends with the status and leaves this on its two streams.
@@ -79,9 +83,21 @@ fn leaves(
     wanted: (u8, &[u8], &[u8]),
 ) -> Result<bool, Fail> {
     let words = Some(words_of(alloc, words)?);
-    let (mut out, mut err) = (Vec::new(alloc), Vec::new(alloc));
-    let streams = (Kept { bytes: &mut out }, Kept { bytes: &mut err });
-    let status = run(&rt, words, OneText { text }, streams.0, streams.1);
+    let ended = run(
+        &rt,
+        words,
+        OneText { text },
+        Vec::new(alloc),
+        Vec::new(alloc),
+    );
+    let Ended {
+        status,
+        files,
+        out,
+        err,
+    } = ended;
+    drop(files);
+    let (out, err) = (out.into_stream(), err.into_stream());
     Ok((status, out.as_slice(), err.as_slice()) == wanted)
 }
 

@@ -1,7 +1,7 @@
 //! The summaries of generated designs. The expected ones are those of `bench/gen.py`, a plain program from the
 //! definition alone.
 
-use crate::call::{each_prints, prints};
+use crate::call::{calm, each_prints, prints, run};
 use std::alloc::Global;
 use std::test::Fail;
 use std::thread::Threads;
@@ -147,5 +147,30 @@ const SEVEN_OF_ONE: &[u8] = b"\
 #[test]
 fn takes_options_of_gen_in_any_order(rt: HostRuntime) -> Result<(), Fail> {
     assert!(rt; each_prints(&rt, rt.alloc(), ORDERS, b"", SEVEN_OF_ONE)?);
+    Ok(())
+}
+
+/// Whether two lines of words print the same.
+fn print_alike<R: Threads + Sync>(
+    rt: &R,
+    alloc: Global,
+    line: &str,
+    other: &str,
+) -> Result<bool, Fail> {
+    let ended = run(rt, alloc, line, b"", calm(alloc))?;
+    Ok(ended.status == 0 && prints(rt, alloc, other, b"", ended.out.bytes())?)
+}
+
+#[test]
+fn eight_workers_print_what_one_does(rt: HostRuntime) -> Result<(), Fail> {
+    let line = "gen --number 7 --nets 20000";
+    assert!(rt;
+        print_alike(
+            &rt,
+            rt.alloc(),
+            line,
+            "gen --number 7 --nets 20000 --workers 8"
+        )?
+    );
     Ok(())
 }

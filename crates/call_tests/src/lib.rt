@@ -19,6 +19,8 @@ mod limits;
 #[cfg(test)]
 mod miller;
 #[cfg(test)]
+mod noise;
+#[cfg(test)]
 mod outside;
 #[cfg(test)]
 mod refused_texts;

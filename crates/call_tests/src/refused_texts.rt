@@ -10,6 +10,45 @@ pub const CHECKED: &[u8] = b"\
     fall quiet\n\
     end\n";
 
+/// One source, with the first line of version 2, which has a line for Miller numbers.
+pub const NEWER: &[u8] = b"\
+    xtalk-design 2\n\
+    counts 0 1 0\n\
+    period none\n\
+    net a i 0 0 0 0\n\
+    rise 1000 1000 0 0\n\
+    fall quiet\n\
+    end\n";
+
+/// One source, with the first line of no version.
+pub const UNKNOWN: &[u8] = b"\
+    xtalk-design 3\n\
+    counts 0 1 0\n\
+    period none\n\
+    net a i 0 0 0 0\n\
+    rise 1000 1000 0 0\n\
+    fall quiet\n\
+    end\n";
+
+/// One source, with a number that has a leading zero.
+pub const PADDED: &[u8] = b"\
+    xtalk-design 1\n\
+    counts 0 1 0\n\
+    period none\n\
+    net a i 0 0 0 0\n\
+    rise 1000 01000 0 0\n\
+    fall quiet\n\
+    end\n";
+
+/// One source, without the last line.
+pub const UNENDED: &[u8] = b"\
+    xtalk-design 1\n\
+    counts 0 1 0\n\
+    period none\n\
+    net a i 0 0 0 0\n\
+    rise 1000 1000 0 0\n\
+    fall quiet\n";
+
 /// A window at the end of the range of times, and a wire of 1 fs behind it.
 pub const TOO_LATE: &[u8] = b"\
     xtalk-design 1\n\

@@ -23,6 +23,7 @@ fn kind_in_words(kind: ReportKind) -> &'static str {
     match kind {
         ReportKind::All => "all",
         ReportKind::Checks => "checks",
+        ReportKind::Noise => "noise",
     }
 }
 
@@ -72,6 +73,7 @@ solve f 2 all - | solve f --workers=002
 solve f 1 all - | solve f --workers=1 --kind=all
 solve f 64 checks - | solve --kind checks f --workers 64
 solve f 3 checks - | solve --workers 3 --kind=checks f
+solve f 1 noise - | solve f --kind noise
 solve f 7 all - | solve --workers=00000000000000000007 f
 replay f 5 3 - | replay f --order 5 --workers 3
 replay f 0 64 - | replay --workers=064 --order=0 f
@@ -82,6 +84,7 @@ solve f 1 all 4,5,6 | solve --miller 04,5,00000000000000000006 f
 report a b c d 1 all - | report a b c d
 report a b c d 8 all - | report --workers=8 a b c d
 report a b c d 1 checks - | report a b --kind checks c d
+report a b c d 2 noise 4,4,4 | report a b c --kind=noise --miller 4,4,4 d --workers 2
 report a b c d 1 all 4,4,4 | report a --miller=4,04,004 b c d
 link a b c d 0,4,12 | link a b --miller 0,4,12 c d
 ";
@@ -136,6 +139,7 @@ link a b c
 link a b c d e
 link a b c d --workers=1
 link a b c d --kind=all
+link a b c d --kind noise
 solve one.xt one.xt
 solve one.xt --workers
 solve one.xt --workers=
@@ -150,6 +154,8 @@ solve --workers=2 one.xt --workers 2
 solve one.xt --workers --kind=all
 solve one.xt --kind ∅
 solve one.xt --kind=check
+solve one.xt --kind=Noise
+solve one.xt --kind all --kind noise
 solve one.xt --kin=all
 solve one.xt --miller 4,0,8
 solve one.xt --miller 0,9,8
@@ -173,6 +179,7 @@ replay one.xt --order=5 --workers=65
 replay one.xt --order=5 --workers=3 --order=5
 replay one.xt --order=18446744073709551616 --workers=3
 replay one.xt --order=5 --workers=3 --kind=all
+replay one.xt --order=5 --workers=3 --kind noise
 replay one.xt --order=5 --workers=3 --miller=4,0,8
 gen
 gen --number 7
@@ -184,6 +191,7 @@ gen --number 7 --nets 1 --workers 65
 gen --number 7 --nets 1 f
 gen --number 7 --nets 1 --nets 1
 gen --number 7 --nets 1 --kind all
+gen --number 7 --nets 1 --kind noise
 ";
 
 #[test]

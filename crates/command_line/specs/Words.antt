@@ -21,11 +21,11 @@ use Rattle.command_line.specs.declared.words.Job.TheVariants.{Report, Solve, Rep
 abbrev pub block : List Text
 block = codes "lib" ∷ codes "netlist" ∷ codes "spef" ∷ codes "sdc" ∷ []
 
--- `report LIB NETLIST SPEF SDC [--workers N] [--kind all|checks] [--miller L,M,H]`
+-- `report LIB NETLIST SPEF SDC [--workers N] [--kind all|checks|noise] [--miller L,M,H]`
 abbrev pub report_form : CommandForm
 report_form = record { positionals = block; options = codes "workers" ∷ codes "kind" ∷ codes "miller" ∷ [] }
 
--- `solve FILE [--workers N] [--kind all|checks] [--miller L,M,H]`
+-- `solve FILE [--workers N] [--kind all|checks|noise] [--miller L,M,H]`
 abbrev pub solve_form : CommandForm
 solve_form = record {
   positionals = codes "file" ∷ [];

@@ -15,8 +15,9 @@ use Rattle.text_lines.specs.Lines.{Line, line_text, text_of}
 use Rattle.text_lines.specs.Words.{edge_word}
 use Rattle.aggressor_report.specs.declared.guilt.Guilt.{Guilt}
 use Rattle.aggressor_report.proofs.Turns.{turn}
+use Rattle.glitch_noise.specs.declared.peak.Peak.{Peak}
 use Rattle.report_text.specs.declared.sections.Section.{Section}
-use Rattle.report_text.specs.Report.{window_line, window_lines, is_unconstrained, unconstrained_lines, guilty_line}
+use Rattle.report_text.specs.Report.{window_line, window_lines, is_unconstrained, unconstrained_lines, guilty_line, peak_line}
 use Rattle.report_text.specs.Report.{Appends, AreSections, IsSection, end_lines}
 use Rattle.report_text.specs.Names.{name_or_nothing}
 use Rattle.report_text.specs.Fields.{quad_text}
@@ -55,6 +56,15 @@ pub entries_turn : (d : Parts) (entries : List Guilt) (i : ℕ) (x : Guilt) (o p
     → o ++ text_of (map (guilty_line d) (drop i entries)) ≡ whole → p ++ text_of (map (guilty_line d) (drop (i + 1) entries)) ≡ whole
 entries_turn d entries i x o p whole within appended h =
     turn (λ _ gs. text_of (map (guilty_line d) gs)) (λ _ g. line_text (guilty_line d g)) (entries_next d) entries i (get_or entries i x) o p whole (slice_get-get_or entries i x within) appended h
+
+-- a turn of the loop over peaks
+peaks_next : (d : Parts) (n : ℕ) (p : Peak) (more : List Peak) → text_of (map (peak_line d) (p ∷ more)) ≡ line_text (peak_line d p) ++ text_of (map (peak_line d) more)
+peaks_next d n p more = refl
+
+pub peaks_turn : (d : Parts) (peaks : List Peak) (i : ℕ) (x : Peak) (o p whole : List ℕ) → i < length peaks → p ≡ o ++ line_text (peak_line d (get_or peaks i x))
+    → o ++ text_of (map (peak_line d) (drop i peaks)) ≡ whole → p ++ text_of (map (peak_line d) (drop (i + 1) peaks)) ≡ whole
+peaks_turn d peaks i x o p whole within appended h =
+    turn (λ _ ps. text_of (map (peak_line d) ps)) (λ _ p. line_text (peak_line d p)) (peaks_next d) peaks i (get_or peaks i x) o p whole (slice_get-get_or peaks i x within) appended h
 
 -- ---- the lines of a report, piece by piece
 

@@ -22,9 +22,11 @@ use Rattle.aggressor_report.specs.declared.mark.Mark.{Mark}
 use Rattle.aggressor_report.specs.declared.mark.Mark.TheVariants.{No, Possible, Sure}
 use Rattle.aggressor_report.specs.declared.guilt.Guilt.{Guilt}
 use Rattle.aggressor_report.specs.Guilt.{coupling_of, guilty}
+use Rattle.glitch_noise.specs.declared.peak.Peak.{Peak}
+use Rattle.glitch_noise.specs.Peaks.{ArePeaks}
 use Rattle.report_text.specs.declared.checked.Checked.{Checked}
 use Rattle.report_kind.specs.declared.kind.ReportKind.{ReportKind}
-use Rattle.report_kind.specs.declared.kind.ReportKind.TheVariants.{All, Checks}
+use Rattle.report_kind.specs.declared.kind.ReportKind.TheVariants.{All, Checks, Noise}
 use Rattle.report_text.specs.declared.sections.Section.{Section}
 use Rattle.report_text.specs.declared.sections.Section.TheVariants as section
 use Rattle.report_text.specs.Names.{name_at}
@@ -94,16 +96,28 @@ coupling_line d g (Some k) =
 abbrev pub guilty_line : Parts → Guilt → Line
 guilty_line d g = coupling_line d g (coupling_of d g)
 
+-- the line of a peak: its victim, the edge of its aggressors, its size in millionths of the supply, and its moment
+abbrev pub peak_line : Parts → Peak → Line
+peak_line d p =
+    codes "noise" ∷ name_at d p.victim.0 ∷ edge_word p.edge ∷ codes "ppm" ∷ decimal p.ppm
+    ∷ codes "at" ∷ thousandths p.moment ∷ []
+
+-- these are the lines of the peaks of the nets, in these greatest windows
+abbrev pub IsNoise : Parts → List Pair → List Line → Type 0
+IsNoise d high lines = (peaks : List Peak) × ArePeaks d (assigned high) 0 d.nets peaks × (lines ≡ map (peak_line d) peaks)
+
 -- the lines on checks, and on the worst of each kind
 abbrev pub checked_lines : Parts → Checked → List Line
 checked_lines d c = check_lines d c.slacks ++ (worst_lines d c.setup ++ worst_lines d c.hold)
 
 -- ---- the sections of a report
 
--- what a report of each kind has, in this order; one of the checks alone has no windows and no couplings
+-- what a report of each kind has, in this order; one of the checks alone has no windows and no couplings, and one of
+-- noise has peaks alone
 abbrev pub sections_of : ReportKind → List Section
 sections_of All = section.Windows ∷ section.Unconstrained ∷ section.Guilty ∷ section.Checks ∷ []
 sections_of Checks = section.Unconstrained ∷ section.Checks ∷ []
+sections_of Noise = section.Noise ∷ []
 
 -- these are the lines of a section, for these least and greatest windows
 abbrev pub IsSection : Section → Parts → List Pair → List Pair → List Line → Type 0
@@ -112,6 +126,7 @@ IsSection section.Unconstrained d low high lines = lines ≡ unconstrained_lines
 IsSection section.Guilty d low high lines = lines ≡ map (guilty_line d) (guilty d low high)
 IsSection section.Checks d low high lines =
     (checked : Checked) × IsChecked d low high checked × (lines ≡ checked_lines d checked)
+IsSection section.Noise d low high lines = IsNoise d high lines
 
 -- these are the lines of sections, one section after another
 abbrev pub AreSections : List Section → Parts → List Pair → List Pair → List Line → Type 0

@@ -6,6 +6,7 @@ mod checks;
 mod edge_windows;
 mod fields;
 mod guilty;
+mod noise;
 mod paths;
 mod points;
 mod report;

@@ -9,6 +9,7 @@ ghost use Rattle.report_text.specs.Report.{Appends, AreSections, IsSection, sect
 
 use crate::checked::push_checked;
 use crate::guilty::push_guilty;
+use crate::noise::push_noise;
 use crate::unconstrained::push_unconstrained;
 use crate::windows::push_windows;
 use report_kind::ReportKind;
@@ -26,6 +27,8 @@ pub enum Section {
     Guilty,
     /// The slacks of the checks, and the worst of each kind with the path of its data.
     Checks,
+    /// The peaks of glitch noise, by the greatest windows.
+    Noise,
 }
 
 /// What a report of each kind has, in its order.
@@ -40,6 +43,7 @@ pub fn sections_of(kind: ReportKind) -> &'static [Section]
             Section::Checks,
         ],
         ReportKind::Checks => &[Section::Unconstrained, Section::Checks],
+        ReportKind::Noise => &[Section::Noise],
     }
 }
 
@@ -71,6 +75,7 @@ fn push_section(
         }
         Section::Guilty => push_guilty(out, alloc, design, low, high),
         Section::Checks => push_checked(out, alloc, design, low, high),
+        Section::Noise => push_noise(out, alloc, design, high),
     }
 }
 

@@ -1,30 +1,42 @@
--- What the status of a run tells.
-use Rattle.std.specs.Prelude.{◌≡◌, ◌≢◌, ⊤, ℕ, ◌⊎◌, List, Option, IfSome, MatchOption}
+-- What a run leaves: its status, and what it did to its files and streams.
+use Rattle.std.specs.Prelude.{◌≡◌, ◌≢◌, ℕ, List, Option, IfSome, MatchOption}
+use Rattle.xt_io.specs.Host.{StreamState}
 use Rattle.command_line.specs.Words.{Text}
-use Rattle.xtalk_top.specs.Outcome.{Contents, prints, refuses}
-use Rattle.xtalk_top.specs.Call.{AreKnown, IsFailure, Means, status_of}
-use Rattle.xtalk_top.specs.declared.refusal.Refusal.{Refusal}
-use Rattle.xtalk_top.specs.declared.refusal.Failure.{Failure}
-use Rattle.xtalk_top.specs.declared.refusal.Failure.TheVariants.{NoText}
-use Rattle.xtalk_top.specs.declared.refusal.Stop.TheVariants.{Refused}
+use Rattle.xtalk_top.specs.Outcome.{Contents}
+use Rattle.xtalk_top.specs.Call.{AreKnown, IsCall, Means}
 
--- the status of a call with these words: 0 where they and the files mean a text; any other has one failure as its
--- cause; and a refusal that they mean comes, unless memory runs out or a file cannot be read. What the streams hold,
--- and where a fault came, is not said: they are gone with the run
-pub record IsCallStatus (words : List Text) (content : Contents) (status : ℕ) : Type 0 where
-  pub printed : status ≡ 0 → (text : Text) × Means words content (prints text)
-  pub failed : status ≢ 0 → (failure : Failure) × (status ≡ status_of failure)
-      × IsFailure (Means words content) (λ _. ⊤) (λ _. ⊤) failure
-  pub refused : (why : Refusal) → Means words content (refuses why) → AreKnown words content
-      → (status ≡ status_of (NoText (Refused why))) ⊎ ((status ≡ 8) ⊎ (status ≡ 6))
+-- the outside of a call at one moment: how many faults its files had, its output and its error stream
+pub record Outside (O E : Type 0) : Type 0 where
+  pub faults : ℕ
+  pub out : StreamState O
+  pub err : StreamState E
 
--- 9 where no words are given; else another status, that of the call with the words
-abbrev pub IsStatusOf : Option (List Text) → Contents → ℕ → Type 0
-IsStatusOf given content status =
-    MatchOption given (status ≡ 9) (λ words. (status ≢ 9) × IsCallStatus words content status)
+-- all files of a directory have one count of faults
+abbrev pub faults_of : {O E : Type 0} → Outside O E → Text → ℕ
+faults_of outside file = outside.faults
 
--- the status of a run: that of the words that are given, if any are, which are those that are known to be
-pub record IsRunStatus (known : Option (Option (List Text))) (content : Contents) (status : ℕ) : Type 0 where
+-- what a sink over a stream has written, and its count of faults
+abbrev pub written_by : {W : Type 0} → StreamState W → Option Text
+written_by sink = sink.written
+
+abbrev pub sink_faults : {W : Type 0} → StreamState W → ℕ
+sink_faults sink = sink.faults
+
+-- what a call with these words does
+abbrev pub IsCallOf : {O E : Type 0} → List Text → Contents → Outside O E → Outside O E → ℕ → Type 0
+IsCallOf words content before after status =
+    IsCall written_by sink_faults written_by sink_faults (Means words content) (AreKnown words content)
+    (faults_of before) (faults_of after) before.out after.out before.err after.err status
+
+-- 9 where no words are given, and all is as it was; else another status, and what a call with the words does
+abbrev pub EndsAs : {O E : Type 0} → Option (List Text) → Contents → Outside O E → Outside O E → ℕ → Type 0
+EndsAs given content before after status =
+    MatchOption given ((status ≡ 9) × (after ≡ before))
+    (λ words. (status ≢ 9) × IsCallOf words content before after status)
+
+-- a run: what is done with the words that are given, if any are, which are those that are known to be
+pub record IsRun {O E : Type 0} (known : Option (Option (List Text))) (content : Contents)
+    (before after : Outside O E) (status : ℕ) : Type 0 where
   pub given : Option (List Text)
   pub as_known : IfSome known (λ words. given ≡ words)
-  pub ended : IsStatusOf given content status
+  pub ended : EndsAs given content before after status

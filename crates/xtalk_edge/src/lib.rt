@@ -3,48 +3,67 @@
 
 mod words;
 
-ghost use Rattle.std.specs.Prelude.{◌≡◌, IsNone, option_map};
+ghost use Rattle.std.specs.Prelude.{option_map};
+ghost use Rattle.xt_io.specs.Host.{fresh_stream};
 ghost use Rattle.command_line.specs.Words.{bytes_of};
-ghost use Rattle.xtalk_edge.specs.Run.{IsRunStatus, IsStatusOf};
+ghost use Rattle.xtalk_edge.specs.Run.{EndsAs, IsRun};
 
 use std::alloc::Global;
 use std::thread::Threads;
 pub use words::CommandLine;
-use xt_io::{Directory, DirectoryFiles, Files, HostStream, Sink, Stream};
+use xt_io::{Directory, DirectoryFiles, HostStream, Stream};
 use xtalk_top::xtalk;
 
 /// The status when the system does not give the program its words; `xtalk` never answers it.
 const NO_WORDS: u8 = 9;
 
+/// How a run ended: its exit status, and its files and streams, each with its count of faults.
+#[derive(Drop)]
+pub struct Ended<D: Directory, O: Stream, E: Stream> {
+    pub status: u8,
+    pub files: DirectoryFiles<D>,
+    pub out: HostStream<O>,
+    pub err: HostStream<E>,
+}
+
 /// Runs the program on the words of this command line, over the files of this directory, with the streams for its
-/// output and for its refusals, and answers the exit status.
-pub fn run<R, C, D, O, E>(rt: &R, command_line: C, directory: D, out: O, err: E) -> u8
+/// output and for its refusals. It answers the exit status, and gives the files and the streams back.
+pub fn run<R, C, D, O, E>(rt: &R, command_line: C, directory: D, out: O, err: E) -> Ended<D, O, E>
 where
     R: Threads + Sync + Alloc<A = Global>,
     C: CommandLine,
     D: Directory + Drop,
     O: Stream + Drop,
     E: Stream + Drop,
-    ensures { IsRunStatus (C.given command_line) (D.content directory) result }
+    ensures { IsRun (C.given command_line) (D.content directory)
+        (record { faults = 0; out = fresh_stream O.known O.contents out; err = fresh_stream E.known E.contents err })
+        (record { faults = result.files.faults; out = result.out; err = result.err }) result.status }
 {
     let mut files = DirectoryFiles::new(directory);
     let mut out = HostStream::new(out);
     let mut err = HostStream::new(err);
     let words = command_line.words();
-    status(rt, rt.alloc(), &words, &mut files, &mut out, &mut err)
+    let status = status(rt, rt.alloc(), &words, &mut files, &mut out, &mut err);
+    Ended {
+        status,
+        files,
+        out,
+        err,
+    }
 }
 
 /// The exit status of a call with these words, or where there are none.
-fn status<R: Threads + Sync, F: Files, O: Sink, E: Sink>(
+fn status<R: Threads + Sync, D: Directory, O: Stream, E: Stream>(
     rt: &R,
     alloc: Global,
     words: &Option<Vec<String>>,
-    files: &mut F,
-    out: &mut O,
-    err: &mut E,
+    files: &mut DirectoryFiles<D>,
+    out: &mut HostStream<O>,
+    err: &mut HostStream<E>,
 ) -> u8
-    ensures status { IsStatusOf (option_map (λ all. bytes_of all.items) words.now) (F.content files.old) result }
-    ensures untouched { IsNone words.now → (files.new ≡ files.old) × (out.new ≡ out.old) × (err.new ≡ err.old) }
+    ensures { EndsAs (option_map (λ all. bytes_of all.items) words.now) (D.content files.old.directory)
+        (record { faults = files.old.faults; out = out.old; err = err.old })
+        (record { faults = files.new.faults; out = out.new; err = err.new }) result }
 {
     match words {
         Some(words) => xtalk(rt, alloc, words, files, out, err),

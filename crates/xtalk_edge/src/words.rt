@@ -1,3 +1,6 @@
+ghost use Rattle.std.specs.Prelude.{⊤, IfSome};
+ghost use Rattle.std.specs.Iterator.{DrainsIf, IsFinite};
+
 use std::alloc::Global;
 use std::env;
 use std::env::Env;
@@ -43,9 +46,16 @@ impl CommandLine for Option<Vec<String>> {
 fn words_of<R: Env + Alloc<A = Global>>(rt: &R) -> Option<Vec<String>> {
     let mut args = env::args(rt).ok()?;
     args.next();
-    let mut words = Vec::new(rt.alloc());
-    for word in args {
-        words.push(word).ok()?;
-    }
-    Some(words)
+    gathered(rt.alloc(), args)
+}
+
+// All words, in order. `None` where memory runs out.
+fn gathered<I: Iterator<Item = String>>(alloc: Global, words: I) -> Option<Vec<String>>
+where
+    I: Drop,
+    requires can { I.can_next words }
+    requires finite { IsFinite (I.remaining words) }
+    ensures { IfSome result (λ all. DrainsIf I.next_gives ⊤ words all.items) }
+{
+    words.collect(alloc).ok()
 }

@@ -5,5 +5,6 @@ use std::process::ExitCode;
 use xtalk_edge::run;
 
 fn main(rt: HostRuntime) -> ExitCode {
-    ExitCode::from(run(&rt, rt, rt, rt.stdout(), rt.stderr()))
+    let ended = run(&rt, rt, rt, rt.stdout(), rt.stderr());
+    ExitCode::from(ended.status)
 }

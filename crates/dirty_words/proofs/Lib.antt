@@ -1,0 +1,17 @@
+mod Nets
+mod Live
+mod Marks
+mod Below
+mod Covering
+mod Tracking
+mod Closing
+mod Taking
+mod Noting
+mod Looking
+mod Turning
+mod Flying
+mod Parting
+mod Opening
+mod Calls
+mod Holding
+mod Rows
