@@ -592,7 +592,7 @@ def random_words(rng, folder):
     with open(file, "wb") as out:
         out.write(plain.linked(Design(None, [], [source(rise=Quad(1, 2, 3, 4))])).encode())
     numbers = ["1", "64", "65", "0", "007", "-1", "+1", "", "1 ", "0x1", "1.0", "0" * 19 + "2", "0" * 20 + "2", "٣"]
-    kinds = ["all", "checks", "check", "ALL", "", "-all", "noise"]
+    kinds = ["all", "checks", "noise", "check", "ALL", "", "-all", "noises", "Noise"]
     millers = ["0,4,8", "0,4,12", "4,04,004", "0,4,13", "4,0,8", "0,4", "0,4,8,9", ",4,8", "0,,8", "0,4,", "0, 4,8", "-1,4,8",
                "0,+4,8", "0;4;8", "0" * 19 + "1,4,8", "0" * 20 + "1,4,8", "", "1,2,18446744073709551617", "4,4,4"]
     pieces = [[file]] * 8 + [[""], ["-"], ["--"], ["-w", "2"], ["--work=2"], ["--workers"], ["--kind"], ["all"]]
@@ -612,9 +612,9 @@ def random_words(rng, folder):
 
 
 def random_command(rng, file):
-    """The words of `solve`, of the whole report or of its checks, or those of `replay` in some order; and the kind."""
+    """The words of `solve`, of a report of some kind, or those of `replay` in some order; and the kind."""
     if rng.random() < 0.7:
-        kind = rng.choice(["all", "all", "checks"])
+        kind = rng.choice(["all", "all", "checks", "noise"])
         return ["solve", file, *(["--kind", kind] if kind != "all" else [])], kind
     order = rng.choice([0, 1, 5, 2**64 - 1, rng.randrange(2**64)])
     return ["replay", file, "--order", str(order), "--workers", str(rng.choice([1, 2, 3, 7, 64]))], "all"

@@ -456,6 +456,30 @@ def guilty_lines(design, low, high):
                     who = net.name, EDGES[e], nets[coupling.to].name, thousandths(coupling.cap)
                     yield line("guilty", *who, "fast", fast, "slow", slow)
 
+def share(design, windows, n, e, moment):
+    """How much coupling capacitance of a net can switch at one moment, of aggressors with this edge."""
+    now = Quad(moment, moment, 0, 0)
+    return sum(c.cap for c in design.nets[n].couplings if overlap(now, windows[c.to][e], design.period))
+
+def peak(design, windows, n, e):
+    """The greatest share of a net over all moments, and the first moment that has it: with a period
+    the first of its moments from 0 on. No share is above 0 where there are no such moments."""
+    # A share rises only where the active range of an aggressor begins, or, with a period, at 0.
+    begins = [active_range(windows[c.to][e])[0] for c in design.nets[n].couplings if live(windows[c.to][e])]
+    moments = begins if design.period is None else [0, *(moment % design.period for moment in begins)]
+    shares = [(share(design, windows, n, e, moment), moment) for moment in moments]
+    return min(shares, key=lambda one: (-one[0], one[1]), default=(0, 0))
+
+def noise_lines(design, high):
+    """The nets whose neighbours may switch at one moment, by net and edge of the neighbours: what part
+    of a net's capacitance they then are, in millionths, and when."""
+    for n, net in enumerate(design.nets):
+        for e in BOTH:
+            most, moment = peak(design, high, n, e)
+            if most > 0:
+                part = 10**6 * most // (net.load + sum(c.cap for c in net.couplings))
+                yield line("noise", net.name, EDGES[e], "ppm", part, "at", thousandths(moment))
+
 def window_at(design, windows, n, e, sink):
     """The window of an edge behind the wire to a sink; None where the edge never switches."""
     quad = windows[n][e]
@@ -544,6 +568,8 @@ def report(design, low, high, kind="all"):
                      "bound", (4 * pairs + 1) * depth))
     text.append(line("period", "none" if period is None else thousandths(period)))
     text.extend(miller_lines(design))
+    if kind == "noise":
+        return "".join([*text, *noise_lines(design, high)]) + line("end")
     for n, net in enumerate(nets):
         for e in BOTH if kind == "all" else ():
             if live(low[n][e]):
@@ -605,7 +631,7 @@ def job(words):
         return None
     if words[0] == "replay" and not ("--workers" in given and is_number(given.get("--order", "")) and int(given["--order"]) < 2**64):
         return None
-    if not is_number(workers) or not 1 <= int(workers) <= 64 or kind not in ("all", "checks"):
+    if not is_number(workers) or not 1 <= int(workers) <= 64 or kind not in ("all", "checks", "noise"):
         return None
     if "--miller" not in given:
         return files[0], kind, None
@@ -638,6 +664,22 @@ def outcome(words):
         return 5, "", line("limit:", "file", name, MOST_BYTES + 1)
     return answer(name, data, judge(data, miller), kind)
 
+def selftest_of_noise(rng):
+    """Compares the peak of a net with its shares at all moments."""
+    quads = [Quad(t, t + rng.randint(-1, 6), s, s + rng.randint(-1, 5)) for t, s in
+             ((rng.randint(-9, 9), rng.randint(0, 5)) for _ in range(rng.randint(0, 5)))]
+    nets = [Net("v", "w", 0, QUIET, [Coupling(k, rng.randint(0, 9)) for k in range(1, len(quads) + 1)], [], [])]
+    windows = [QUIET, *((quad, BOTTOM) for quad in quads)]
+    for period in (None, rng.randint(1, 20)):
+        design = Design(period, [], nets)
+        moments = range(-20, 40) if period is None else range(period)
+        shares = [share(design, windows, 0, 0, moment) for moment in moments]
+        most = max(shares)
+        wanted = most, moments[shares.index(most)]
+        assert most == 0 or peak(design, windows, 0, 0) == wanted, (quads, period)
+        assert most > 0 or peak(design, windows, 0, 0)[0] == 0, (quads, period)
+        assert peak(design, windows, 0, 1)[0] == 0
+
 def selftest(times):
     """Compares what is computed by a short cut with what plain counting gives."""
     steep = Table([0, 100000], [0, 10000], [[10000, 30000], [20000, 60000]])
@@ -662,6 +704,7 @@ def selftest(times):
         period = rng.randint(1, 15)
         phases = [{moment % (2 * period) for moment in one} for one in moments]
         assert overlap(a, b, period) == bool(phases[0] & phases[1]), (a, b, period)
+        selftest_of_noise(rng)
     print(f"selftest: {times} tables agree, {inner} with an extreme at no corner of the box")
 
 def main(words):

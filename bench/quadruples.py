@@ -305,12 +305,12 @@ def answer(files):
         return status, "", line + "\n"
 
 
-def report(answered):
-    """Status, standard output and standard error that `report` asks for, where `link` asks for this."""
+def report(answered, kind):
+    """Status, standard output and standard error that `report` asks for by this kind, where `link` asks for this."""
     if answered[0] != 0:
         return answered
     data = answered[1].encode("latin-1")
-    return plain.answer("", data, plain.judge(data))
+    return plain.answer("", data, plain.judge(data), kind)
 
 
 def given(*words):
@@ -327,8 +327,9 @@ def compare(program, count, seed):
             files = written(Path(folder) / str(number), texts)
             linked = answer(files)
             kinds[kind_of(linked)] += 1
-            for command, wanted in (("link", linked), ("report", report(linked))):
-                found = given(program, command, *files)
+            kind = ("all", "checks", "noise")[number % 3]
+            for command, wanted, options in (("link", linked, []), ("report", report(linked, kind), ["--kind", kind])):
+                found = given(program, command, *files, *options)
                 if found != wanted:
                     differ += 1
                     kept = written(Path(tempfile.gettempdir()) / f"quadruple-{seed}-{number}", texts)
