@@ -7,6 +7,7 @@ use std::alloc::Global;
 use std::io;
 use std::io::Read;
 use std::test::Fail;
+use std::thread::Threads;
 use xt_io::{Directory, Failed, Source};
 use xtalk_edge::{Ended, run};
 
@@ -75,8 +76,8 @@ impl<'a> Directory for OneText<'a> {
 }
 
 /// Whether a run with these words, over files of this text, ends with the status and leaves this on its two streams.
-fn leaves(
-    rt: HostRuntime,
+fn leaves<R: Threads + Sync + Alloc<A = Global>>(
+    rt: &R,
     alloc: Global,
     words: &str,
     text: &[u8],
@@ -84,7 +85,7 @@ fn leaves(
 ) -> Result<bool, Fail> {
     let words = Some(words_of(alloc, words)?);
     let ended = run(
-        &rt,
+        rt,
         words,
         OneText { text },
         Vec::new(alloc),
@@ -116,7 +117,7 @@ fn a_report_and_the_line_of_a_refusal_go_to_their_streams(rt: HostRuntime) -> Re
             (2, b"".as_slice(), b"xtalk: bad command line\n".as_slice()),
         ),
     ] {
-        assert!(rt; leaves(rt, rt.alloc(), words, text, wanted)?, "{words}");
+        assert!(rt; leaves(&rt, rt.alloc(), words, text, wanted)?, "{words}");
     }
     Ok(())
 }
