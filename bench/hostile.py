@@ -3,7 +3,7 @@
 
     python3 bench/hostile.py PROGRAM [MEGABYTES [TEXT ..]]
 
-writes each text below, or those that are named, at about so many million bytes (10) and at half of that, runs PROGRAM,
+writes each text below, or those that are named, at about MEGABYTES (10) million bytes and at half of that, runs PROGRAM,
 an executable that was built before (`./xtalk` leaves crates/xtalk_cli/out/xtalk_cli), on each with at most 60 seconds
 and 64 bytes of memory for a byte of text and 1 GB, and prints a line for each run: the bytes of its files, seconds,
 the greatest memory in bytes and beyond that of an empty run for each byte of text, the status and the first line that
