@@ -29,10 +29,9 @@ cell_rise (scalar) { values ("0.1"); } cell_fall (scalar) { values ("0.1"); }
 rise_transition (scalar) { values ("0.1"); } fall_transition (scalar) { values ("0.1"); } } } }
 """
 NET = "module m(a, y); input a; output y; BUF b(.A(a), .Y(y)); endmodule\n"
-SDC = "set_load 1 y\n"
 
 
-def block(lib=LIB + "}\n", net=NET, spef=SPEF, sdc=SDC):
+def block(lib=LIB + "}\n", net=NET, spef=SPEF, sdc=""):
     """The four files of a block."""
     return {"t.lib": lib, "t.v": net, "t.spef": spef, "t.sdc": sdc}
 
@@ -159,13 +158,19 @@ def many_values(size):
 # ---- linked designs
 
 
+def linked(names):
+    """A linked text of inputs with these names, of which nothing is given."""
+    lines = "".join(f"net {name} i 0 0 0 0\n" for name in names)
+    head = f"xtalk-design 1\ncounts 0 {len(names)} 0\nperiod none\n"
+    return {"t.xt": head + lines + "rise quiet\nfall quiet\n" * len(names) + "end\n"}
+
+
 def nets_of_nothing(size):
-    count = size // 16
-    return {"t.xt": f"xtalk-design 1\ncounts {count} 0 0\nperiod none\n" + many(size, lambda i: f"net n{i:x} i 0 0 0 0\n")}
+    return linked([f"n{i:x}" for i in range(size // 41)])
 
 
 def long_names(size):
-    return {"t.xt": f"xtalk-design 1\ncounts {size // 1040} 0 0\nperiod none\n" + many(size, lambda i: f"net {i:x}{'n' * 1000} i 0 0 0 0\n")}
+    return linked([f"{i:x}{'n' * 1000}" for i in range(size // 1040)])
 
 
 TEXTS = [
