@@ -3,7 +3,7 @@
 
     python3 bench/hostile.py PROGRAM [MEGABYTES [TEXT ..]]
 
-writes each text below, or those that are named, at about MEGABYTES million bytes (10) and at half of that, runs PROGRAM,
+writes each text below, or those that are named, at about MEGABYTES (10) million bytes and at half of that, runs PROGRAM,
 an executable that was built before (`./xtalk` leaves crates/xtalk_cli/out/xtalk_cli), on each with at most 60 seconds
 and 64 bytes of memory for a byte of text and 1 GB, and prints a line for each run: the bytes of its files, seconds,
 the greatest memory in bytes and beyond that of an empty run for each byte of text, the status and the first line that
@@ -29,10 +29,9 @@ cell_rise (scalar) { values ("0.1"); } cell_fall (scalar) { values ("0.1"); }
 rise_transition (scalar) { values ("0.1"); } fall_transition (scalar) { values ("0.1"); } } } }
 """
 NET = "module m(a, y); input a; output y; BUF b(.A(a), .Y(y)); endmodule\n"
-SDC = "set_load 1 y\n"
 
 
-def block(lib=LIB + "}\n", net=NET, spef=SPEF, sdc=SDC):
+def block(lib=LIB + "}\n", net=NET, spef=SPEF, sdc=""):
     """The four files of a block."""
     return {"t.lib": lib, "t.v": net, "t.spef": spef, "t.sdc": sdc}
 
@@ -159,13 +158,19 @@ def many_values(size):
 # ---- linked designs
 
 
+def linked(names):
+    """A linked text of inputs with these names, of which nothing is given."""
+    lines = "".join(f"net {name} i 0 0 0 0\n" for name in names)
+    head = f"xtalk-design 1\ncounts 0 {len(names)} 0\nperiod none\n"
+    return {"t.xt": head + lines + "rise quiet\nfall quiet\n" * len(names) + "end\n"}
+
+
 def nets_of_nothing(size):
-    count = size // 16
-    return {"t.xt": f"xtalk-design 1\ncounts {count} 0 0\nperiod none\n" + many(size, lambda i: f"net n{i:x} i 0 0 0 0\n")}
+    return linked([f"n{i:x}" for i in range(size // 41)])
 
 
 def long_names(size):
-    return {"t.xt": f"xtalk-design 1\ncounts {size // 1040} 0 0\nperiod none\n" + many(size, lambda i: f"net {i:x}{'n' * 1000} i 0 0 0 0\n")}
+    return linked([f"{i:x}{'n' * 1000}" for i in range(size // 1040)])
 
 
 TEXTS = [
