@@ -9,7 +9,7 @@ use Rattle.command_line.specs.declared.grammar.CommandRule.{CommandRule}
 abbrev pub bytes_of : List (String Global) → List Text
 bytes_of words = map string_bytes words
 
--- the words behind the first one
+-- the words after the first one
 abbrev pub behind_first : List (String Global) → List Text
 behind_first words = drop 1 (bytes_of words)
 

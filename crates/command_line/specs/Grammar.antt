@@ -1,4 +1,4 @@
--- The grammar of a command line: the form of the words behind a command, and what words of that form give.
+-- The grammar of a command line: the form of the words after a command's own, and what words of that form give.
 use Rattle.std.specs.Prelude.{ℕ, ◌==◌, Bool, true, false, not, ◌&&◌, if◌then◌else◌}
 use Rattle.std.specs.Prelude.{List, [], ◌∷◌, Option, Some, None, option_and_then, option_map}
 use Rattle.std.specs.Option.{option_map_or}
@@ -11,7 +11,7 @@ Text = List ℕ
 
 -- ---- forms
 
--- what may stand behind the word of a command: the names of the positional words, in their order, and of the options
+-- what may follow the word of a command: the names of the positional words, in their order, and of the options
 pub record CommandForm : Type 0 where
   pub positionals : List Text
   pub options : List Text
@@ -31,13 +31,13 @@ has_option options name = list_any (λ o. bytes_eq o name) options
 abbrev pub is_option : List Text → Text × Option Text → Bool
 is_option options p = has_option options p.0 && option_map_or is_plain p.1 true
 
--- the name in the word of an option, and the value behind a first `=`, where one stands there
+-- the name in the word of an option, and the value after a first `=`, where there is one
 abbrev pub option_of : List Text → Text → Option (Text × Option Text)
 option_of options word = option_and_then (λ p. if is_option options p then Some p else None) (long_of word)
 
 -- ---- the words after the command
 
--- a name and the word that stands for it: an option's value, or a positional word
+-- a name and the word that it has: an option's value, or a positional word
 abbrev pub Item : Type 0
 Item = Text × Text
 
@@ -50,7 +50,7 @@ abbrev pub positional_items : List Text → Text → (List Text → Option (List
 positional_items [] word rest = None
 positional_items (name ∷ left) word rest = in_front (name, word) (rest left)
 
--- an option has its value behind `=`, or in the next word
+-- an option has its value after `=`, or in the next word
 abbrev pub option_items : Option (Text × Option Text) → (Option Text → Option (List Item)) → Option (List Item)
 option_items None rest = None
 option_items (Some (name, Some value)) rest = in_front (name, value) (rest None)

@@ -14,7 +14,7 @@ use Rattle.command_line.specs.Grammar.{Text}
 abbrev pub is_number : Text → Bool
 is_number text = nat_lt 0 (length text) && (nat_le (length text) 20 && list_all is_ascii_digit text)
 
--- the number that they write, where it has no more than so many bits
+-- the number that they write, where it has at most that many bits
 abbrev pub number_of : ℕ → Text → Option ℕ
 number_of bits text =
     if is_number text && nat_lt (digits_value 10 text) (2 ^ bits) then Some (digits_value 10 text) else None
@@ -36,7 +36,7 @@ net_count text = number_within 1 most_generated text
 abbrev pub is_comma : ℕ → Bool
 is_comma b = b == 44
 
--- what stands before the first comma, and what stands behind it
+-- what comes before the first comma, and what comes after it
 abbrev pub cut : Text → Option (Text × Text)
 cut text = if list_any is_comma text then Some (before_first is_comma text, after_first is_comma text) else None
 

@@ -1,4 +1,4 @@
--- The commands, what may stand behind the word of each, and the job that the words ask for.
+-- The commands, what may follow the word of each, and the job that the words ask for.
 use Rattle.std.specs.Prelude.{ℕ, ◌≤◌, if◌then◌else◌, List, [], ◌∷◌, codes, Option, Some, None}
 use Rattle.std.specs.Str.{bytes_eq}
 use Rattle.xt_model.specs.Limits.{most_generated, most_workers}
@@ -56,7 +56,7 @@ command_named word =
     else if bytes_eq word (codes "link") then Some command.Link
     else if bytes_eq word (codes "gen") then Some command.Gen else None
 
--- the form of the words behind the command's own
+-- the form of the words after the command's own
 abbrev pub form_of_command : CommandName → CommandForm
 form_of_command command.Report = report_form
 form_of_command command.Solve = solve_form
@@ -102,7 +102,7 @@ solve_job given = do
   miller ← if_said miller_numbers (given (codes "miller"))
   Some (Solve (record { file = file; workers = workers; kind = kind; miller = miller }))
 
--- a linked text to solve by so many workers in the order of this number, with its own Miller numbers unless the words
+-- a linked text to solve by `workers` workers in the order of a number, with its own Miller numbers unless the words
 -- say otherwise
 abbrev pub replay_job : (Text → Option Text) → Option Job
 replay_job given = do
@@ -127,7 +127,7 @@ job_for command.Replay given = replay_job given
 job_for command.Link given = link_job given
 job_for command.Gen given = gen_job given
 
--- the job that the words ask for: the first word names a command, those behind it are of its form, and each says what
+-- the job that the words ask for: the first word names a command, those after it are of its form, and each says what
 -- its name wants
 abbrev pub job_of : List Text → Option Job
 job_of [] = None
@@ -138,12 +138,12 @@ job_of (word ∷ rest) = do
 
 -- ---- what the counts of a job keep
 
--- so many workers can make a run
+-- a run can have this number of workers
 pub record IsWorkerCount (workers : ℕ) : Type 0 where
   pub some : 1 ≤ workers
   pub most : workers ≤ most_workers
 
--- a design of so many nets can be generated
+-- a design can be generated with this number of nets
 pub record IsNetCount (nets : ℕ) : Type 0 where
   pub some : 1 ≤ nets
   pub most : nets ≤ most_generated

@@ -1,4 +1,4 @@
-//! The words behind a command, by the command's rule: positional words, and options with their values.
+//! The words after a command's own, by the command's rule: positional words, and options with their values.
 
 ghost use Rattle.std.specs.Prelude.{◌≡◌, ◌<◌, ◌^◌, IfOk, [], drop, length, map, string_bytes};
 ghost use Rattle.std.specs.Prelude.{Option, Some, None, true, false, is_some, option_map};
@@ -16,7 +16,7 @@ use clap::{Arg, ArgMatches, Command};
 use std::alloc::{AllocError, Global};
 use thiserror::Error;
 
-/// What may stand behind the word of a command, in any order: positional words, each by a name of its own, and options.
+/// What may follow the word of a command, in any order: positional words, each by a name of its own, and options.
 /// An option is `--name value` or `--name=value`. A positional word or a value is not empty and does not begin with a
 /// dash, and no name has two.
 #[derive(Clone, Copy)]
@@ -53,7 +53,7 @@ fn name_and_value(text: &str) -> (&str, Option<&str>)
     }
 }
 
-// The name in the word of an option, and the value behind its `=`.
+// The name in the word of an option, and the value after its `=`.
 fn long_of(word: &str) -> Option<(&str, Option<&str>)>
     ensures { option_map (λ p. (p.0.now, option_map (λ s. s.now) p.1)) result ≡ long_of word.now }
 {
@@ -184,7 +184,7 @@ fn words_behind(words: &[String]) -> &[String]
     }
 }
 
-/// Reads the words behind the first one by the rule of their command. The matches have the word of each name that
+/// Reads the words after the first one by the rule of their command. The matches have the word of each name that
 /// has one. `Bad` comes exactly where the words are not of the rule's form.
 pub fn read<'a>(
     alloc: Global,

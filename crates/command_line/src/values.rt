@@ -81,7 +81,7 @@ pub fn kind_or_all(text: Option<&str>) -> Option<ReportKind>
     }
 }
 
-// What stands before the first comma, and what stands behind it.
+// What comes before the first comma, and what comes after it.
 fn cut(text: &str) -> Option<(&str, &str)>
     ensures { option_map (λ p. (p.0.now, p.1.now)) result ≡ Values.cut text.now }
 {

@@ -136,7 +136,7 @@ fn command_named(word: &str) -> Option<CommandName>
     }
 }
 
-// What may stand behind the word of the command.
+// What may follow the word of the command.
 fn rule_of(command: CommandName) -> CommandRule
     ensures { form_of result ≡ Words.form_of_command command }
 {
