@@ -14,7 +14,6 @@ use Rattle.clap.specs.declared.error.kind.ErrorKind.TheVariants as fault_kind
 use Rattle.clap.specs.Kinds.{HasKind, Kinds, or_else}
 use Rattle.clap.specs.Walk.{Held, Row, Rule, Walk, finished, first_of, has_row, nothing_held, rows_of, settled, walk, walked, with_default, is_early_multiple}
 use Rattle.clap.specs.Takes.{is_given}
-use Rattle.clap.specs.Facts.{explicit_source}
 use Rattle.clap.specs.Faults.{check_fault, defaults_fault, fault_of, is_simple_and_free, repeat_fault, settle_fault, turn_fault, walk_fault}
 use Rattle.clap.specs.Simple.{App, HasMatchesOf, is_simple, matches_of}
 use Rattle.clap.specs.Matches.{first_value, found_of}
@@ -25,7 +24,7 @@ use Rattle.clap.proofs.OnLiterals.{clap_on_literals}
 use Rattle.clap.proofs.WalkLemmas.{first_value-rows}
 use Rattle.command_line.specs.Grammar.{Text, Item, CommandForm, are_once, given_of, has_name, has_option, in_front, is_option, is_plain, items_from, option_of, value_of}
 use Rattle.command_line.specs.Reading.{app_of_form, is_listed, option_rule, positional_rule}
-use Rattle.command_line.proofs.Arguments.{IsKnown, Places, Argument, all_places, rules_of, filled_args, known_option, long_option, next, option_argument, positional_arguments, rule_of_argument, shape_of, arguments_of}
+use Rattle.command_line.proofs.Arguments.{IsKnown, Places, Argument, all_places, rules_of, filled_args, known_option, long_option, next, rule_of_argument, shape_of, arguments_of}
 use Rattle.command_line.proofs.Steps.{attached_held, attached_turn, attached_walked, given_held, missed_turn, never, new_row, no_repeat, open_is, opened, option_turn, option_walked, positional_turn, positional_walked, repeat, ready, row, settle_is, settled_is, stray_turn, used_as_new, value_turn, value_walked}
 use Rattle.command_line.proofs.Once.{found_after, found_end, found_more, found_twice, once_more, whole}
 

@@ -1,5 +1,5 @@
 -- What the words of a command line say: numbers, and three numbers joined by commas.
-use Rattle.std.specs.Prelude.{ℕ, ◌==◌, ◌^◌, nat_le, nat_lt, Bool, true, ◌&&◌, if◌then◌else◌, List, [], length}
+use Rattle.std.specs.Prelude.{ℕ, ◌==◌, ◌^◌, nat_le, nat_lt, Bool, ◌&&◌, if◌then◌else◌, length}
 use Rattle.std.specs.Prelude.{Option, Some, None, option_map}
 use Rattle.std.specs.Char.{is_ascii_digit}
 use Rattle.std.specs.Option.{option_map_or}
