@@ -20,4 +20,5 @@ first_state text = seeded (sip.finish (sip.write sip.initial text))
 -- the state that two others give together
 unfoldable pub joined_state : FoldHasher → FoldHasher → FoldHasher
 joined_state a b =
-    seeded (sip.finish (sip.write (sip.write sip.initial (to_le_bytes w64 (folding.finish a))) (to_le_bytes w64 (folding.finish b))))
+    let first = sip.write sip.initial (to_le_bytes w64 (folding.finish a)) in
+    seeded (sip.finish (sip.write first (to_le_bytes w64 (folding.finish b))))

@@ -3,8 +3,11 @@ ghost use Rattle.name_numbers.specs.Keys.{first_state, joined_state, key_state};
 
 use std::hash::{BuildHasher, DefaultHasher, FoldHasher, Hasher};
 
-/// What the names of a text are hashed under. It depends on every byte of the text, so that names which collide can't be
-/// chosen: a text with other names has another key. Nothing that is read depends on it.
+/// What the names of a text are hashed under. It depends on every byte of the text, so that names which collide can't
+/// be chosen: a text with other names has another key. Nothing that is read depends on it.
+///
+/// A key of a table has to enter the hash in writes of at most 8 bytes, as bytes, slices of them and numbers do: of a
+/// longer write the hash multiplies one half by the other, and bytes could be chosen that make it forget the key.
 #[derive(Clone, Copy)]
 pub struct TextKey {
     first: FoldHasher,

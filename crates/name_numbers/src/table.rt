@@ -71,7 +71,8 @@ impl<V: Drop> NameTable<V> {
         Ok(())
     }
 
-    /// The key that the names are hashed under, for a further table of names of the same text.
+    /// The key that the names are hashed under, for a further table of names of the same text. No contract speaks of
+    /// it, as none speaks of time.
     pub fn key(&self) -> TextKey {
         *self.table.hasher()
     }
