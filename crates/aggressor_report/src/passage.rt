@@ -12,7 +12,7 @@ use sink_windows::{SinkWindow, at_sink};
 use table_box::range;
 use xt_model::{Design, TimingArc, Windows};
 
-/// The delay of the wire before an arc and of the arc itself, and the time that a transition comes to behind both, in
+/// The delay of the wire before an arc and of the arc itself, and the time that a transition comes to after both, in
 /// fs.
 #[derive(Clone, Copy, Debug, PartialEq, Eq)]
 pub(crate) struct Passage {

@@ -34,7 +34,7 @@ pub const LIB: &str = "\
     \x20       fall_transition (scalar) { values (\"0.020\"); } } } }\n\
     }\n";
 
-/// Two flip-flops behind one another, with an inverter between them and one before them.
+/// Two flip-flops, one after the other, with an inverter between them and one before them.
 pub const NETLIST: &str = "\
     `timescale 1ns/1ps\n\
     module top (ck, d, y);\n\

@@ -104,7 +104,7 @@ pub fn outcome<R: Threads + Sync>(
     Ok(format!(in alloc; "{status} {line}{text}")?)
 }
 
-/// The files that a call with these words opens, each with a space behind it.
+/// The files that a call with these words opens, each with a space after it.
 pub fn opened<R: Threads + Sync>(
     rt: &R,
     alloc: Global,

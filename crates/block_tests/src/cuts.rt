@@ -20,7 +20,7 @@ fn file(name: &str) -> &'static str {
     }
 }
 
-/// The text of a file, or what stands for that of one.
+/// The text of a file, or what is in the place of that of one.
 fn text_at<'a>(name: &str, at: &str, other: &'a str) -> &'a [u8] {
     if name == at {
         other.as_bytes()
@@ -45,7 +45,7 @@ fn outcome_with<R: Threads + Sync>(
     outcome(rt, alloc, WORDS, texts.as_slice(), calm(alloc))
 }
 
-/// The first lines of a text, so many.
+/// The first lines of a text, this many.
 fn front(alloc: Global, text: &str, lines: u32) -> Result<String, AllocError> {
     let mut out = String::new(alloc);
     let mut count: u32 = 0;
@@ -71,8 +71,8 @@ fn replaced(alloc: Global, text: &str, number: u32, line: &str) -> Result<String
     Ok(out)
 }
 
-/// Files that are cut after so many lines, from the first number to the last, and the refusal of the line behind the
-/// cut, or the first line of the outcome.
+/// Files that are cut after some number of lines, from the first number to the last, and the refusal of the line after
+/// the cut, or the first line of the outcome.
 const CUTS: &str = "\
 r.lib | 0 | 30 | L2
 r.v | 0 | 9 | V2
@@ -86,7 +86,7 @@ r.sdc | 0 | 2 | 4 link: K7 f1/D
 r.sdc | 3 | 8 | 0 xtalk 1
 ";
 
-/// The outcome of a file that is cut after so many lines.
+/// The outcome of a file that is cut after this many lines.
 fn outcome_of_cut<R: Threads + Sync>(
     rt: &R,
     alloc: Global,
@@ -97,7 +97,7 @@ fn outcome_of_cut<R: Threads + Sync>(
     outcome_with(rt, alloc, name, cut.as_str())
 }
 
-/// Whether an outcome is the refusal that a row has, at the line behind the cut, or begins with its line.
+/// Whether an outcome is the refusal that a row has, at the line after the cut, or begins with its line.
 fn is_wanted(alloc: Global, row: &str, lines: u32, seen: &str) -> Result<bool, AllocError> {
     let (name, want) = (field(row, 0), field(row, 3));
     if want.len() == 2 {
@@ -109,7 +109,7 @@ fn is_wanted(alloc: Global, row: &str, lines: u32, seen: &str) -> Result<bool, A
     Ok(seen.starts_with(first.as_str()))
 }
 
-/// Compares the outcome of the file of a row that is cut after so many lines.
+/// Compares the outcome of the file of a row that is cut after this many lines.
 fn compare_cut<R: Threads + Sync + Abort>(
     rt: &R,
     alloc: Global,
@@ -141,7 +141,7 @@ fn files_cut_behind_each_line(rt: HostRuntime) -> Result<(), Fail> {
     Ok(())
 }
 
-/// Lines of the block's parasitics by their numbers, the outcome, and what stands in place of the line; `⏎` is a line
+/// Lines of the block's parasitics by their numbers, the outcome, and what is in place of the line; `⏎` is a line
 /// end.
 const LINES: &str = "\
 40 | 3 r.spef:40: S3 | 1 *2:1 -0.002

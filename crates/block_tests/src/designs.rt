@@ -5,8 +5,8 @@ use crate::small::{linked_text, outcome_of};
 use std::test::Fail;
 
 /// Designs, with an empty line between each and the next. The first line of one has what it shows, of the linked text
-/// the counts of nets and of checks and the period, a netlist behind `module m`, parasitics behind their units, and
-/// constraints; the others are those of the linked text behind its tables.
+/// the counts of nets and of checks and the period, a netlist after `module m`, parasitics after their units, and
+/// constraints; the others are those of the linked text after its tables.
 const DESIGNS: &str = "\
 An inverter, nothing said of wires | 2 0 | none | (a, y); input a; output y; INV u (.A(a), .Y(y));
 net a i 1000 0 1 0

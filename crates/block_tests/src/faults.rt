@@ -39,8 +39,8 @@ fn opened_of_block<R: Threads + Sync>(rt: &R, alloc: Global, words: &str) -> Res
     opened(rt, alloc, words, texts.as_slice())
 }
 
-/// The outcome of words on the block, and the words: files that are missing, that stand in for one of another format,
-/// that are empty, or more than one of these, of which the first counts.
+/// The outcome of words on the block, and the words: files that are missing, that take the place of one of another
+/// format, that are empty, or more than one of these, of which the first counts.
 const OTHER_FILES: &str = "\
 6 read fault: none | report none r.v r.spef r.sdc
 6 read fault: none | report r.lib none r.spef r.sdc
@@ -120,7 +120,7 @@ fn empty_and_long_files_have_their_outcomes(rt: HostRuntime) -> Result<(), Fail>
     compare_with(&rt, alloc, &zeros, LONG_FILES)
 }
 
-/// Words, and the files that are opened, if any: each behind those before it, and none behind one that is refused.
+/// Words, and the files that are opened, if any: each after those before it, and none after one that is refused.
 const OPENED: &str = "\
 report r.lib r.v r.spef r.sdc | r.lib r.v r.spef r.sdc
 link r.lib r.v r.spef r.lib | r.lib r.v r.spef r.lib
@@ -176,7 +176,8 @@ fn a_failed_call_on_the_files_is_a_read_fault(rt: HostRuntime) -> Result<(), Fai
     Ok(())
 }
 
-/// What the block's report says where the call of this number on the output fails, which takes so many bytes at a time.
+/// What the block's report says where the call of this number on the output fails, which takes this many bytes at a
+/// time.
 fn outcome_of_failed_write<R: Threads + Sync>(
     rt: &R,
     alloc: Global,

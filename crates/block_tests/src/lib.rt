@@ -1,5 +1,5 @@
-//! Tests of the commands on the four files of a block: what they link to, their report, and what is refused. Nothing
-//! stands on this crate.
+//! Tests of the commands on the four files of a block: what they link to, their report, and what is refused. No crate
+//! depends on this one.
 #![tactic(auto)]
 
 #[cfg(test)]

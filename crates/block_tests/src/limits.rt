@@ -7,7 +7,7 @@ use std::alloc::{AllocError, Global};
 use std::test::Fail;
 use std::thread::Threads;
 
-/// Appends a piece, in which a number stands for each `#`.
+/// Appends a piece, in which each `#` is a number.
 fn push_piece(out: &mut String, piece: &str, number: u32) -> Result<(), AllocError> {
     let mut digits = Buffer::new();
     let digits = digits.format(number);
@@ -35,7 +35,7 @@ fn push_pieces(out: &mut String, pieces: &str) -> Result<(), AllocError> {
     Ok(())
 }
 
-/// The text of a pattern, in which `⟨5: a#⟩` stands for ` a0 a1 a2 a3 a4`.
+/// The text of a pattern, in which `⟨5: a#⟩` denotes ` a0 a1 a2 a3 a4`.
 fn text_of(alloc: Global, pattern: &str) -> Result<String, AllocError> {
     let mut out = String::new(alloc);
     for part in pattern.split('⟨') {
@@ -46,7 +46,7 @@ fn text_of(alloc: Global, pattern: &str) -> Result<String, AllocError> {
     Ok(out)
 }
 
-/// What a design shows, the line of its refusal, and patterns of a netlist behind `module m` and of parasitics behind
+/// What a design shows, the line of its refusal, and patterns of a netlist after `module m` and of parasitics after
 /// their units.
 const SIZES: &str = "\
 Nets, and then no such cell | 5 limit: nets 262145 | (a); input [262144:0] a; NOPE u ();
@@ -148,7 +148,7 @@ fn cells(name: &str) -> &'static str {
 }
 
 /// What a design shows, the line of its refusal, the name of its cells, and patterns of a netlist and of parasitics
-/// behind their units.
+/// after their units.
 const COUNTS: &str = "\
 1,024 instances of 4,096 arcs, of which one drives itself | 4 link: K4 n | many arcs | \
     module m (a); input a; MANY⟨1023: u#(.A(a), .Y(n#)),⟩ v(.A(n), .Y(n)); endmodule
@@ -175,7 +175,7 @@ One read more | 5 limit: reads 134217729 | many reads | \
     *D_NET a 0 *CAP⟨11584: # a b 0⟩ *END *D_NET y 0 *CAP⟨5501: # y b 0⟩ *END
 ";
 
-/// The text of a pattern behind this beginning.
+/// The text of a pattern after this beginning.
 fn behind(alloc: Global, beginning: &str, pattern: &str) -> Result<String, AllocError> {
     let text = text_of(alloc, pattern)?;
     let text = text.as_str();

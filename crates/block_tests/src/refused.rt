@@ -4,7 +4,7 @@ use crate::call::{compare_line, field};
 use crate::small::outcome_of;
 use std::test::Fail;
 
-/// What a design shows, the line of the refusal, a netlist behind `module m`, parasitics behind their units, and
+/// What a design shows, the line of the refusal, a netlist after `module m`, parasitics after their units, and
 /// constraints.
 const REFUSED: &str = "\
 No such cell | 4 link: K1 u NOPE | (a); input a; NOPE u (.A(a));

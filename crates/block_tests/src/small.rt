@@ -153,7 +153,7 @@ pub fn outcome_of_texts<R: Threads + Sync>(
     outcome(rt, alloc, words.as_str(), texts.as_slice(), calm(alloc))
 }
 
-/// What a command says of a netlist behind `module m`, parasitics behind their units, and constraints.
+/// What a command says of a netlist after `module m`, parasitics after their units, and constraints.
 pub fn outcome_of<R: Threads + Sync>(
     rt: &R,
     alloc: Global,

@@ -57,7 +57,7 @@ pub fn calm(alloc: Global) -> Outside {
     }
 }
 
-/// The words that a line has, between its spaces: `∅` stands for a word of no letters, `␣` for a space in a word.
+/// The words that a line has, between its spaces: `∅` is a word of no letters, `␣` a space in a word.
 pub fn words_of(alloc: Global, line: &str) -> Result<Vec<String>, AllocError> {
     let mut words = Vec::new(alloc);
     for word in line.split_whitespace() {

@@ -153,7 +153,7 @@ const GATES_REPORT: &[u8] = b"\
     to wire 0.003\n\
     end\n";
 
-/// Data d at 100 to 300 fs behind 5 fs of wire, a clock c that rises at 10 to 30 fs and falls much later, and a net e
+/// Data d at 100 to 300 fs after 5 fs of wire, a clock c that rises at 10 to 30 fs and falls much later, and a net e
 /// that never rises. The table has its greatest value in the middle.
 const PEAK: &[u8] = b"\
     xtalk-design 1\n\
@@ -185,7 +185,7 @@ const PEAK: &[u8] = b"\
     flop hold g/D 0 0 1 0 0 0\n\
     end\n";
 
-/// At the sinks the slews of the clock are 0 to 20 fs and those of d 11 to 20: behind 5 fs of wire they grow by 11, and
+/// At the sinks the slews of the clock are 0 to 20 fs and those of d 11 to 20: after 5 fs of wire they grow by 11, and
 /// 9 + 11 is 20. The greatest value there is that by a clock's slew of 10 and a slew of 11, at no corner of them:
 /// floor(90 - 8.5) is 81. Setup: 1000 + 10 - 81 - 305 is 624. Hold: 105 - 30 - 81 is -6. The first of equals is told.
 /// What e clocks, and what its rise brings, is idle.
@@ -210,7 +210,7 @@ const PEAK_REPORT: &[u8] = b"\
     to wire 0.005\n\
     end\n";
 
-/// Two coupled gates, a that rises and b that falls, each with a port behind it; a's by 3 fs of wire, and 1 fs more for
+/// Two coupled gates, a that rises and b that falls, each with a port after it; a's by 3 fs of wire, and 1 fs more for
 /// a whole Miller factor.
 const PAIR: &[u8] = b"\
     xtalk-design 1\n\
@@ -246,7 +246,7 @@ const PAIR: &[u8] = b"\
     port hold z 3 0 0 0\n\
     end\n";
 
-/// a rises at 1.000 ps if b does not disturb it, and until 1.200 if it does; b falls 0.100 ps later. Behind the wire y
+/// a rises at 1.000 ps if b does not disturb it, and until 1.200 if it does; b falls 0.100 ps later. After the wire y
 /// rises until 1.000 + 0.004, or 1.200 + 0.005.
 const PAIR_REPORT: &[u8] = b"\
     xtalk 1\n\

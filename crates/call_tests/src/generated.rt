@@ -113,7 +113,7 @@ greatest 258575.148
 end
 ";
 
-/// Whether the words of the first line print the summary behind it.
+/// Whether the words of the first line print the summary after it.
 fn summarises<R: Threads + Sync>(rt: &R, alloc: Global, row: &str) -> Result<bool, Fail> {
     let (words, summary) = row.split_once('\n').unwrap_or((row, ""));
     let summary = summary.trim();

@@ -1,5 +1,5 @@
 //! Tests of the top call, and of the edge of the program: words, texts, limits and faults, over files and streams in
-//! memory. Nothing stands on this crate.
+//! memory. No crate depends on this one.
 #![tactic(auto)]
 
 #[cfg(test)]

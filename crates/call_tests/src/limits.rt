@@ -55,7 +55,7 @@ fn refuses_a_file_that_is_too_long(rt: HostRuntime) -> Result<(), Fail> {
     Ok(())
 }
 
-/// A design of so many nets that never switch, each of whose names begins like this.
+/// A design of this many nets that never switch, each of whose names begins like this.
 fn quiet_nets(alloc: Global, count: u32, name: &[u8]) -> Result<Vec<u8>, AllocError> {
     let mut text = Vec::new(alloc);
     let mut digits = Buffer::new();
@@ -75,7 +75,7 @@ fn quiet_nets(alloc: Global, count: u32, name: &[u8]) -> Result<Vec<u8>, AllocEr
     Ok(text)
 }
 
-/// The status of solving so many nets whose names have so many letters before their numbers.
+/// The status of solving this many nets whose names have this many letters before their numbers.
 fn status_of_nets<R: Threads + Sync>(
     rt: &R,
     alloc: Global,

@@ -6,7 +6,7 @@ use std::alloc::{AllocError, Global};
 use std::test::Fail;
 use std::thread::Threads;
 
-/// What stands before the tables in the texts of the crossed nets and of the coupled gates.
+/// What comes before the tables in the texts of the crossed nets and of the coupled gates.
 const HEAD: &[u8] = b"xtalk-design 1\ncounts 2 4 0\nperiod none\n";
 
 /// The text from its tables on; nothing of a text with another head.

@@ -68,7 +68,7 @@ fn failing_files(alloc: Global, call: u64) -> Result<Outside, AllocError> {
     Ok(outside)
 }
 
-/// The call of this number on the output fails, and each takes so many bytes at most.
+/// The call of this number on the output fails, and each takes this many bytes at most.
 fn failing_output(alloc: Global, call: u64, most: usize) -> Result<Outside, AllocError>
     requires { 0 < most }
 {

@@ -49,7 +49,7 @@ pub const UNENDED: &[u8] = b"\
     rise 1000 1000 0 0\n\
     fall quiet\n";
 
-/// A window at the end of the range of times, and a wire of 1 fs behind it.
+/// A window at the end of the range of times, and a wire of 1 fs after it.
 pub const TOO_LATE: &[u8] = b"\
     xtalk-design 1\n\
     counts 0 1 0\n\

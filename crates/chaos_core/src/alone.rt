@@ -1,5 +1,5 @@
 //! A round of one worker. Nobody moves the words between its loads, so that it evaluates each net on the words as they
-//! stand, and makes the picks of a net's loads in one go.
+//! are, and makes the picks of a net's loads in one go.
 
 ghost use Rattle.std.specs.Prelude.{◌≡◌, ℕ, ◌<◌, ◌≤◌, List, length, slice_index};
 ghost use Rattle.std.specs.List.{All};
@@ -37,7 +37,7 @@ impl<'a> Bounds for AllWords<'a> {
     }
 }
 
-/// Draws so many numbers, each of which picks the only worker.
+/// Draws this many numbers, each of which picks the only worker.
 fn pick_only(source: &mut Source, picks: usize)
     ensures { source.new.state ≡ after source.old.state picks }
 {

@@ -21,8 +21,8 @@ impl Gate for OpenGate {
 const MOST_TURNS: u32 = 200_000_000;
 
 /// A gate at which workers 1 and 2 meet, for tests: a call of one of the two waits until the other has made as many
-/// calls, all rounds counted together. Other workers pass at once. After so many turns without the other, a call gives
-/// up; from then on every call passes at once.
+/// calls, all rounds counted together. Other workers pass at once. After this many turns without the other, a call
+/// gives up; from then on every call passes at once.
 #[derive(Drop)]
 pub struct MeetGate {
     first: AtomicU64,

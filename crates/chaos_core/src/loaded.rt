@@ -11,7 +11,7 @@ ghost use Rattle.chaos_core.specs.Views.{ArePlaces, IsLoaded, Rises};
 use net_eval::eval;
 use xt_model::{Bounds, Design, NetId, Pair};
 
-/// The bound that a number of a word stands for: from 0 to 2^63, and the bound is 2^62 less.
+/// The bound that a number of a word denotes: from 0 to 2^63, and the bound is 2^62 less.
 pub fn bound_of(number: u64) -> i64
     requires { number ≤ top_number }
     ensures { result ≡ bound_in number }

@@ -79,7 +79,7 @@ impl MemoryBoard {
         self.words.as_slice()
     }
 
-    /// The windows whose bounds stand in the words. A run in the same direction can start at them.
+    /// The windows whose bounds are in the words. A run in the same direction can start at them.
     pub fn windows(&self, alloc: Global) -> Result<Windows, NoMemory>
         ensures numbers { IfOk result (λ windows. numbers_of windows ≡ self.now.words) }
         ensures fits { IfOk result

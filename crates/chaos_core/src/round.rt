@@ -23,7 +23,7 @@ use net_eval::ReadLists;
 use std::alloc::Global;
 use xt_model::{Design, Direction, NoMemory};
 
-/// So many idle workers.
+/// This many idle workers.
 pub(crate) fn new_workers(
     alloc: Global,
     lists: &ReadLists,
@@ -63,7 +63,7 @@ fn any_open(workers: &[Worker]) -> bool
     false
 }
 
-/// The place that is so many places after another, from the last on to the first.
+/// The place that is this many places after another, from the last on to the first.
 fn place_after(number: usize, ahead: usize, count: usize) -> usize
     requires number { number < count }
     requires ahead { ahead < count }

@@ -107,7 +107,7 @@ fn settle_on(
     Settled { windows, rounds }
 }
 
-/// Makes rounds from a fitting start, in each of which so many workers take turns until all are done, as numbers from
+/// Makes rounds from a fitting start, in each of which this many workers take turns until all are done, as numbers from
 /// a source that starts at `number` pick them, until the words are closed. The windows are then the least fixpoint in
 /// widening and the greatest in narrowing, whatever the workers and the number, and in narrowing all transitions that
 /// explain one another lie within them. No run makes more rounds than the design's bound. All memory is taken before

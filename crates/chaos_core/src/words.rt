@@ -11,7 +11,7 @@ use crate::loaded;
 use std::alloc::{AllocError, Global};
 use xt_model::{Pair, Quad, Windows};
 
-/// The number that stands for a bound in a word.
+/// The number that denotes a bound in a word.
 fn number_of(bound: i64) -> u64
     requires { IsBound bound }
     ensures { result ≡ number_for bound }
@@ -36,7 +36,7 @@ fn bound_of(pair: &Pair, place: u32) -> i64
     }
 }
 
-/// The number that stands for the bound in one of the eight words of a net.
+/// The number that denotes the bound in one of the eight words of a net.
 pub(crate) fn number_in(pair: &Pair, place: u32) -> u64
     requires place { place < 8 }
     requires range { IsPairInRange pair.now }
@@ -92,7 +92,7 @@ fn quad_at(words: &[u64], from: usize) -> Quad
     }
 }
 
-/// The windows whose numbers stand in words.
+/// The windows whose numbers are in words.
 pub(crate) fn pairs_of(alloc: Global, words: &[u64]) -> Result<Vec<Pair>, AllocError>
     requires whole { length words.now % 8 ≡ 0 }
     requires range { All (λ n. n ≤ top_number) words.now }

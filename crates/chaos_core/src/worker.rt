@@ -8,7 +8,7 @@ use std::alloc::Global;
 use xt_model::{NoMemory, Pair};
 
 /// What a worker is at: it loads the words of the read list of a net, or publishes the windows of a net, of which
-/// so many words are published.
+/// this many words are published.
 #[derive(Clone, Copy, Debug)]
 pub enum Stage {
     Idle,

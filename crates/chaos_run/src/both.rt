@@ -32,11 +32,11 @@ pub struct Both {
     pub high_rounds: u64,
 }
 
-/// A run from a fitting start on words of its own, with so many workers: several run in threads of their own on a board
-/// that they share, and pass the gate in each round; one alone takes its turns on words in memory, and passes no gate.
-/// The windows are then the least fixpoint in widening and the greatest in narrowing, whatever the workers, and in
-/// narrowing all transitions that explain one another lie within them. The run makes no more rounds than the design's
-/// bound, and none just where its start is a fixpoint. Fails only for want of memory.
+/// A run from a fitting start on words of its own, with this many workers: several run in threads of their own on a
+/// board that they share, and pass the gate in each round; one alone takes its turns on words in memory, and passes no
+/// gate. The windows are then the least fixpoint in widening and the greatest in narrowing, whatever the workers, and
+/// in narrowing all transitions that explain one another lie within them. The run makes no more rounds than the
+/// design's bound, and none just where its start is a fixpoint. Fails only for want of memory.
 pub fn settle_from<R: Threads + Sync, G: Gate>(
     rt: &R,
     alloc: Global,
@@ -69,7 +69,7 @@ pub fn settle_from<R: Threads + Sync, G: Gate>(
     )
 }
 
-/// Runs twice, each time with so many workers: wider from windows in which nothing switches, and narrower from `top`.
+/// Runs twice, each time with this many workers: wider from windows in which nothing switches, and narrower from `top`.
 /// Several workers run in threads of their own, and pass the gate in each round; one alone takes its turns on words in
 /// memory, and passes no gate.
 /// The windows are the least and the greatest fixpoint, whatever the workers, and all transitions that explain one

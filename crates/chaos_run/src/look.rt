@@ -1,4 +1,4 @@
-//! A look at all words of a board: the windows that stand in them, and whether the operator gives these back.
+//! A look at all words of a board: the windows that are in them, and whether the operator gives these back.
 
 ghost use Rattle.std.specs.Prelude.{◌≡◌, ◌↔◌, ℕ, ◌+◌, ◌*◌, ◌/◌, ◌<◌, ◌≤◌, length, IsTrue};
 ghost use Rattle.std.specs.List.{All};
@@ -74,7 +74,7 @@ fn load_pair(board: &SharedBoard, first: &mut Pass, net: usize) -> Pair
     }
 }
 
-/// Gives each net the windows that stand in its words.
+/// Gives each net the windows that are in its words.
 fn load_all(board: &SharedBoard, first: &mut Pass, windows: &mut Windows)
     requires own { IsOf board.now first.old }
     requires alone { IsAlone first.old.view }
@@ -95,7 +95,7 @@ fn load_all(board: &SharedBoard, first: &mut Pass, windows: &mut Windows)
     }
 }
 
-/// So many shares of a count, of `shares` in all.
+/// This many shares of a count, of `shares` in all.
 fn part(count: u32, some: u32, shares: u32) -> u32
     requires some { some ≤ shares }
     requires shares { 0 < shares }
@@ -105,7 +105,7 @@ fn part(count: u32, some: u32, shares: u32) -> u32
     (u64::from(count) * u64::from(some) / u64::from(shares)) as u32
 }
 
-/// Whether the operator gives the windows back at each net from number `from` to before number `to`. Each of so many
+/// Whether the operator gives the windows back at each net from number `from` to before number `to`. Each of this many
 /// threads decides it of a share of the nets.
 fn closed_by<R: Threads + Sync>(
     rt: &R,
@@ -148,7 +148,7 @@ fn closed_by<R: Threads + Sync>(
     left && right
 }
 
-/// Loads each word by the first pass into the windows, and decides whether the words are closed, by so many threads.
+/// Loads each word by the first pass into the windows, and decides whether the words are closed, by this many threads.
 /// Takes no memory.
 pub(crate) fn look<R: Threads + Sync>(
     rt: &R,

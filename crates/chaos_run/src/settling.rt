@@ -25,7 +25,7 @@ use std::thread::Threads;
 use window_words::{Pass, SharedBoard};
 use xt_model::{Design, Direction, NoMemory, Windows};
 
-/// Looks at all words, and makes rounds until they are closed; the windows are then those that stand in the words.
+/// Looks at all words, and makes rounds until they are closed; the windows are then those that are in the words.
 /// Gives how many rounds were made. Takes no memory.
 fn run_rounds<'a, R: Threads + Sync, G: Gate>(
     rt: &R,
@@ -109,8 +109,8 @@ pub fn settle_in<'a, R: Threads + Sync, G: Gate>(
     Settled { windows, rounds }
 }
 
-/// Looks at all words of a board by its first pass, and while they are not closed makes a round of so many workers in
-/// threads of their own. The windows that then stand in the words are the least fixpoint in widening and the greatest
+/// Looks at all words of a board by its first pass, and while they are not closed makes a round of this many workers in
+/// threads of their own. The windows that then are in the words are the least fixpoint in widening and the greatest
 /// in narrowing, whatever the workers do when, and in narrowing all transitions that explain one another lie within
 /// them. No run makes more rounds than the design's bound, and none publishes more than the words of all nets once a
 /// round. The count of rounds is that of the rounds made: each began at words that were not closed. All memory is taken

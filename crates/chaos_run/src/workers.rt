@@ -36,7 +36,7 @@ pub(crate) struct Workers<'a> {
 }
 
 impl<'a> Workers<'a> {
-    /// So many idle workers. No round takes memory after this.
+    /// This many idle workers. No round takes memory after this.
     pub(crate) fn new(alloc: Global, lists: &ReadLists, count: u32) -> Result<Workers<'a>, NoMemory>
         ensures idle { IfOk result (λ workers. AreIdle lists.now workers) }
         ensures count { IfOk result (λ workers. length workers.idle.items ≡ count) }

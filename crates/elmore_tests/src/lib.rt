@@ -1,4 +1,4 @@
-//! Tests of the Elmore form of a wire, by wires whose sums were worked out by hand. Nothing stands on this crate.
+//! Tests of the Elmore form of a wire, by wires whose sums were worked out by hand. No crate depends on this one.
 #![tactic(auto)]
 
 #[cfg(test)]

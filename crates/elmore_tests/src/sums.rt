@@ -314,7 +314,7 @@ fn long_chain(alloc: Global) -> Result<WireForm, TreeFault> {
     }
 }
 
-/// In the middle 1 + 2 + .. + 32,768, and 32,768 for each of the 32,767 nodes behind it; at the end 1 + 2 + ..
+/// In the middle 1 + 2 + .. + 32,768, and 32,768 for each of the 32,767 nodes after it; at the end 1 + 2 + ..
 /// + 65,535.
 const LONG_CHAIN: Sums = (
     65_536,

@@ -1,5 +1,5 @@
 //! Sums over the nodes of a wire by two walks over its steps: one against them that gathers the capacitance
-//! behind each resistor, and one along them that adds each resistor's share (Elmore 1948).
+//! beyond each resistor, and one along them that adds each resistor's share (Elmore 1948).
 
 ghost use Rattle.std.specs.Prelude.{◌≡◌, ℕ, ◌+◌, ◌*◌, ◌<◌, ◌≤◌, ◌^◌, true, length, IfOk, slice_index};
 ghost use Rattle.elmore_tree.specs.Sums.{resistance, shared};
@@ -20,7 +20,7 @@ pub fn resistance(tree: &Tree, number: usize) -> u64
     resistor.value.unsigned_abs()
 }
 
-/// What a resistor in milliohms with a capacitance in aF behind it adds to a sum.
+/// What a resistor in milliohms with a capacitance in aF beyond it adds to a sum.
 fn share(resistance: u64, behind: u64) -> u128
     requires resistance { resistance ≤ 2 ^ 40 }
     requires behind { behind ≤ 2 ^ 46 }

@@ -1,4 +1,4 @@
-//! The limits on the times and slews of a net: of its driver, and of each sink behind its slowest wire.
+//! The limits on the times and slews of a net: of its driver, and of each sink after its slowest wire.
 
 ghost use Rattle.std.specs.Prelude.{◌≡◌, ◌<◌, ◌≤◌, ◌^◌, [], ◌∷◌, length, pos, ◌≤ℤ◌};
 ghost use Rattle.std.specs.List.{slice_get};
@@ -63,7 +63,7 @@ fn slew_growth(wire: i128) -> i128
     (11 * wire).div_euclid(5)
 }
 
-/// Tests the latest arrival at a sink behind its slowest wire, and the greatest slew there.
+/// Tests the latest arrival at a sink after its slowest wire, and the greatest slew there.
 fn test_sink(victim: &Victim<Windows>, quad: &Quad, sink: usize) -> Result<(), Excess>
     requires highest { AreHighest victim.now }
     requires sink { sink < length victim.now.net.sinks }
@@ -76,7 +76,7 @@ fn test_sink(victim: &Victim<Windows>, quad: &Quad, sink: usize) -> Result<(), E
     test_slew(victim.number(), i128::from(quad.shi) + slew_growth(wire))
 }
 
-/// Tests the sinks of a net, so many, in order.
+/// Tests the sinks of a net, this many, in order.
 fn test_sinks(victim: &Victim<Windows>, quad: &Quad, sinks: usize) -> Result<(), Excess>
     requires highest { AreHighest victim.now }
     requires sinks { sinks ≤ length victim.now.net.sinks }
@@ -90,7 +90,7 @@ fn test_sinks(victim: &Victim<Windows>, quad: &Quad, sinks: usize) -> Result<(),
     Ok(())
 }
 
-/// Tests a window of a net with so many sinks, where it is live.
+/// Tests a window of a net with this many sinks, where it is live.
 fn test_quad(victim: &Victim<Windows>, quad: &Quad, sinks: usize) -> Result<(), Excess>
     requires highest { AreHighest victim.now }
     requires sinks { sinks ≡ length victim.now.net.sinks }

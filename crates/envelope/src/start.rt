@@ -7,7 +7,7 @@ ghost use Rattle.xt_meaning.specs.Laws.{quiet_pair, quiet_windows};
 use std::alloc::{AllocError, Global};
 use xt_model::{Design, Pair, Quad, Windows};
 
-/// Windows of so many nets that never switch.
+/// Windows of this many nets that never switch.
 fn never(alloc: Global, count: usize) -> Result<Windows, AllocError>
     ensures { IfOk result (λ windows. windows ≡ replicate count quiet_pair) }
 {

@@ -2,7 +2,7 @@ use crate::cell::Cell;
 use xt_model::{Row, Table};
 
 /// A library: a time as it is written is a number of 10^`time_scale` fs, a capacitance one of 10^`cap_scale` aF. Its
-/// tables and cells stand in the order of the text.
+/// tables and cells are in the order of the text.
 #[derive(Drop)]
 pub struct Library {
     pub time_scale: i32,

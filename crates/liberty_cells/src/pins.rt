@@ -22,7 +22,7 @@ use std::rc::Rc;
 use xt_lex::TextFault;
 use xt_model::{Name, Row, Table};
 
-/// A pin for each name, behind other pins.
+/// A pin for each name, after other pins.
 fn add_named(
     pins: &mut Vec<Pin>,
     names: Vec<Name>,
@@ -75,7 +75,7 @@ fn add_pins(
     Ok(())
 }
 
-/// The pins of a cell, in the order of the text, behind the tables so far.
+/// The pins of a cell, in the order of the text, after the tables so far.
 #[tactic(auto, unfolding(crate::specs::Cells::pins_of))]
 pub fn pins_of(
     alloc: Global,

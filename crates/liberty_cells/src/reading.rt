@@ -35,11 +35,11 @@ fn library_in(alloc: Global, bytes: &[u8], group: &Group) -> Result<Library, Tex
 /// group.
 ///
 /// `L1` and `L2` are those of `read_groups`; `L1` is also a name of a cell, a template, a pin or a related pin that is
-/// missing, empty, longer than 1,024 bytes or not printable, or stands beside another where one is wanted. `L3` is a
+/// missing, empty, longer than 1,024 bytes or not printable, or is beside another where one is wanted. `L3` is a
 /// number that is refused, or a capacitance that is not one number or below 0; `L4` a timing group without related pins
 /// or with a delay but no slew, or a slew but no delay, or a table that does not fit; `L5` an index that does not
-/// increase; `L6` a template that is not known; `L7` a cell's name that stands twice; `L8` an unknown unit. Takes time
-/// and memory linear in the bytes.
+/// increase; `L6` a template that is not known; `L7` a cell's name that is there twice; `L8` an unknown unit. Takes
+/// time and memory linear in the bytes.
 #[tactic(auto, unfolding(crate::specs::Library::library_meant))]
 pub fn read_library(alloc: Global, bytes: &[u8]) -> Result<Library, TextFault>
     requires { length bytes.now ≤ MOST_BYTES }

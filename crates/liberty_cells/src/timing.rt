@@ -34,7 +34,7 @@ pub struct Timing {
     pub fall_slew: Option<u32>,
 }
 
-/// What a table of a timing group is for: a delay or a constraint at an edge, or the slew behind a delay.
+/// What a table of a timing group is for: a delay or a constraint at an edge, or the slew after a delay.
 #[derive(Clone, Copy, Debug, PartialEq, Eq)]
 pub enum TableUse {
     Rise,

@@ -189,7 +189,7 @@ fn empty_timing(
     })
 }
 
-/// A timing group behind the tables so far: its related pins come first, then what it has, then its tables.
+/// A timing group after the tables so far: its related pins come first, then what it has, then its tables.
 #[tactic(auto, unfolding(crate::specs::Timings::timing_of))]
 fn timing_of(
     alloc: Global,
@@ -221,7 +221,7 @@ fn timing_of(
     Ok(timing)
 }
 
-/// The timing groups of a pin, in the order of the text, behind the tables so far.
+/// The timing groups of a pin, in the order of the text, after the tables so far.
 #[tactic(auto, unfolding(crate::specs::Timings::timings_of))]
 pub fn timings_of(
     alloc: Global,

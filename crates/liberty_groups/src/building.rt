@@ -82,7 +82,7 @@ fn close(groups: &mut Vec<Group>) -> Result<(), AllocError>
     Ok(())
 }
 
-/// One more value behind the last name.
+/// One more value after the last name.
 fn add_value(entry: &mut Option<Attribute>, value: Span) -> Result<(), AllocError>
     ensures { OnOk result (option_map entry_of entry.new ≡ with_value value (option_map entry_of entry.old)) }
 {

@@ -10,21 +10,21 @@ pub enum Context {
     Start,
     /// Within the parentheses of the library.
     LibraryArgs,
-    /// Behind the parentheses of the library.
+    /// After the parentheses of the library.
     LibraryNamed,
     /// Where an item may begin.
     Items(u32),
     /// Within the parentheses of a group or of an attribute.
     Args(u32),
-    /// Behind these parentheses.
+    /// After these parentheses.
     Named(u32),
-    /// Behind the colon of an attribute.
+    /// After the colon of an attribute.
     FirstValue(u32),
-    /// Behind a value of such an attribute.
+    /// After a value of such an attribute.
     Values(u32),
-    /// Behind the library.
+    /// After the library.
     Behind,
-    /// Behind the text's end.
+    /// After the text's end.
     Done,
 }
 

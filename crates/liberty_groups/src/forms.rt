@@ -19,7 +19,7 @@ use xt_model::Code;
 /// The greatest number of groups that are open at one place.
 pub const MOST_OPEN: u32 = 64;
 
-/// A form that was read, whose last token stands in this line.
+/// A form that was read, whose last token is in this line.
 #[inline]
 fn done(item: Item, line: u32, next: Context) -> FormRead
     ensures { whole_of result ≡ record { item = item; line = line; next = next } }
@@ -86,7 +86,7 @@ fn at_start(terms: &mut Terms<'_, Sort>) -> Result<FormRead, Refused>
     }
 }
 
-/// Within parentheses, behind which `next` comes.
+/// Within parentheses, after which `next` comes.
 fn in_args(here: Context, next: Context, terms: &mut Terms<'_, Sort>) -> Result<FormRead, Refused>
     ensures { Reads (λ r. (whole_of r, terms.new)) result (first_form (args_forms here next) terms.old) }
 {
@@ -101,7 +101,7 @@ fn in_args(here: Context, next: Context, terms: &mut Terms<'_, Sort>) -> Result<
     }
 }
 
-/// Behind the parentheses of the library.
+/// After the parentheses of the library.
 fn at_library(terms: &mut Terms<'_, Sort>) -> Result<FormRead, Refused>
     ensures { Reads (λ r. (whole_of r, terms.new)) result (first_form library_forms terms.old) }
 {
@@ -112,7 +112,7 @@ fn at_library(terms: &mut Terms<'_, Sort>) -> Result<FormRead, Refused>
     }
 }
 
-/// What may come behind the end of a group.
+/// What may come after the end of a group.
 #[inline]
 fn after_group(depth: u32) -> Context
     ensures { result ≡ after_group depth }
@@ -158,7 +158,7 @@ fn at_item(depth: u32, terms: &mut Terms<'_, Sort>) -> Result<FormRead, Refused>
     item_from(first, depth, terms)
 }
 
-/// Behind the parentheses of a group or of an attribute.
+/// After the parentheses of a group or of an attribute.
 fn at_named(depth: u32, terms: &mut Terms<'_, Sort>) -> Result<FormRead, Refused>
     ensures { Reads (λ r. (whole_of r, terms.new)) result (first_form (named_forms depth) terms.old) }
 {
@@ -175,7 +175,7 @@ fn at_named(depth: u32, terms: &mut Terms<'_, Sort>) -> Result<FormRead, Refused
     }
 }
 
-/// Behind the colon of an attribute.
+/// After the colon of an attribute.
 fn at_first_value(depth: u32, terms: &mut Terms<'_, Sort>) -> Result<FormRead, Refused>
     ensures { Reads (λ r. (whole_of r, terms.new)) result (first_form (first_value_forms depth) terms.old) }
 {
@@ -190,7 +190,7 @@ fn at_first_value(depth: u32, terms: &mut Terms<'_, Sort>) -> Result<FormRead, R
     }
 }
 
-/// Behind a value of such an attribute.
+/// After a value of such an attribute.
 fn in_values(depth: u32, terms: &mut Terms<'_, Sort>) -> Result<FormRead, Refused>
     ensures { Reads (λ r. (whole_of r, terms.new)) result (first_form (values_forms depth) terms.old) }
 {
@@ -206,7 +206,7 @@ fn in_values(depth: u32, terms: &mut Terms<'_, Sort>) -> Result<FormRead, Refuse
     }
 }
 
-/// Behind the library.
+/// After the library.
 fn behind(terms: &mut Terms<'_, Sort>) -> Result<FormRead, Refused>
     ensures { Reads (λ r. (whole_of r, terms.new)) result (first_form behind_forms terms.old) }
 {
@@ -218,7 +218,7 @@ fn behind(terms: &mut Terms<'_, Sort>) -> Result<FormRead, Refused>
     }
 }
 
-/// The next form; behind the text's end no token fits.
+/// The next form; after the text's end no token fits.
 pub fn form(context: Context, terms: &mut Terms<'_, Sort>) -> Result<FormRead, Refused>
     ensures { Reads (λ r. (whole_of r, terms.new)) result (first_form (forms_in context) terms.old) }
 {

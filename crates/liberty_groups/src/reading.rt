@@ -38,13 +38,13 @@ fn build(alloc: Global, terms: &mut Terms<'_, Sort>) -> Result<Building, TextFau
     }
 }
 
-/// The library that a Liberty text is: one group named `library`, and nothing behind it but `;`.
+/// The library that a Liberty text is: one group named `library`, and nothing after it but `;`.
 ///
 /// A group is `NAME (ARGUMENTS) { ITEMS }`. Its arguments are words and strings, which commas and colons separate. An
-/// item is a simple attribute `NAME : VALUE .. ;`, a complex attribute `NAME (ARGUMENTS)` with or without a `;` behind
+/// item is a simple attribute `NAME : VALUE .. ;`, a complex attribute `NAME (ARGUMENTS)` with or without a `;` after
 /// it, a group, or `;`. A name is a word, a value a word or a string. At most 64 groups are open at one place.
 ///
-/// A token that does not fit, a `{` beyond the 64 groups, and a byte that may not stand are `L1`, each at its line; a
+/// A token that does not fit, a `{` beyond the 64 groups, and a byte that is not allowed are `L1`, each at its line; a
 /// text that ends too early, also within a string or a comment, is `L2` at its last line. The first refusal counts; one
 /// of the tokens themselves comes before all others. Takes time and memory linear in the bytes.
 #[tactic(auto, unfolding(crate::specs::Library::library_of))]

@@ -15,7 +15,7 @@ pub struct Span {
     pub to: u32,
 }
 
-/// Where a token stands.
+/// Where a token is.
 #[inline]
 pub fn span_of(term: Term<'_, Sort>) -> Span
     requires { term.from + length term.text.now ≤ MOST_BYTES }

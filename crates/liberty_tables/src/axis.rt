@@ -134,7 +134,7 @@ pub fn variable_by(
     }))
 }
 
-/// What a second axis measures behind a first: the same variable does not fit again.
+/// What a second axis measures after a first: the same variable does not fit again.
 pub fn second_variable(first: Option<Variable>, second: Option<Variable>) -> Option<Variable>
     ensures { result ≡ second_variable first second }
 {

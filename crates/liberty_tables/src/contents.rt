@@ -19,7 +19,7 @@ pub fn text_in(bytes: &[u8], span: Span) -> &[u8]
     }
 }
 
-/// What a string holds, by the bytes behind its opening quote.
+/// What a string holds, by the bytes after its opening quote.
 fn unquoted(alloc: Global, string: &[u8]) -> Result<Vec<u8>, AllocError>
     ensures { IfOk result (λ held. held.items ≡ unquoted false string.now) }
 {
@@ -42,7 +42,7 @@ fn unquoted(alloc: Global, string: &[u8]) -> Result<Vec<u8>, AllocError>
     Ok(held)
 }
 
-/// What a string without a backslash holds, by the bytes behind its opening quote: those before the closing one.
+/// What a string without a backslash holds, by the bytes after its opening quote: those before the closing one.
 fn plain_string(string: &[u8]) -> Option<&[u8]>
     ensures { MatchOption result (has_escape string.now ≡ true) (λ held. held.now ≡ unquoted false string.now) }
 {
@@ -59,7 +59,7 @@ fn plain_string(string: &[u8]) -> Option<&[u8]>
     }
 }
 
-/// What a word or a string holds, where it is a part of the text as it stands.
+/// What a word or a string holds, where it is a part of the text as it is.
 #[tactic(auto, unfolding(crate::specs::Contents::held_by))]
 pub fn plain(bytes: &[u8]) -> Option<&[u8]>
     ensures { MatchOption result (is_changed bytes.now ≡ true) (λ held. held.now ≡ held_by bytes.now) }

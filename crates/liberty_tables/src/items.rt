@@ -3,7 +3,7 @@
 ghost use Rattle.std.specs.Prelude.{◌≡◌, [], ◌∷◌, MatchOption};
 ghost use Rattle.liberty_tables.specs.Contents.{separates, items_from};
 
-/// Whether a byte stands between items: white space, and between numbers a comma too.
+/// Whether a byte is between items: white space, and between numbers a comma too.
 #[inline]
 fn separates(commas: bool, byte: u8) -> bool
     ensures { result ≡ separates commas byte }
@@ -12,7 +12,7 @@ fn separates(commas: bool, byte: u8) -> bool
         || (commas && byte == b',')
 }
 
-/// The first item, and the bytes behind it.
+/// The first item, and the bytes after it.
 pub fn first_item(commas: bool, bytes: &[u8]) -> Option<(&[u8], &[u8])>
     ensures { MatchOption result (items_from commas [] bytes.now ≡ [])
         (λ p. items_from commas [] bytes.now ≡ p.0.now ∷ items_from commas [] p.1.now) }

@@ -50,7 +50,7 @@ impl Numbers {
         Ok(())
     }
 
-    /// The number at a place, and 0 behind the last one.
+    /// The number at a place, and 0 after the last one.
     pub fn at(&self, place: usize) -> i64
         ensures value { result ≡ slice_index_or self.now place (pos 0) }
         ensures low { neg_ℤ (pos (2 ^ 40)) ≤ℤ result }
@@ -88,7 +88,7 @@ impl Numbers {
     }
 }
 
-/// The numbers in a word or a string behind others; whether none is refused.
+/// The numbers in a word or a string after others; whether none is refused.
 #[tactic(auto, using(crate::proofs::NumberLaws::behind_refused))]
 fn add_numbers(scale: i32, text: &[u8], numbers: &mut Numbers) -> Result<bool, AllocError>
     requires low { neg_ℤ (pos 12) ≤ℤ scale }
@@ -107,7 +107,7 @@ fn add_numbers(scale: i32, text: &[u8], numbers: &mut Numbers) -> Result<bool, A
     Ok(true)
 }
 
-/// The numbers of a value of an attribute behind others; whether none is refused.
+/// The numbers of a value of an attribute after others; whether none is refused.
 fn add_value(
     alloc: Global,
     bytes: &[u8],

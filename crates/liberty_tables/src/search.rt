@@ -14,7 +14,7 @@ pub fn is_group(bytes: &[u8], word: &[u8], group: &Group) -> bool
     text_in(bytes, group.name()) == word
 }
 
-/// The first group of a name, and the groups behind it.
+/// The first group of a name, and the groups after it.
 pub fn first_named<'b>(
     bytes: &[u8],
     word: &[u8],
@@ -34,7 +34,7 @@ pub fn first_named<'b>(
     None
 }
 
-/// Whether a group of a name stands within a group.
+/// Whether a group of a name is within a group.
 pub fn has_group(bytes: &[u8], word: &[u8], group: &Group) -> bool
     ensures { result ≡ has_group bytes.now word.now (tree_of group.now) }
 {

@@ -101,7 +101,7 @@ fn order_fault(axis: &Axis) -> Option<u32>
     }
 }
 
-/// Where a variable and an index do not stand together, or the variable does not fit.
+/// Where a variable has no index or an index no variable, or the variable does not fit.
 fn pairing_fault(variable: Option<Variable>, index: &Option<Index>) -> Option<u32>
     ensures { result ≡ pairing_fault variable index.now }
 {
@@ -139,7 +139,7 @@ fn place_of(row: usize, columns: usize, column: usize) -> usize
     row * columns + column
 }
 
-/// Values that stand in rows of some length, column by column.
+/// Values in rows of some length, column by column.
 #[tactic(auto, using(crate::proofs::TableLaws::columns_more, crate::proofs::TableLaws::rows_more))]
 fn by_columns(
     alloc: Global,
@@ -202,7 +202,7 @@ fn into_numbers(alloc: Global, axis: Axis) -> Result<Numbers, AllocError>
     Ok(numbers)
 }
 
-/// How many values stand in so many rows and columns.
+/// How many values are in this many rows and columns.
 fn product(rows: usize, columns: usize) -> u128
     ensures { result ≡ rows * columns }
 {
@@ -358,9 +358,9 @@ fn table_on(
 /// of the related pin and of the constrained pin, and the values in fs.
 ///
 /// `L6` is a template that is not known, `L3` a number that can't be read or is too large, `L5` an index that does not
-/// increase, and `L4` an index of no number or more than 64, a variable that does not fit or stands without an index,
-/// an index without a variable, and a wrong number of values. They are met in this order, each at the first line where
-/// one of its kind stands: that of an attribute, or the group's where there is none.
+/// increase, and `L4` an index of no number or more than 64, a variable that does not fit or has no index,
+/// an index without a variable, and a wrong number of values. They are met in this order, each at the first line that
+/// has one of its kind: that of an attribute, or the group's where there is none.
 #[tactic(auto, unfolding(crate::specs::Tables::table_of))]
 pub fn table_of(
     alloc: Global,

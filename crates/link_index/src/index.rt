@@ -122,7 +122,7 @@ impl<'a> NetIndex<'a> {
         }
     }
 
-    /// The net of a node of parasitics with this delimiter: that of the pin behind the last delimiter, of the instance
+    /// The net of a node of parasitics with this delimiter: that of the pin after the last delimiter, of the instance
     /// before it; else that of the name before the last delimiter; else that of the whole name.
     #[tactic(auto, unfolding(link_rules::specs::Nodes::node_net))]
     pub fn node_net(&self, delimiter: u8, name: &'a [u8]) -> Option<u32>

@@ -65,7 +65,7 @@ pub fn tables_at(timing: &Timing, edge: Edge) -> Option<(u32, u32)>
 }
 
 impl Places {
-    /// Room for so many pins.
+    /// Room for this many pins.
     pub fn new(alloc: Global, size: usize) -> Result<Places, AllocError>
         ensures count { IfOk result (λ p. length p.at.items ≡ size) }
         ensures clear { IfOk result (λ p. IsClear p.at.items) }
@@ -91,7 +91,7 @@ impl Places {
         }
     }
 
-    /// Enters the input pins among those of one instance, which stand from one place to before another; of two of one
+    /// Enters the input pins among those of one instance, which are from one place to before another; of two of one
     /// name the first stays.
     pub fn enter<'a>(
         &mut self,
@@ -115,7 +115,7 @@ impl Places {
         }
     }
 
-    /// Forgets the pins that stand from one place to before another.
+    /// Forgets the pins that are from one place to before another.
     pub fn clear(&mut self, pins: &[PinOn], from: usize, to: usize)
         requires order { from ≤ to }
         requires within { to ≤ length pins.now }

@@ -34,8 +34,8 @@ pub struct Gathered {
     pub sinks: Vec<NetSinks>,
 }
 
-/// Adds the check points of the port of a net, where it is an output port, the last of so many sinks. More than fit 32
-/// bits are out of memory.
+/// Adds the check points of the port of a net, where it is an output port, the last of this many sinks. More than fit
+/// 32 bits are out of memory.
 fn add_port<'a>(
     alloc: Global,
     nets: &NetIndex<'a>,

@@ -56,7 +56,7 @@ impl PinOn {
     }
 }
 
-/// Adds a pin of the instance of this number, whose cell stands at this place: where the cell has it and it is on a
+/// Adds a pin of the instance of this number, whose cell is at this place: where the cell has it and it is on a
 /// net.
 fn add_pin<'a>(
     cells: &CellIndex<'a>,

@@ -27,7 +27,7 @@ pub struct NetSinks {
     pub sinks: Vec<Sink>,
 }
 
-/// The sinks of each net, and where each pin stands among the sinks of its net, which is told of input pins alone.
+/// The sinks of each net, and where each pin is among the sinks of its net, which is told of input pins alone.
 #[derive(Drop)]
 pub struct Sinks {
     pub nets: Vec<NetSinks>,
@@ -50,7 +50,7 @@ pub fn end_of<'a>(
 }
 
 impl NetSinks {
-    /// Adds a pin that is on the net, where it is an input pin; the answer is how many sinks stand before it. One that
+    /// Adds a pin that is on the net, where it is an input pin; the answer is how many sinks come before it. One that
     /// does not fit 32 bits is out of memory.
     fn add<'a>(
         &mut self,

@@ -29,7 +29,7 @@ pub struct Timings {
     pub checks: Vec<CheckPoint>,
 }
 
-/// The place behind the pins from this one on that are of the same instance.
+/// The place after the pins from this one on that are of the same instance.
 pub fn same_instance(pins: &[PinOn], from: usize) -> usize
     requires { from < length pins.now }
     ensures { IsStretch pins.now from result }

@@ -8,7 +8,7 @@ use std::marker::Model;
 use xt_model::{CheckPoint, Name, Pair, Row, TimingArc};
 
 /// What a net leads from or to: a pin of an instance, or a port. `name` is that of a port, or those of instance and pin
-/// with `/` between them, and `joint` then is where this stands.
+/// with `/` between them, and `joint` is then its place.
 #[derive(Debug, Drop)]
 pub struct End {
     name: Name,

@@ -25,7 +25,7 @@ pub enum LinkRefusal {
     /// The resistors of the net that are joined to its driver make no tree.
     #[error("{net:?}: no tree of resistors")]
     K5 { net: Name },
-    /// A sink or a capacitor of the net stands at a node that no resistors join to the driver.
+    /// A sink or a capacitor of the net is at a node that no resistors join to the driver.
     #[error("{net:?}: {node:?} is not reached")]
     K6 { net: Name, node: Name },
     /// There is a check and no clock.

@@ -182,7 +182,7 @@ pub fn greatest_load(charges: &[Charge], taps: &[Tap]) -> u128
     load
 }
 
-/// The capacitance to ground of each of so many nodes, in aF.
+/// The capacitance to ground of each of this many nodes, in aF.
 pub fn grounds(alloc: Global, charges: &[Charge], count: u32) -> Result<Vec<i64>, AllocError>
     requires within { AreWithin count charges.now }
     requires natural { AreNatural charges.now }

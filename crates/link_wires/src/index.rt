@@ -21,7 +21,7 @@ pub fn text_of<'a>(parasitics: &'a Parasitics, name: Name) -> &'a [u8]
     }
 }
 
-/// Where the first wire of each name stands.
+/// Where the first wire of each name is.
 fn places_of<'a>(alloc: Global, parasitics: &'a Parasitics) -> Result<Named<'a, usize>, AllocError>
     ensures { IfOk result (HavePlaces parasitics.entry.now) }
 {

@@ -19,7 +19,7 @@ use xt_model::Name;
 const MOST_KEPT: usize = 4_294_967_295;
 
 /// Nodes by their names in the order of their numbers, which contracts see as the list of these. Two ends of a net may
-/// have one name, which then stands for the first of them. A look-up is by hash. With 4,294,967,295 nodes there is no
+/// have one name, which then denotes the first of them. A look-up is by hash. With 4,294,967,295 nodes there is no
 /// memory for a further one.
 #[derive(Drop)]
 pub struct Nodes<'a> {

@@ -42,7 +42,7 @@ fn resistors_of<'a>(
     Ok(resistors)
 }
 
-/// The nodes of so many sinks.
+/// The nodes of this many sinks.
 fn sink_nodes<'a>(
     alloc: Global,
     nodes: &Nodes<'a>,

@@ -57,7 +57,7 @@ fn tree_within<'a>(
     Ok(tree)
 }
 
-/// Refuses a tree of a net that is none or does not reach all.
+/// Refuses a tree of a net that is not one or does not reach all.
 fn check_tree<'a>(
     alloc: Global,
     net: &Name,

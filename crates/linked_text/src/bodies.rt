@@ -76,7 +76,7 @@ fn couplings<'a>(
     }))
 }
 
-/// The net of number `own` and this head, where the nets have so many sinks and there are `tables` tables.
+/// The net of number `own` and this head, where the nets have this many sinks and there are `tables` tables.
 #[tactic(auto, unfolding(crate::specs::Meaning::net_at))]
 fn net<'a>(
     alloc: Global,
@@ -130,8 +130,8 @@ fn head_above(heads: &mut VecDeque<NetHead>, left: usize, least: usize) -> Optio
     next_head(heads)
 }
 
-/// Reads the net of a head behind others, and those of the next heads until less than half of the bytes is left.
-/// Gives a copy of the bytes behind them.
+/// Reads the net of a head after others, and those of the next heads until less than half of the bytes is left.
+/// Gives a copy of the bytes after them.
 fn stretch(
     alloc: Global,
     sinks: &[u32],

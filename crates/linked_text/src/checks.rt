@@ -73,7 +73,7 @@ fn may_stand(period: bool, name: &[u8], sinks: &[u32], net: u32, sink: u32) -> b
     period && is_name(name) && has_sink(sinks, net, sink)
 }
 
-/// Reads a check of either kind, where there is a period or none, the nets have so many sinks, and there are
+/// Reads a check of either kind, where there is a period or none, the nets have this many sinks, and there are
 /// `tables` tables.
 #[derive(Drop)]
 pub struct CheckReader<'a> {

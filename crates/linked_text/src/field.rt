@@ -14,7 +14,7 @@ use itoa::Buffer;
 use xt_model::Edge;
 use xt_model::limits::MOST_NAME;
 
-/// Any so many digits write a number of 64 bits.
+/// Any digits, at most this many, write a number of 64 bits.
 const SHORT: usize = 19;
 
 /// The number that at most 19 bytes write, where each of them is a digit.
@@ -54,7 +54,7 @@ fn is_written_so(n: u128, field: &[u8]) -> bool
     buffer.format(n).as_bytes() == field
 }
 
-/// The number below `limit` that any bytes write, without needless zeros. Hardly a field has so many bytes.
+/// The number below `limit` that any bytes write, without needless zeros. Hardly a field has that many bytes.
 #[cold]
 #[inline(never)]
 fn long_number(limit: u128, field: &[u8]) -> Option<u128>

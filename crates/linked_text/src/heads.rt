@@ -69,7 +69,7 @@ fn is_net(word: &[u8]) -> bool
     matches!(word, b"net")
 }
 
-/// The line of a net behind nets of these names.
+/// The line of a net after nets of these names.
 #[tactic(auto, unfolding(crate::specs::EachLine::head_in))]
 fn head_line<'a>(alloc: Global, names: &mut Names<'a>, line: &'a [u8]) -> Result<NetHead, LineStop>
     ensures value { LineGives (λ x. x) result (head_in names.old (fields_of line.entry.now)) }
@@ -114,7 +114,7 @@ fn head_line<'a>(alloc: Global, names: &mut Names<'a>, line: &'a [u8]) -> Result
     })
 }
 
-/// The line of a net at the front of `bytes`, behind nets of these names with these sums; and the sums with it.
+/// The line of a net at the front of `bytes`, after nets of these names with these sums; and the sums with it.
 #[tactic(auto, unfolding(crate::specs::Meaning::head_at, crate::specs::Meaning::line_at))]
 fn head<'a>(
     alloc: Global,

@@ -195,7 +195,7 @@ impl LineReader for SinkReader {
     }
 }
 
-/// Whether the net of number `net` has a sink of number `sink`, where the nets have so many sinks.
+/// Whether the net of number `net` has a sink of number `sink`, where the nets have this many sinks.
 pub fn has_sink(sinks: &[u32], net: u32, sink: u32) -> bool
     ensures { result ≡ has_sink sinks.now net sink }
 {
@@ -205,7 +205,7 @@ pub fn has_sink(sinks: &[u32], net: u32, sink: u32) -> bool
     }
 }
 
-/// Reads an arc, where the nets have so many sinks and there are `tables` tables.
+/// Reads an arc, where the nets have this many sinks and there are `tables` tables.
 #[derive(Drop)]
 pub struct ArcReader<'a> {
     pub sinks: &'a [u32],

@@ -83,7 +83,7 @@ pub fn parts(alloc: Global, bytes: Vec<u8>) -> Result<(DesignParts, Vec<u8>), St
     Ok((parts, last))
 }
 
-/// The last line, at which the reads of all nets are tested, and the bytes behind it.
+/// The last line, at which the reads of all nets are tested, and the bytes after it.
 #[tactic(auto, unfolding(crate::specs::Meaning::end_at))]
 pub fn end<'a>(alloc: Global, parts: &DesignParts, bytes: &'a [u8]) -> Result<((), &'a [u8]), Stop>
     requires { sum_by (reads_of parts.now) parts.now.nets < 2 ^ 64 }

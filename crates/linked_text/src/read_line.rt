@@ -74,7 +74,7 @@ pub fn refused(bytes: &[u8], code: Code) -> Stop
     })
 }
 
-/// The value of the line at the front of `bytes`, and the bytes behind it.
+/// The value of the line at the front of `bytes`, and the bytes after it.
 #[tactic(auto, unfolding(crate::specs::Meaning::line_at))]
 pub fn read_line<'a, R: LineReader>(
     alloc: Global,
@@ -99,7 +99,7 @@ pub trait FrontReader {
 
     ghost at: { Self → List ℕ → Read Self.Value };
 
-    /// The value, and the bytes behind it.
+    /// The value, and the bytes after it.
     fn read_front<'a>(
         &self,
         alloc: Global,
@@ -118,7 +118,7 @@ impl<R: LineReader> FrontReader for R {
     }
 }
 
-/// Room is made for at most so many values before the first of them is read: a count may be any number, and no more
+/// Room is made for at most this many values before the first of them is read: a count may be any number, and no more
 /// memory is to be taken than lines that are there ask for.
 const MOST_ROOM: usize = 64;
 

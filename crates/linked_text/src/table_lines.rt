@@ -52,7 +52,7 @@ impl FieldReader for NumberReader {
     }
 }
 
-/// The fields behind `word`, which are to be `count`.
+/// The fields after `word`, which are to be `count`.
 fn fields_after<'a>(word: &[u8], count: usize, line: &'a [u8]) -> Option<Fields<'a>>
     ensures { Finds (λ x. x) result (fields_after word.now count (fields_of line.entry.now)) }
 {
@@ -64,7 +64,7 @@ fn fields_after<'a>(word: &[u8], count: usize, line: &'a [u8]) -> Option<Fields<
     Some(fields)
 }
 
-/// The `count` numbers of a table behind `word`.
+/// The `count` numbers of a table after `word`.
 #[tactic(auto, unfolding(crate::specs::EachLine::row_in))]
 pub fn row(alloc: Global, word: &[u8], count: u32, line: &[u8]) -> Result<Vec<i64>, LineStop>
     ensures { LineGives (λ v. v.items) result (row_in word.now count (fields_of line.now)) }

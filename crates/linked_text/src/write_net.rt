@@ -82,7 +82,7 @@ impl Writer for CouplingWriter {
     }
 }
 
-/// Writes coefficients, each behind a space.
+/// Writes coefficients, each after a space.
 struct CoefficientWriter;
 
 impl Writer for CoefficientWriter {
@@ -134,7 +134,7 @@ impl Writer for ArcWriter {
     }
 }
 
-/// Writes what stands in the bodies of nets.
+/// Writes what is in the bodies of nets.
 pub struct BodyWriter;
 
 impl Writer for BodyWriter {

@@ -11,7 +11,7 @@ use std::alloc::AllocError;
 use text_lines::{push_bare_number, push_number, push_word};
 use xt_model::Table;
 
-/// Writes numbers, each behind a space.
+/// Writes numbers, each after a space.
 struct NumberWriter;
 
 impl Writer for NumberWriter {
@@ -25,7 +25,7 @@ impl Writer for NumberWriter {
     }
 }
 
-/// Appends a line of numbers behind a word.
+/// Appends a line of numbers after a word.
 fn push_numbers(out: &mut Vec<u8>, word: &[u8], numbers: &[i64]) -> Result<(), AllocError>
     ensures { OnOk result (out.new.items ≡ out.old.items ++ line_text (numbers_line word.now numbers.now)) }
 {

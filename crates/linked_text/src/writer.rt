@@ -5,7 +5,7 @@ ghost use Rattle.std.specs.List.{flat_map};
 
 use std::alloc::AllocError;
 
-/// Writes one of several values that stand one after another.
+/// Writes one of several values that come one after another.
 pub trait Writer {
     type Value;
 

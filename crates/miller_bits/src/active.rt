@@ -54,7 +54,7 @@ fn whole_periods(distance: i128, period: i64) -> i128
     distance.div_euclid(i128::from(period))
 }
 
-/// Whether two ranges of times have a time in common as they stand; both hold their ends.
+/// Whether two ranges of times have a time in common as they are; both hold their ends.
 fn meet_unmoved(a_from: i64, a_to: i64, b_from: i64, b_to: i64) -> bool
     ensures { result ≡ ranges_meet None a_from a_to b_from b_to }
 {
@@ -63,7 +63,7 @@ fn meet_unmoved(a_from: i64, a_to: i64, b_from: i64, b_to: i64) -> bool
 
 /// Whether they have a time in common where the second is moved by some whole number of periods: the least
 /// number that brings its end to the first range is at most the greatest that leaves its start there. It divides twice,
-/// and stays a call so that the test of the ranges as they stand is short.
+/// and stays a call so that the test of the ranges as they are is short.
 #[inline(never)]
 fn meet_moved(a_from: i64, a_to: i64, b_from: i64, b_to: i64, period: i64) -> bool
     requires { pos 1 ≤ℤ period }
@@ -75,7 +75,7 @@ fn meet_moved(a_from: i64, a_to: i64, b_from: i64, b_to: i64, period: i64) -> bo
 }
 
 /// Whether two ranges of times meet, one of them moved by some whole number of periods. Divides only where they
-/// do not meet as they stand.
+/// do not meet as they are.
 fn ranges_meet(a_from: i64, a_to: i64, b_from: i64, b_to: i64, period: Option<i64>) -> bool
     requires { IsRealPeriod period }
     ensures { result ≡ ranges_meet period a_from a_to b_from b_to }

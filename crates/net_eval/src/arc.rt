@@ -49,8 +49,8 @@ fn wire_to(input: &PinEdge) -> (i64, i64)
     (input.least_wire as i64, input.greatest_wire as i64)
 }
 
-/// The output window of an arc of a design, from its input window, the range of the wire before it and its tables at
-/// the load behind it.
+/// The output window of an arc of a design, from its input window, the range of the wire before it and its tables
+/// at its load.
 #[inline(always)]
 fn contribution(
     design: &Design,

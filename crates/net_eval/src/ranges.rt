@@ -15,7 +15,7 @@ pub(crate) fn as_slew(value: i64) -> i64
     value.max(0)
 }
 
-/// A slew behind a wire of this delay: it grows by 11/5 of the delay.
+/// A slew after a wire of this delay: it grows by 11/5 of the delay.
 pub(crate) fn slew_behind(slew: i64, wire: i64) -> i64
     requires slew { IsSlew slew }
     requires low { pos 0 ≤ℤ wire }

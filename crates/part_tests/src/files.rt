@@ -30,19 +30,19 @@ fn two_files(alloc: Global, length: usize, fail: &[u64]) -> Result<MemoryFiles, 
     Ok(files)
 }
 
-/// Whether bytes are the first so many of the sample.
+/// Whether bytes are the sample's first ones, this many.
 fn is_sample(alloc: Global, bytes: &[u8], length: usize) -> Result<bool, AllocError> {
     let want = sample(alloc, length)?;
     Ok(bytes == want.as_slice())
 }
 
-/// Whether `a` has so many bytes of the sample.
+/// Whether `a` has this many bytes of the sample.
 fn reads_sample(alloc: Global, files: &mut MemoryFiles, length: usize) -> Result<bool, Fail> {
     let bytes = read_whole(alloc, files, "a")?;
     Ok(is_sample(alloc, &bytes, length)?)
 }
 
-/// Whether a file of so many bytes is read whole, and a name without a file is a fault.
+/// Whether a file of this many bytes is read whole, and a name without a file is a fault.
 fn is_read_whole(alloc: Global, length: usize) -> Result<bool, Fail> {
     let mut files = two_files(alloc, length, &[])?;
     let is_whole = reads_sample(alloc, &mut files, length)?;
@@ -80,7 +80,7 @@ fn answers_faults(rt: HostRuntime) -> Result<(), Fail> {
     Ok(())
 }
 
-/// Whether of 25 bytes so many are written, and a failure is told where these are not all.
+/// Whether this many of 25 bytes are written, and a failure is told where these are not all.
 fn writes_sample(alloc: Global, sink: &mut MemorySink, written: usize) -> Result<bool, Fail> {
     let bytes = sample(alloc, 25)?;
     let is_whole = write_whole(sink, &bytes).is_ok();
@@ -328,8 +328,8 @@ fn reads_byte_by_byte(rt: HostRuntime) -> Result<(), Fail> {
     Ok(())
 }
 
-/// Whether so many of 1,000 bytes are written to a stream of this length that takes a byte at a time, and a failure is
-/// told where these are not all.
+/// Whether this many of 1,000 bytes are written to a stream of this length that takes a byte at a time, and a failure
+/// is told where these are not all.
 fn are_trickled(
     alloc: Global,
     length: usize,

@@ -1,5 +1,5 @@
-//! Tests of parts that stand low: files and sinks, tables, overlap, the envelope, soundness of parts.
-//! Nothing stands on this crate.
+//! Tests of parts at the bottom: files and sinks, tables, overlap, the envelope, soundness of parts.
+//! No crate depends on this one.
 #![tactic(auto)]
 
 #[cfg(test)]

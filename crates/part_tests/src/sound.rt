@@ -1,4 +1,4 @@
-//! Parts that are a sound design, and parts that are none.
+//! Parts that are a sound design, and parts that are not.
 
 ghost use Rattle.std.specs.Prelude.{◌≤◌};
 ghost use Rattle.xt_model.specs.Tables.{IsTableNumber};

@@ -126,7 +126,7 @@ fn design(
     Ok(Design::from_parts(alloc, parts)?)
 }
 
-/// The design of one source with these windows and a sink behind a wire.
+/// The design of one source with these windows and a sink after a wire.
 fn one_source(rt: &impl Abort, alloc: Global, given: Pair, base: i128) -> Result<Design, Fail> {
     let mut nets = Vec::new(alloc);
     nets.push(source(alloc, b'a', given, base)?)?;
@@ -134,7 +134,7 @@ fn one_source(rt: &impl Abort, alloc: Global, given: Pair, base: i128) -> Result
 }
 
 /// The latest time and the greatest slew of a source that rises, the base of its sink, and the limit that is passed
-/// behind its wire. A wire with a delay of 1 fs has the base 1,000,000.
+/// after its wire. A wire with a delay of 1 fs has the base 1,000,000.
 const LIMITS: &str = "\
 70368744177664 0 0 | none
 70368744177664 0 1000000 | Limit { net: NetId(0), what: Time, value: 70368744177665 }
@@ -183,7 +183,7 @@ fn limits_hold_behind_the_wire(rt: HostRuntime) -> Result<(), Fail> {
     Ok(())
 }
 
-/// A source that rises and one that falls, and a gate behind each, which couple to one another.
+/// A source that rises and one that falls, and a gate after each, which couple to one another.
 fn two_gates(alloc: Global) -> Result<Vec<Net>, AllocError> {
     let mut nets = Vec::new(alloc);
     nets.push(source(alloc, b'p', rises(0, 0, 0), 0)?)?;

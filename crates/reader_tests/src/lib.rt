@@ -1,5 +1,5 @@
-//! Tests of the readers of Liberty, Verilog, SPEF and SDC, and of the tokens, numbers and names that they stand on:
-//! short texts, and what they mean or why they are refused. Nothing stands on this crate.
+//! Tests of the readers of Liberty, Verilog, SPEF and SDC, and of the tokens, numbers and names that they depend on:
+//! short texts, and what they mean or why they are refused. No crate depends on this one.
 #![tactic(auto)]
 
 #[cfg(test)]

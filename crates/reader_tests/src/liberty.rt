@@ -31,7 +31,7 @@ fn compare(rt: &impl Abort, alloc: Global, rows: &str) -> Result<(), Fail> {
     Ok(())
 }
 
-/// The scales of time and of capacitance, behind units.
+/// The scales of time and of capacitance, after units.
 const UNITS: &str = "\
 6 6 |
 3 3 | time_unit : \"1ps\"; capacitive_load_unit (1, ff);
@@ -287,7 +287,7 @@ fn template_of(words: &str) -> &str {
     }
 }
 
-/// Appends numbers, each behind a space.
+/// Appends numbers, each after a space.
 fn push_numbers(alloc: Global, out: &mut String, numbers: &[i64]) -> Result<(), AllocError> {
     for number in numbers {
         let text = format!(in alloc; " {number}")?;
@@ -308,7 +308,7 @@ fn table_in_words(alloc: Global, table: &Table) -> Result<String, AllocError> {
 }
 
 /// What a library of a template, which begins on line 2, and of two tables means, the arguments of the first of which
-/// begin on the line behind the template: that table, or the refusal.
+/// begin on the line after the template: that table, or the refusal.
 fn tables_in_words(
     rt: &impl Abort,
     alloc: Global,
@@ -406,7 +406,7 @@ fn tables_are_refused_at_their_lines(rt: HostRuntime) -> Result<(), Fail> {
     compare_tables(&rt, rt.alloc(), REFUSED_TABLES)
 }
 
-/// So many numbers from 0 on.
+/// This many numbers from 0 on.
 fn numbers(alloc: Global, count: u32) -> Result<String, AllocError> {
     let mut text = String::from_str(alloc, "0")?;
     for number in 1..count {

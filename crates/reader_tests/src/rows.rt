@@ -4,7 +4,7 @@ use std::alloc::{AllocError, Global};
 use std::test::Fail;
 use xt_lex::TextFault;
 
-/// What stands before the first bar of a row, and behind it.
+/// What comes before the first bar of a row, and after it.
 pub fn at_bar(row: &str) -> Result<(&str, &str), Fail> {
     let Some((before, behind)) = row.split_once('|') else {
         return Err(Fail::from("a row without a bar"));

@@ -35,7 +35,7 @@ fn number(alloc: Global, number: Option<i64>) -> Result<String, AllocError> {
     }
 }
 
-/// Appends the numbers of edges and sides behind a word.
+/// Appends the numbers of edges and sides after a word.
 fn push_sides(
     alloc: Global,
     out: &mut String,
@@ -93,7 +93,7 @@ fn push_port(alloc: Global, out: &mut String, port: &PortSet) -> Result<(), Allo
     Ok(())
 }
 
-/// The constraints in words: the clock, and then the ports in order of their nets and bits, each behind a `; `.
+/// The constraints in words: the clock, and then the ports in order of their nets and bits, each after a `; `.
 fn in_words(alloc: Global, constraints: &Constraints) -> Result<String, AllocError> {
     let mut out = String::new(alloc);
     if let Some(clock) = &constraints.clock {
@@ -116,7 +116,7 @@ fn in_words(alloc: Global, constraints: &Constraints) -> Result<String, AllocErr
     Ok(out)
 }
 
-/// What a text means for a netlist, in words: constraints, or a code and a line behind `; `.
+/// What a text means for a netlist, in words: constraints, or a code and a line after `; `.
 fn meaning(
     alloc: Global,
     netlist: &Netlist,
@@ -448,7 +448,7 @@ fn of_several_refusals_the_first_counts(rt: HostRuntime) -> Result<(), Fail> {
     compare(&rt, rt.alloc(), 6, 6, ORDER)
 }
 
-/// A command with a name of so many bytes, and an option that it does not have.
+/// A command with a name of this many bytes, and an option that it does not have.
 fn with_long_name(alloc: Global, size: usize) -> Result<String, AllocError> {
     let mut text = String::new(alloc);
     text.push_str("set_load 1 ")?;

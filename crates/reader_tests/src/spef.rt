@@ -10,7 +10,7 @@ use xt_lex::MOST_BYTES;
 /// The first lines of a text, as far as a net wants them.
 const HEAD: &str = "*SPEF \"x\"\n*C_UNIT 1 PF\n*R_UNIT 1 OHM\n";
 
-/// The same with the beginning of a net behind it, in line 4.
+/// The same with the beginning of a net after it, in line 4.
 const NET: &str = "*SPEF \"x\"\n*C_UNIT 1 PF\n*R_UNIT 1 OHM\n*D_NET a 1 ";
 
 /// What becomes of a text: `read`, or its refusal.
@@ -21,7 +21,7 @@ fn answer(alloc: Global, text: &str) -> Result<String, Fail> {
     in_words(alloc, read_spef(alloc, text.as_bytes()))
 }
 
-/// Compares what becomes of the text of each row, behind these first lines.
+/// Compares what becomes of the text of each row, after these first lines.
 fn compare(rt: &impl Abort, alloc: Global, head: &str, rows: &str) -> Result<(), Fail> {
     for row in rows.lines() {
         let (want, rest) = at_bar(row)?;
@@ -59,7 +59,7 @@ fn a_header_is_refused_at_its_token(rt: HostRuntime) -> Result<(), Fail> {
     compare(&rt, rt.alloc(), "", HEADERS)
 }
 
-/// Units, behind the first word.
+/// Units, after the first word.
 const UNITS: &str = "\
 S4 2 | *T_UNIT 1⏎US
 S1 1 | *T_UNIT 2⏎NS
@@ -82,7 +82,7 @@ fn units_have_a_power_of_ten_and_a_word(rt: HostRuntime) -> Result<(), Fail> {
     compare(&rt, rt.alloc(), "*SPEF \"x\" ", UNITS)
 }
 
-/// Marks and brackets, behind the first lines.
+/// Marks and brackets, after the first lines.
 const MARKS: &str = "\
 read | *DIVIDER .
 S1 5 | *DIVIDER⏎::
@@ -107,7 +107,7 @@ fn marks_are_single_bytes_and_brackets_are_pairs(rt: HostRuntime) -> Result<(), 
     compare(&rt, rt.alloc(), HEAD, MARKS)
 }
 
-/// Maps of names, behind the first lines.
+/// Maps of names, after the first lines.
 const PAIRS: &str = "\
 S2 5 | *NAME_MAP *1⏎
 S5 5 | *NAME_MAP *1 a⏎*1 b
@@ -132,7 +132,7 @@ fn pairs_of_the_name_map_are_a_number_and_a_name(rt: HostRuntime) -> Result<(), 
     compare(&rt, rt.alloc(), HEAD, PAIRS)
 }
 
-/// Nets, behind the first lines.
+/// Nets, after the first lines.
 const NETS: &str = "\
 S2 5 | *D_NET⏎
 S2 5 | *D_NET a⏎
@@ -157,7 +157,7 @@ fn a_net_has_a_name_and_a_total(rt: HostRuntime) -> Result<(), Fail> {
     compare(&rt, rt.alloc(), HEAD, NETS)
 }
 
-/// Totals, behind the first lines.
+/// Totals, after the first lines.
 const VALUES: &str = "\
 S1 5 | *D_NET a⏎x
 S1 5 | *D_NET a⏎*1
@@ -182,7 +182,7 @@ fn values_are_numbers_from_zero_on_or_three_of_them(rt: HostRuntime) -> Result<(
     compare(&rt, rt.alloc(), HEAD, VALUES)
 }
 
-/// Lists of a net, behind its beginning.
+/// Lists of a net, after its beginning.
 const LISTS: &str = "\
 S1 5 | *CONN⏎*CONN
 read | *CONN *I *CONN \"x\" *V *SPEF *END
@@ -206,7 +206,7 @@ fn lists_of_a_net_come_in_order(rt: HostRuntime) -> Result<(), Fail> {
     compare(&rt, rt.alloc(), NET, LISTS)
 }
 
-/// Capacitors and resistors, behind the beginning of a net.
+/// Capacitors and resistors, after the beginning of a net.
 const ENTRIES: &str = "\
 S1 4 | *CAP x
 S1 4 | *CAP +1 b 1
@@ -281,7 +281,7 @@ y O
 *END
 ";
 
-/// Lines that stand in place of those of the example, each with its number from 1 on.
+/// Lines that are in place of those of the example, each with its number from 1 on.
 type Changes<'a> = &'a [(usize, &'static str)];
 
 /// The first lines of the example, some of them changed.
@@ -354,7 +354,7 @@ fn push_value(alloc: Global, value: i64, out: &mut Vec<u8>) -> Result<(), AllocE
     out.extend_from_slice(text.as_bytes())
 }
 
-/// The nets with their totals, each with its capacitors and its resistors behind it, a line each.
+/// The nets with their totals, each with its capacitors and its resistors after it, a line each.
 fn shown(alloc: Global, parasitics: &Parasitics) -> Result<Vec<u8>, Fail> {
     let mut out = Vec::new(alloc);
     for net in parasitics.nets.as_slice() {
@@ -449,7 +449,7 @@ fn names_are_whole_and_values_are_in_base_units(rt: HostRuntime) -> Result<(), F
     compare_value(&rt, alloc, ROUNDED, "n7x 1000\nn 1\n*2 0\n")
 }
 
-/// A net's section with a name of so many bytes, each behind a backslash.
+/// A net's section with a name of this many bytes, each after a backslash.
 fn with_long_name(alloc: Global, size: usize) -> Result<String, AllocError> {
     let mut text = String::from_str(alloc, HEAD)?;
     text.push_str("*D_NET ")?;
@@ -460,7 +460,7 @@ fn with_long_name(alloc: Global, size: usize) -> Result<String, AllocError> {
     Ok(text)
 }
 
-/// A name map whose one number has so many zeros in front, and a net with the name of this number.
+/// A name map whose one number has this many zeros in front, and a net with the name of this number.
 fn with_long_number(alloc: Global, zeros: usize) -> Result<String, AllocError> {
     let mut text = String::from_str(alloc, HEAD)?;
     text.push_str("*NAME_MAP *")?;

@@ -6,7 +6,7 @@ use std::process::Abort;
 use std::test::*;
 use xt_lex::{Kind, Lexemes, MOST_BYTES, Rules, find_fault, tokens};
 
-/// The letter that stands for a kind.
+/// The letter that denotes a kind.
 fn letter(kind: Kind) -> u8 {
     match kind {
         Kind::Word => b'W',
@@ -50,7 +50,7 @@ fn listed(rt: &impl Abort, alloc: Global, rules: Rules, text: &[u8]) -> Result<V
     Ok(out)
 }
 
-/// Compares the tokens of the text of each row, which stands before ` ⇒ `, with those behind it.
+/// Compares the tokens of the text of each row, which comes before ` ⇒ `, with those after it.
 fn compare(rt: &impl Abort, alloc: Global, rules: Rules, rows: &str) -> Result<(), Fail> {
     for row in rows.lines() {
         let Some((text, want)) = row.split_once(" ⇒ ") else {

@@ -286,7 +286,7 @@ fn modules_have_their_nets_and_instances(rt: HostRuntime) -> Result<(), Fail> {
     compare_modules(&rt, rt.alloc(), TWO, TWO_MEANT)
 }
 
-/// A module with a name of so many bytes.
+/// A module with a name of this many bytes.
 fn with_long_name(alloc: Global, size: usize) -> Result<String, AllocError> {
     let mut text = String::from_str(alloc, "module ")?;
     for _ in 0..size {

@@ -104,7 +104,8 @@ peak_line d p =
 
 -- these are the lines of the peaks of the nets, in these greatest windows
 abbrev pub IsNoise : Parts → List Pair → List Line → Type 0
-IsNoise d high lines = (peaks : List Peak) × ArePeaks d (assigned high) 0 d.nets peaks × (lines ≡ map (peak_line d) peaks)
+IsNoise d high lines =
+    (peaks : List Peak) × ArePeaks d (assigned high) 0 d.nets peaks × (lines ≡ map (peak_line d) peaks)
 
 -- the lines on checks, and on the worst of each kind
 abbrev pub checked_lines : Parts → Checked → List Line

@@ -69,7 +69,7 @@ fn push_steps(out: &mut Vec<u8>, design: &Design, steps: &[PathStep]) -> Result<
     Ok(())
 }
 
-/// Appends the line on the wire behind the last step.
+/// Appends the line on the wire after the last step.
 fn push_end(out: &mut Vec<u8>, wire: i64) -> Result<(), AllocError>
     ensures { OnOk result (out.new.items ≡ out.old.items ++ line_text (end_line wire)) }
 {

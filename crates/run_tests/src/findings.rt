@@ -86,9 +86,9 @@ fn bound_of(words: &str) -> Bound {
 
 /// Designs and bounds of their greatest windows, and the paths to these.
 ///
-/// Of the ten gates s rises at 0 to 10 and falls at 100 to 130, with slews of 0 to 100, which are 4 to 104 behind the
+/// Of the ten gates s rises at 0 to 10 and falls at 100 to 130, with slews of 0 to 100, which are 4 to 104 after the
 /// wire of 2 to m: its delays are 7 to 11. By the rise of s m falls at 9 to 23, by its fall at 109 to 143. z rises by m
-/// at 12 to 146, and by s at 116 to 146: two of its arcs give 146, and the first of them is taken. Behind it come eight
+/// at 12 to 146, and by s at 116 to 146: two of its arcs give 146, and the first of them is taken. After it come eight
 /// times 6. The earliest time has the least delays.
 ///
 /// Of the crossed nets the wire to c takes 200 fs with d at rest while s rises, and 0 where d rises with it: c rises at
@@ -203,7 +203,7 @@ fn found_of(alloc: Global, text: &[u8]) -> Result<String, Fail> {
     found_in(alloc, &design)
 }
 
-/// Designs, the couplings that matter in them, and behind another bar the slacks of their checks.
+/// Designs, the couplings that matter in them, and after another bar the slacks of their checks.
 ///
 /// Of the coupled gates a rises at 1000 and b falls at 1100 where neither slows the other down, which is when they do
 /// not meet; else at up to 1200 and 1300. Of the crossed nets d may rise while s rises, and c while t does.

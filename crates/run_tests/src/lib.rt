@@ -1,6 +1,6 @@
 //! Tests of runs, of words that threads share, and of what is found in the windows of a design: over designs that
 //! linked texts give, and over generated ones.
-//! Nothing stands on this crate.
+//! No crate depends on this one.
 #![tactic(auto)]
 
 #[cfg(test)]

@@ -14,7 +14,7 @@ use std::alloc::Global;
 use std::test::Fail;
 use xt_model::{Design, Direction, NoMemory, Windows};
 
-/// Whether runs of so many workers end in these windows, for twenty numbers.
+/// Whether runs of this many workers end in these windows, for twenty numbers.
 fn end_alike(
     alloc: Global,
     design: &Design,

@@ -17,8 +17,8 @@ use std::thread::Threads;
 use window_words::SharedBoard;
 use xt_model::{Design, Direction, NoMemory, Pair, Quad, Windows};
 
-/// A gate that holds nobody, and counts the calls of each worker, with the round of the last; those of all workers above
-/// 64 together.
+/// A gate that holds nobody, and counts the calls of each worker, with the round of the last; those of all workers
+/// above 64 together.
 #[derive(Drop)]
 struct CountGate {
     calls: Vec<AtomicU64>,
@@ -153,7 +153,7 @@ fn settled_twice<R: Threads + Sync, G: Gate>(
     twice_of(rt, alloc, &design, workers, gate)
 }
 
-/// Whether so many rounds are from 1 to the most, or none where that is 0.
+/// Whether this many rounds are from 1 to the most, or none where that is 0.
 fn are_from_one(rounds: u64, most: u64) -> bool {
     rounds <= most && (rounds > 0 || most == 0)
 }
@@ -260,7 +260,7 @@ const SETTLED: [(&[u8], u32, &[Once], u64); 7] = [
     (CROSS, 64, &CROSS_LEAST, 18),
 ];
 
-/// Whether so many workers settle the design of a text in the windows of these nets, and each of them passes the gate
+/// Whether this many workers settle the design of a text in the windows of these nets, and each of them passes the gate
 /// once a round.
 fn each_passes<R: Threads + Sync>(
     rt: &R,

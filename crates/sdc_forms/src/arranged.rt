@@ -25,7 +25,7 @@ pub enum Role {
     Named(OptionName),
 }
 
-/// An option that is given, with the word behind it where it takes one.
+/// An option that is given, with the word after it where it takes one.
 #[derive(Clone, Copy)]
 pub struct Given<'a> {
     pub name: OptionName,
@@ -33,7 +33,7 @@ pub struct Given<'a> {
 }
 
 /// The options and the arguments of a command, an option that still wants its word, and whether an option is unknown or
-/// stands twice.
+/// is there twice.
 #[derive(Drop)]
 pub struct Arranged<'a> {
     given: Vec<Given<'a>>,
@@ -98,7 +98,7 @@ pub fn is_given(option: OptionName, given: &[Given<'_>]) -> bool
     false
 }
 
-/// Whether the word behind an option may stand there.
+/// Whether the word after an option may be there.
 fn given_fits(given: &Given<'_>) -> bool
     ensures { result ≡ given_fits (given_text given.now) }
 {
@@ -108,7 +108,7 @@ fn given_fits(given: &Given<'_>) -> bool
     }
 }
 
-/// Whether the words behind all options may stand there.
+/// Whether the words after all options may be there.
 fn all_given_fit(given: &[Given<'_>]) -> bool
     ensures { result ≡ list_all given_fits (map given_text given.now) }
 {
@@ -136,7 +136,7 @@ fn all_objects(words: &[Word<'_>]) -> bool
     true
 }
 
-/// Whether each argument may stand where it does.
+/// Whether each argument is allowed where it is.
 fn arguments_fit(command: CommandName, arguments: &[Word<'_>]) -> bool
     ensures { result ≡ arguments_fit command (map word_text arguments.now) }
 {
@@ -203,7 +203,7 @@ impl<'a> Arranged<'a> {
         }
     }
 
-    /// The words behind a command's name.
+    /// The words after a command's name.
     #[tactic(auto, unfolding(crate::specs::Arranged::arranged))]
     pub fn of(
         alloc: Global,
@@ -221,7 +221,7 @@ impl<'a> Arranged<'a> {
         Ok(arranged)
     }
 
-    /// Whether each word may stand where it does.
+    /// Whether each word is allowed where it is.
     #[tactic(auto, unfolding(crate::specs::Arranged::words_fit))]
     pub fn words_fit(&self, command: CommandName) -> bool
         ensures { result ≡ words_fit command self.now }
@@ -229,7 +229,7 @@ impl<'a> Arranged<'a> {
         all_given_fit(self.given.as_slice()) && arguments_fit(command, self.arguments.as_slice())
     }
 
-    /// Whether no option is unknown, stands twice or lacks its word.
+    /// Whether no option is unknown, is there twice or lacks its word.
     pub fn is_whole(&self) -> bool
         ensures { result ≡ is_whole self.now }
     {
@@ -243,7 +243,7 @@ impl<'a> Arranged<'a> {
         is_given(option, self.given.as_slice())
     }
 
-    /// The word behind an option.
+    /// The word after an option.
     pub fn value_of(&self, option: OptionName) -> Option<Word<'a>>
         ensures { option_map word_text result ≡ value_of option self.now.given }
     {
@@ -258,7 +258,7 @@ impl<'a> Arranged<'a> {
     }
 }
 
-/// The word behind an option among those that are given.
+/// The word after an option among those that are given.
 fn value_in<'a>(option: OptionName, given: &[Given<'a>]) -> Option<Word<'a>>
     ensures { option_map word_text result ≡ value_of option (map given_text given.now) }
 {

@@ -125,7 +125,7 @@ impl OptionName {
         self as u8 == other as u8
     }
 
-    /// What has to stand behind the option, if anything.
+    /// What has to be after the option, if anything.
     pub fn slot(self) -> Option<Slot>
         ensures { result ≡ slot_of self }
     {

@@ -1,4 +1,4 @@
-//! Which words may stand where.
+//! Which words are allowed where.
 
 ghost use Rattle.std.specs.Prelude.{◌≡◌, [], option_map};
 ghost use Rattle.std.specs.List.{list_all};
@@ -99,7 +99,7 @@ impl Slot {
         }
     }
 
-    /// Whether a word may stand here.
+    /// Whether a word may be here.
     pub fn fits(self, word: Word<'_>) -> bool
         ensures { result ≡ fits self (word_text word.entry) }
     {

@@ -255,7 +255,7 @@ fn statement_of_set<'a>(words: &[Word<'_>]) -> Result<Statement<'a>, Stop>
     }
 }
 
-/// What a command says with these words behind its name.
+/// What a command says with these words after its name.
 #[tactic(auto, unfolding(crate::specs::Statement::statement_of_command))]
 fn statement_of_command<'a>(
     alloc: Global,
@@ -278,7 +278,7 @@ fn statement_of_command<'a>(
 
 /// What the words of a command say.
 ///
-/// `C1` is that the words do not fit: brackets do not match, or a word may not stand where it does, which is looked at
+/// `C1` is that the words do not fit: brackets do not match, or a word is not allowed where it is, which is looked at
 /// for the whole command first. `C2` is a command that is not known; `C3` an option or an argument that is unknown,
 /// missing or twice, or a unit that is not listed.
 #[tactic(auto, unfolding(crate::specs::Statement::statement_of_words))]

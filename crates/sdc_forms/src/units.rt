@@ -28,7 +28,7 @@ fn letter_power(letters: &[u8], first: &[u8], second: &[u8]) -> Option<i32>
     }
 }
 
-/// The power of ten of a unit number; none stands for 1.
+/// The power of ten of a unit number; none denotes 1.
 fn number_power(number: &[u8]) -> Option<i32>
     ensures value { result ≡ number_power number.now }
     ensures bounds { IfSome result (λ k. (neg_ℤ (pos 3) ≤ℤ k) × (k ≤ℤ pos 3)) }

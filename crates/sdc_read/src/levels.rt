@@ -3,8 +3,8 @@
 ghost use Rattle.std.specs.Prelude.{◌≡◌, ◌==◌, IfOk, OnOk};
 ghost use Rattle.std.specs.Map.{lookup};
 ghost use Rattle.sdc_read.specs.Ports.{same_bit};
-ghost use Rattle.sdc_read.specs.Levels.{no_levels, for_role, for_port, for_rest, for_bit, with_bit, with_port, with_role};
-ghost use Rattle.sdc_read.specs.Levels.{with_all, with_place, levels_of};
+ghost use Rattle.sdc_read.specs.Levels.{no_levels, for_role, for_port, for_rest, for_bit};
+ghost use Rattle.sdc_read.specs.Levels.{with_bit, with_port, with_role, with_all, with_place, levels_of};
 
 use crate::change::{Bits, Change};
 use crate::mentions::{Mention, role_at};
@@ -30,7 +30,8 @@ impl Model for Levels {
 
     ghost Value = { Levels };
 
-    ghost view = { λ l. record { bits = l.bits.entries; ports = l.ports.entries; inputs = l.inputs; outputs = l.outputs } };
+    ghost view = { λ l. record
+        { bits = l.bits.entries; ports = l.ports.entries; inputs = l.inputs; outputs = l.outputs } };
 }
 
 impl Levels {

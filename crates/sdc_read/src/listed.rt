@@ -45,7 +45,7 @@ pub fn same_role(role: PortRole, other: PortRole) -> bool
     }
 }
 
-/// The bits that stand for a name, if they are of ports of this direction.
+/// The bits that a name denotes, if they are of ports of this direction.
 fn bits_if(wanted: PortRole, found: PortFound) -> Option<Bits>
     ensures { option_map bits_text result ≡ bits_if wanted found }
 {

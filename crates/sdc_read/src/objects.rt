@@ -1,4 +1,4 @@
-//! The ports that lists stand for.
+//! The ports that lists denote.
 
 ghost use Rattle.std.specs.Prelude.{◌≡◌, option_map, map, OnOk};
 ghost use Rattle.sdc_words.specs.Items.{items_of};

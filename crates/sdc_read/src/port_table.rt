@@ -38,7 +38,8 @@ impl Model for PortTable {
 
     ghost view = { λ t. map settled (told t.nets.items t.said.items) };
 
-    ghost invariant = { λ t. ((at : PortBit) → known t.nets.items t.clock t.own t.levels at ≡ set_by t.nets.items at t.said.items)
+    ghost invariant = { λ t.
+        ((at : PortBit) → known t.nets.items t.clock t.own t.levels at ≡ set_by t.nets.items at t.said.items)
         × AllInRange (told t.nets.items t.said.items) };
 }
 

@@ -106,7 +106,7 @@ impl Progress {
         }
     }
 
-    /// Units hold for the commands behind them.
+    /// Units hold for the commands after them.
     fn set_units(&mut self, time: Option<i32>, cap: Option<i32>)
         requires time { IfSome time IsPower }
         requires cap { IfSome cap IsPower }

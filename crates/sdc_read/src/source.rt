@@ -20,7 +20,7 @@ use text_forms::Stop;
 use verilog_net::{Name, Netlist, PortRole};
 use xt_model::Code;
 
-/// The bits that a list stands for, as far as it matters.
+/// The bits that a list denotes, as far as it matters.
 #[derive(Clone, Copy)]
 pub enum SourceBits {
     Nothing,
@@ -29,7 +29,7 @@ pub enum SourceBits {
 }
 
 impl SourceBits {
-    /// With these bits behind.
+    /// With these bits after it.
     fn with_bits(self, bits: Bits) -> SourceBits
         ensures { result ≡ with_bits (bits_text bits) self }
     {
@@ -59,7 +59,7 @@ impl SourceBits {
     }
 }
 
-/// With the bits of the input of a name behind.
+/// With the bits of the input of a name after it.
 fn source_named(
     netlist: &ListedNetlist<'_>,
     name: &[u8],
@@ -118,7 +118,7 @@ fn source_all(netlist: &ListedNetlist<'_>) -> SourceBits
     source_each(netlist.ports(PortRole::Input))
 }
 
-/// The one bit of an input that a list stands for.
+/// The one bit of an input that a list denotes.
 #[tactic(auto, unfolding(crate::specs::Objects::source_of))]
 pub fn source_of(netlist: &ListedNetlist<'_>, list: Word<'_>) -> Result<PortBit, Stop>
     ensures { Computes (λ at. at) result (source_of netlist.now (word_text list.entry)) }

@@ -94,7 +94,7 @@ fn read_command<'a>(
 }
 
 impl<'a> Commands<'a> {
-    /// The commands of a text. Where its tokens have a fault, they go on behind it: look for the fault first.
+    /// The commands of a text. Where its tokens have a fault, they go on after it: look for the fault first.
     #[tactic(auto, unfolding(crate::specs::Words::commands_of))]
     pub fn new(bytes: &'a [u8]) -> Commands<'a>
         requires { length bytes.now ≤ MOST_BYTES }

@@ -11,7 +11,7 @@ fn is_white(byte: u8) -> bool
     byte == b' ' || (byte == b'\t' || byte == b'\r') || byte == b'\n'
 }
 
-/// Whether a newline stands first.
+/// Whether a newline comes first.
 fn begins_line(bytes: &[u8]) -> bool
     ensures { result ≡ begins 10 bytes.now }
 {
@@ -21,7 +21,7 @@ fn begins_line(bytes: &[u8]) -> bool
     }
 }
 
-/// Whether a byte is white space, or a backslash that joins two lines, where these bytes stand behind it.
+/// Whether a byte is white space, or a backslash that joins two lines, where these bytes come after it.
 #[tactic(auto, unfolding(crate::specs::Items::separates))]
 fn separates(byte: u8, more: &[u8]) -> bool
     ensures { result ≡ separates byte more.now }
@@ -29,7 +29,7 @@ fn separates(byte: u8, more: &[u8]) -> bool
     is_white(byte) || byte == b'\\' && begins_line(more)
 }
 
-/// The first item of some bytes, which white space separates, and the bytes behind it.
+/// The first item of some bytes, which white space separates, and the bytes after it.
 pub fn first_item(bytes: &[u8]) -> Option<(&[u8], &[u8])>
     ensures { MatchOption result (items_from [] bytes.now ≡ [])
         (λ p. items_from [] bytes.now ≡ p.0.now ∷ items_from [] p.1.now) }

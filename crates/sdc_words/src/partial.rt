@@ -13,8 +13,8 @@ use std::marker::Model;
 use xt_lex::{Kind, Lexeme, MOST_BYTES};
 use xt_model::Row;
 
-/// A command in part: its words so far, how many brackets stand open, the tokens behind the outermost one, and where a
-/// closing sign ended, if it stands last.
+/// A command in part: its words so far, how many brackets are open, the tokens after the outermost one, and where a
+/// closing sign ended, if it comes last.
 #[derive(Drop)]
 pub struct Partial<'a> {
     words: Vec<Word<'a>>,
@@ -41,7 +41,7 @@ impl<'a> Model for Partial<'a> {
     ghost invariant = { λ p. p.depth ≤ length p.inside.items + 1 };
 }
 
-/// The place behind a token.
+/// The place after a token.
 fn end_of(token: Lexeme<'_>) -> u32
     requires { token.from + length token.text.now ≤ MOST_BYTES }
     ensures { result ≡ end_of (text_of token.entry) }
@@ -59,7 +59,7 @@ fn touches(ended: Option<u32>, from: u32) -> bool
     }
 }
 
-/// The place behind a token that a closing sign ends.
+/// The place after a token that a closing sign ends.
 fn ended_by(kind: Kind, place: u32) -> Option<u32>
     ensures { result ≡ ended_by kind place }
 {
@@ -156,7 +156,7 @@ impl<'a> Partial<'a> {
         }
     }
 
-    /// The words, unless a bracket stands open.
+    /// The words, unless a bracket is open.
     pub fn finish(self) -> Option<Row<Word<'a>>>
         ensures { option_map (map word_text) result ≡ finished (Some self.entry) }
     {

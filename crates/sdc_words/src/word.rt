@@ -45,14 +45,14 @@ fn enclosed_in(text: &[u8]) -> &[u8]
     }
 }
 
-/// Whether a `[` of a bare word stands open behind this byte.
+/// Whether a `[` of a bare word is open after this byte.
 fn in_bit_after(open_bit: bool, byte: u8) -> bool
     ensures { result ≡ in_bit_after open_bit byte }
 {
     if open_bit { byte != b']' } else { byte == b'[' }
 }
 
-/// Whether a `[` of a bare word stands open at its end.
+/// Whether a `[` of a bare word is open at its end.
 fn ends_open(text: &[u8]) -> bool
     ensures { result ≡ ends_open false text.now }
 {
@@ -93,7 +93,7 @@ fn names_of<'a>(kind: Kind, text: &'a [u8]) -> Option<NameList<'a>>
     }
 }
 
-/// What one token between brackets stands for.
+/// What one token between brackets denotes.
 fn all_ports<'a>(kind: Kind, text: &[u8]) -> Word<'a>
     ensures { word_text result ≡ all_ports kind text.now }
 {
@@ -111,7 +111,7 @@ fn all_ports<'a>(kind: Kind, text: &[u8]) -> Word<'a>
     }
 }
 
-/// What a word with a list between brackets stands for.
+/// What a word with a list between brackets denotes.
 fn listed<'a>(text: &[u8], names: NameList<'a>) -> Word<'a>
     ensures { word_text result ≡ listed text.now (names_text names.entry) }
 {
@@ -124,7 +124,7 @@ fn listed<'a>(text: &[u8], names: NameList<'a>) -> Word<'a>
     }
 }
 
-/// What two tokens between brackets stand for.
+/// What two tokens between brackets denote.
 fn object_list<'a>(kind: Kind, text: &[u8], names: Option<NameList<'a>>) -> Word<'a>
     ensures { word_text result ≡ object_list kind text.now (option_map names_text names.entry) }
 {
@@ -134,7 +134,7 @@ fn object_list<'a>(kind: Kind, text: &[u8], names: Option<NameList<'a>>) -> Word
     }
 }
 
-/// What the tokens between brackets stand for.
+/// What the tokens between brackets denote.
 pub fn bracketed<'a>(inside: &[Lexeme<'a>]) -> Word<'a>
     ensures { word_text result ≡ bracketed (map text_of inside.now) }
 {

@@ -1,4 +1,4 @@
-//! The window of an edge of a net behind the wire to one of its sinks.
+//! The window of an edge of a net after the wire to one of its sinks.
 
 ghost use Rattle.std.specs.Prelude.{◌≡◌, ◌<◌, ◌^◌, length, IfSome, pos, ◌+ℤ◌, ◌≤ℤ◌};
 ghost use Rattle.xt_model.specs.Assign.{assigned};
@@ -31,7 +31,7 @@ fn wire(victim: &Victim<Windows>, sink: usize) -> (i64, i64)
     (least as i64, greatest as i64)
 }
 
-/// A slew behind a wire of this delay: it grows by 11/5 of the delay.
+/// A slew after a wire of this delay: it grows by 11/5 of the delay.
 fn slew_behind(slew: i64, wire: i64) -> i64
     requires slew { IsSlew slew }
     requires low { pos 0 ≤ℤ wire }
@@ -41,7 +41,7 @@ fn slew_behind(slew: i64, wire: i64) -> i64
     slew + (11 * wire).div_euclid(5)
 }
 
-/// A window behind a wire with these least and greatest delays.
+/// A window after a wire with these least and greatest delays.
 fn behind(window: &Quad, wire: (i64, i64)) -> Quad
     requires { FitsWire window.now (record { least = wire.0; most = wire.1 }) }
     ensures { result ≡ behind window.now (record { least = wire.0; most = wire.1 }) }

@@ -38,7 +38,7 @@ pub(crate) fn flop_slack(hold: bool, period: i64, need: i64, clock: &Quad, datum
     }
 }
 
-/// The slack of data at a port with this delay behind it.
+/// The slack of data at a port with this delay after it.
 pub(crate) fn port_slack(hold: bool, period: i64, delay: i64, datum: &Quad) -> i64
     requires period { IsBetween (pos 0) most_period period }
     requires delay { IsBetween (neg_ℤ most_delay) most_delay delay }

@@ -50,7 +50,7 @@ pub fn read_spef(alloc: Global, bytes: &[u8]) -> Result<Parasitics, TextFault>
 }
 
 /// The constraints that an SDC text means for a netlist, as `sdc_read::read_sdc` reads them: a clock's period is 1 to
-/// 2^40 fs, and it falls from 0 to 2^40 fs behind its rise; of ports delays are at most 2^40 fs in size, slews and
+/// 2^40 fs, and it falls from 0 to 2^40 fs after its rise; of ports delays are at most 2^40 fs in size, slews and
 /// loads 0 to 2^40 fs and aF.
 pub fn read_sdc(
     alloc: Global,

@@ -19,7 +19,7 @@ use crate::sort::Sort;
 use text_forms::{Refused, Term, Terms};
 use xt_model::Code;
 
-/// A form that was read, whose last token stands in this line.
+/// A form that was read, whose last token is in this line.
 #[inline]
 pub fn done(item: Item<'_>, line: u32, next: Context) -> FormRead<'_>
     ensures { whole_of result ≡ record { item = item_text item.entry; line = line; next = next } }
@@ -149,7 +149,7 @@ fn brackets<'a>(first: Term<'a, Sort>, terms: &mut Terms<'a, Sort>) -> Result<Fo
     }
 }
 
-/// An item of the header, or what comes behind it, from its first token on.
+/// An item of the header, or what comes after it, from its first token on.
 fn header_from<'a>(
     first: Term<'a, Sort>,
     terms: &mut Terms<'a, Sort>,
@@ -192,7 +192,7 @@ fn header_from<'a>(
     }
 }
 
-/// An item of the header, or what comes behind it.
+/// An item of the header, or what comes after it.
 fn header<'a>(terms: &mut Terms<'a, Sort>) -> Result<FormRead<'a>, Refused>
     ensures { Reads (λ r. (whole_of r, terms.new)) result (first_form header_forms terms.old) }
 {
@@ -200,7 +200,7 @@ fn header<'a>(terms: &mut Terms<'a, Sort>) -> Result<FormRead<'a>, Refused>
     header_from(first, terms)
 }
 
-/// Behind a string of the design's flow.
+/// After a string of the design's flow.
 fn flow<'a>(terms: &mut Terms<'a, Sort>) -> Result<FormRead<'a>, Refused>
     ensures { Reads (λ r. (whole_of r, terms.new)) result (first_form flow_forms terms.old) }
 {
@@ -211,7 +211,7 @@ fn flow<'a>(terms: &mut Terms<'a, Sort>) -> Result<FormRead<'a>, Refused>
     }
 }
 
-/// Behind the number of a unit.
+/// After the number of a unit.
 fn unit<'a>(terms: &mut Terms<'a, Sort>) -> Result<FormRead<'a>, Refused>
     ensures { Reads (λ r. (whole_of r, terms.new)) result (first_form unit_forms terms.old) }
 {
@@ -233,7 +233,7 @@ fn pairs<'a>(terms: &mut Terms<'a, Sort>) -> Result<FormRead<'a>, Refused>
     }
 }
 
-/// Behind the number of a pair.
+/// After the number of a pair.
 fn pair_name<'a>(terms: &mut Terms<'a, Sort>) -> Result<FormRead<'a>, Refused>
     ensures { Reads (λ r. (whole_of r, terms.new)) result (first_form pair_name_forms terms.old) }
 {
@@ -257,7 +257,7 @@ fn skipped<'a>(terms: &mut Terms<'a, Sort>) -> Result<FormRead<'a>, Refused>
     }
 }
 
-/// Behind the end of a net.
+/// After the end of a net.
 fn behind_net<'a>(terms: &mut Terms<'a, Sort>) -> Result<FormRead<'a>, Refused>
     ensures { Reads (λ r. (whole_of r, terms.new)) result (first_form section_forms terms.old) }
 {

@@ -101,7 +101,7 @@ fn plain_name(marks: Marks, word: &[u8], out: &mut Vec<u8>) -> Result<(), Stop>
     sized(out.as_slice())
 }
 
-/// Makes `out` the name that `*` means with these bytes behind it.
+/// Makes `out` the name that `*` means with these bytes after it.
 fn mapped_name<'a>(
     marks: Marks,
     map: &Named<'a, MapName>,

@@ -29,7 +29,7 @@ fn closing_from<'a>(first: Term<'a, Sort>, terms: &Terms<'a, Sort>) -> Result<Fo
     }
 }
 
-/// What comes behind the capacitors of a net, from its first token on.
+/// What comes after the capacitors of a net, from its first token on.
 fn behind_capacitors<'a>(
     first: Term<'a, Sort>,
     terms: &Terms<'a, Sort>,
@@ -43,7 +43,7 @@ fn behind_capacitors<'a>(
     }
 }
 
-/// What comes behind the connections of a net, from its first token on.
+/// What comes after the connections of a net, from its first token on.
 fn behind_connections<'a>(
     first: Term<'a, Sort>,
     terms: &Terms<'a, Sort>,
@@ -93,7 +93,7 @@ fn lists_from<'a>(first: Term<'a, Sort>, terms: &Terms<'a, Sort>) -> Result<Form
     }
 }
 
-/// Behind the total capacitance of a net.
+/// After the total capacitance of a net.
 pub fn totalled<'a>(terms: &mut Terms<'a, Sort>) -> Result<FormRead<'a>, Refused>
     ensures { Reads (λ r. (whole_of r, terms.new)) result (first_form totalled_forms terms.old) }
 {
@@ -118,7 +118,7 @@ pub fn lists<'a>(terms: &mut Terms<'a, Sort>) -> Result<FormRead<'a>, Refused>
     lists_from(first, &*terms)
 }
 
-/// Behind `*CONN`.
+/// After `*CONN`.
 pub fn connections<'a>(terms: &mut Terms<'a, Sort>) -> Result<FormRead<'a>, Refused>
     ensures { Reads (λ r. (whole_of r, terms.new)) result (first_form connections_forms terms.old) }
 {
@@ -142,7 +142,7 @@ pub fn connection<'a>(terms: &mut Terms<'a, Sort>) -> Result<FormRead<'a>, Refus
     }
 }
 
-/// A capacitor, or what comes behind the last one.
+/// A capacitor, or what comes after the last one.
 pub fn capacitors<'a>(terms: &mut Terms<'a, Sort>) -> Result<FormRead<'a>, Refused>
     ensures { Reads (λ r. (whole_of r, terms.new)) result (first_form capacitors_forms terms.old) }
 {
@@ -163,7 +163,7 @@ pub fn capacitors<'a>(terms: &mut Terms<'a, Sort>) -> Result<FormRead<'a>, Refus
     }
 }
 
-/// Behind the first node of a capacitor.
+/// After the first node of a capacitor.
 pub fn cap_second<'a>(terms: &mut Terms<'a, Sort>) -> Result<FormRead<'a>, Refused>
     ensures { Reads (λ r. (whole_of r, terms.new)) result (first_form cap_second_forms terms.old) }
 {
@@ -179,7 +179,7 @@ pub fn cap_second<'a>(terms: &mut Terms<'a, Sort>) -> Result<FormRead<'a>, Refus
     }
 }
 
-/// Behind the second node of a capacitor.
+/// After the second node of a capacitor.
 pub fn cap_value<'a>(terms: &mut Terms<'a, Sort>) -> Result<FormRead<'a>, Refused>
     ensures { Reads (λ r. (whole_of r, terms.new)) result (first_form cap_value_forms terms.old) }
 {
@@ -194,7 +194,7 @@ pub fn cap_value<'a>(terms: &mut Terms<'a, Sort>) -> Result<FormRead<'a>, Refuse
     }
 }
 
-/// A resistor, or what comes behind the last one.
+/// A resistor, or what comes after the last one.
 pub fn resistors<'a>(terms: &mut Terms<'a, Sort>) -> Result<FormRead<'a>, Refused>
     ensures { Reads (λ r. (whole_of r, terms.new)) result (first_form resistors_forms terms.old) }
 {
@@ -215,7 +215,7 @@ pub fn resistors<'a>(terms: &mut Terms<'a, Sort>) -> Result<FormRead<'a>, Refuse
     }
 }
 
-/// Behind the first node of a resistor.
+/// After the first node of a resistor.
 pub fn res_second<'a>(terms: &mut Terms<'a, Sort>) -> Result<FormRead<'a>, Refused>
     ensures { Reads (λ r. (whole_of r, terms.new)) result (first_form res_second_forms terms.old) }
 {
@@ -226,7 +226,7 @@ pub fn res_second<'a>(terms: &mut Terms<'a, Sort>) -> Result<FormRead<'a>, Refus
     }
 }
 
-/// Behind the second node of a resistor.
+/// After the second node of a resistor.
 pub fn res_value<'a>(terms: &mut Terms<'a, Sort>) -> Result<FormRead<'a>, Refused>
     ensures { Reads (λ r. (whole_of r, terms.new)) result (first_form res_value_forms terms.old) }
 {

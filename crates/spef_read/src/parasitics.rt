@@ -39,7 +39,7 @@ pub struct WireText {
 
 /// The nets of a text in its order. `names` has the names of nets and nodes in the order of their first use, each with
 /// the number of the net that has it: whole, with the names of the name map in the place of their numbers, without
-/// backslashes, with `/` between their parts and `[` and `]` around a bit. In the name of a pin `delimiter` stands
+/// backslashes, with `/` between their parts and `[` and `]` around a bit. In the name of a pin `delimiter` is
 /// before the pin.
 #[derive(Drop)]
 pub struct Parasitics {

@@ -74,7 +74,7 @@ impl Sort {
     }
 }
 
-/// Whether the word behind `*` is that of an item of the header with one string.
+/// Whether the word after `*` is that of an item of the header with one string.
 fn is_title(word: &[u8]) -> bool
     ensures { result ≡ is_title word.now }
 {
@@ -84,14 +84,14 @@ fn is_title(word: &[u8]) -> bool
                 || (word == b"PROGRAM".as_slice() || word == b"VERSION".as_slice())))
 }
 
-/// Whether the word behind `*` is that of a mark of names.
+/// Whether the word after `*` is that of a mark of names.
 fn is_separator(word: &[u8]) -> bool
     ensures { result ≡ is_separator word.now }
 {
     word == b"DIVIDER".as_slice() || word == b"DELIMITER".as_slice()
 }
 
-/// Whether the word behind `*` is that of a unit.
+/// Whether the word after `*` is that of a unit.
 fn is_unit(word: &[u8]) -> bool
     ensures { result ≡ is_unit word.now }
 {
@@ -100,7 +100,7 @@ fn is_unit(word: &[u8]) -> bool
             || (word == b"R_UNIT".as_slice() || word == b"L_UNIT".as_slice()))
 }
 
-/// Whether the word behind `*` begins a section that is skipped.
+/// Whether the word after `*` begins a section that is skipped.
 fn is_skipped(word: &[u8]) -> bool
     ensures { result ≡ is_skipped word.now }
 {
@@ -109,7 +109,7 @@ fn is_skipped(word: &[u8]) -> bool
             || (word == b"POWER_NETS".as_slice() || word == b"GROUND_NETS".as_slice()))
 }
 
-/// Whether the word behind `*` begins a section that is not taken.
+/// Whether the word after `*` begins a section that is not taken.
 fn is_unsupported(word: &[u8]) -> bool
     ensures { result ≡ is_unsupported word.now }
 {
@@ -119,14 +119,14 @@ fn is_unsupported(word: &[u8]) -> bool
                 || (word == b"DEFINE".as_slice() || word == b"PDEFINE".as_slice())))
 }
 
-/// Whether the word behind `*` begins a connection.
+/// Whether the word after `*` begins a connection.
 fn is_connection(word: &[u8]) -> bool
     ensures { result ≡ is_connection word.now }
 {
     word == b"P".as_slice() || (word == b"I".as_slice() || word == b"N".as_slice())
 }
 
-/// What a word behind `*` of a net's section is.
+/// What a word after `*` of a net's section is.
 fn net_sort(word: &[u8]) -> Sort
     ensures { result ≡ net_sort word.now }
 {
@@ -149,7 +149,7 @@ fn net_sort(word: &[u8]) -> Sort
     }
 }
 
-/// What a word behind `*` is that may stand outside the sections of nets.
+/// What a word after `*` is that may be outside the sections of nets.
 fn outer_sort(word: &[u8]) -> Sort
     ensures { result ≡ outer_sort word.now }
 {
@@ -176,7 +176,7 @@ fn outer_sort(word: &[u8]) -> Sort
     }
 }
 
-/// What a word of letters behind `*` is.
+/// What a word of letters after `*` is.
 fn keyword_sort(word: &[u8]) -> Sort
     ensures { result ≡ keyword_sort word.now }
 {
@@ -187,7 +187,7 @@ fn keyword_sort(word: &[u8]) -> Sort
     }
 }
 
-/// What digits behind `*` are, with these bytes behind the first of them.
+/// What digits after `*` are, with these bytes after the first of them.
 #[inline]
 fn index_sort(more: &[u8]) -> Sort
     ensures { result ≡ index_sort more.now }
@@ -199,7 +199,7 @@ fn index_sort(more: &[u8]) -> Sort
     }
 }
 
-/// What `*` is with these bytes behind it.
+/// What `*` is with these bytes after it.
 #[tactic(auto, unfolding(crate::specs::Sorts::starred_sort))]
 #[inline]
 fn starred_sort(bytes: &[u8]) -> Sort

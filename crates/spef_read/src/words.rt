@@ -36,7 +36,7 @@ pub fn without_zeros(digits: &[u8]) -> &[u8]
     rest
 }
 
-/// How many bytes stand before the first one that is this.
+/// How many bytes come before the first one that is this.
 #[inline]
 fn place_of(mark: u8, word: &[u8]) -> usize
     ensures place { result ≡ place_of mark word.now }

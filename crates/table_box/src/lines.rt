@@ -3,7 +3,7 @@ ghost use Rattle.std.specs.List.{slice_index_or};
 ghost use Rattle.xt_model.specs.Tables.{IsIndex};
 ghost use Rattle.table_box.specs.Spans.{ReachUpTo};
 
-/// Of so many grid lines or fewer, those at or below a number are counted line by line.
+/// Of this many grid lines or fewer, those at or below a number are counted line by line.
 const FEW_LINES: usize = 8;
 
 /// Whether a number lies below a grid line.
@@ -14,7 +14,7 @@ fn is_below(index: &[i64], x: i64, line: usize) -> bool
     x < index[line]
 }
 
-/// How many grid lines lie at or below `x`, where so many surely do: line by line from there.
+/// How many grid lines lie at or below `x`, where this many surely do: line by line from there.
 pub(crate) fn lines_from(index: &[i64], x: i64, lines: usize) -> usize
     requires index { IsIndex index.now }
     requires within { lines ≤ length index.now }

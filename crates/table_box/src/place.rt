@@ -58,7 +58,7 @@ fn brought_within(index: &[i64], x: i64) -> i64
     index[0].max(x.min(index[index.len() - 1]))
 }
 
-/// Whether a number lies between two grid lines, where so many lie at or below it: one at least, and not all.
+/// Whether a number lies between two grid lines, where this many lie at or below it: one at least, and not all.
 fn is_between_lines(index: &[i64], lines: usize) -> bool
     ensures { IsTrue result → (0 < lines) × (lines < length index.now) }
 {
@@ -74,7 +74,7 @@ impl Place {
         Place::among(index, x, lines_up_to(index, x))
     }
 
-    /// The place of `x`, where so many grid lines lie at or below it. Between two lines it stands as it is.
+    /// The place of `x`, where this many grid lines lie at or below it. Between two lines it stays as it is.
     #[inline(always)]
     pub fn among(index: &[i64], x: i64, lines: usize) -> Place
         requires index { IsIndex index.now }
@@ -87,7 +87,8 @@ impl Place {
         Place::of_clamped(index, x, lines)
     }
 
-    /// The place of `x`, once it is brought within the ends of the index, where so many grid lines lie at or below it.
+    /// The place of `x`, once it is brought within the ends of the index, where this many grid lines lie at or below
+    /// it.
     #[inline(never)]
     fn of_clamped(index: &[i64], x: i64, lines: usize) -> Place
         requires index { IsIndex index.now }

@@ -28,7 +28,7 @@ fn are_same(a: i64, b: i64) -> bool
     a == b
 }
 
-/// How many grid lines lie below `x`, where so many lie at or below it.
+/// How many grid lines lie below `x`, where this many lie at or below it.
 fn lines_below(index: &[i64], x: i64, lines: usize) -> usize
     requires index { IsIndex index.now }
     requires lines { ReachUpTo index.now x lines }

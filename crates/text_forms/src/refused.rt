@@ -26,7 +26,7 @@ impl From<Refused> for TextFault {
     }
 }
 
-/// The refusal of a text for a fault of its tokens: by `byte` where a byte may not stand where it stands, at the line
+/// The refusal of a text for a fault of its tokens: by `byte` where a byte is not allowed where it is, at the line
 /// of the first one, and else by `early` where a string or a comment is open at the end, at the last line.
 pub fn tokens_refused(bytes: &[u8], rules: Rules, byte: Code, early: Code) -> Option<Refused>
     requires { length bytes.now ≤ MOST_BYTES }

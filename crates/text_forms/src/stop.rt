@@ -16,7 +16,7 @@ pub enum Stop {
 }
 
 impl Stop {
-    /// The fault of the text, where what stops it stands at this line.
+    /// The fault of the text, where what stops it is at this line.
     pub fn at_line(self, line: u32) -> TextFault
         ensures { result ≡ fault_at line self }
     {

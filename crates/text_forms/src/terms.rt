@@ -16,7 +16,7 @@ pub trait TokenSort: Copy {
 
     ghost end: { Self };
 
-    /// What a token is by its kind and its bytes, of an escaped name those behind its backslash.
+    /// What a token is by its kind and its bytes, of an escaped name those after its backslash.
     fn sort_by(kind: Kind, text: &[u8]) -> Self
         ensures { result ≡ sort_by kind text.now };
 
@@ -25,7 +25,7 @@ pub trait TokenSort: Copy {
         ensures { result ≡ end };
 }
 
-/// A token: its sort, its bytes (of an escaped name those behind its backslash), and where its first byte stands.
+/// A token: its sort, its bytes (of an escaped name those after its backslash), and where its first byte is.
 #[derive(Clone, Copy)]
 pub struct Term<'a, S> {
     pub sort: S,
@@ -34,7 +34,7 @@ pub struct Term<'a, S> {
     pub line: u32,
 }
 
-/// The tokens of a text that are left, from left to right, and behind them the end of the text. It takes no memory.
+/// The tokens of a text that are left, from left to right, and after them the end of the text. It takes no memory.
 #[derive(Drop)]
 pub struct Terms<'a, S: TokenSort> {
     lexemes: Lexemes<'a>,

@@ -6,7 +6,7 @@ ghost use Rattle.text_lines.specs.Fields.{field};
 use itoa::{Buffer, Integer};
 use std::alloc::AllocError;
 
-/// Appends a word and the byte behind it.
+/// Appends a word and the byte after it.
 #[tactic(auto, unfolding(crate::specs::Fields::field))]
 pub fn push_word(out: &mut Vec<u8>, word: &[u8], mark: u8) -> Result<(), AllocError>
     ensures { OnOk result (out.new.items ≡ out.old.items ++ field word.now mark) }
@@ -16,7 +16,7 @@ pub fn push_word(out: &mut Vec<u8>, word: &[u8], mark: u8) -> Result<(), AllocEr
     Ok(())
 }
 
-/// Appends a whole number, and nothing behind it.
+/// Appends a whole number, and nothing after it.
 pub fn push_bare_number<I: Integer>(out: &mut Vec<u8>, number: I) -> Result<(), AllocError>
     ensures { OnOk result (out.new.items ≡ out.old.items ++ I.text number) }
 {
@@ -25,7 +25,7 @@ pub fn push_bare_number<I: Integer>(out: &mut Vec<u8>, number: I) -> Result<(), 
     Ok(())
 }
 
-/// Appends a whole number and the byte behind it.
+/// Appends a whole number and the byte after it.
 #[tactic(auto, unfolding(crate::specs::Fields::field))]
 pub fn push_number<I: Integer>(out: &mut Vec<u8>, number: I, mark: u8) -> Result<(), AllocError>
     ensures { OnOk result (out.new.items ≡ out.old.items ++ field (I.text number) mark) }

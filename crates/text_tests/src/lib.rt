@@ -1,4 +1,4 @@
-//! Tests of linked texts: which are read, and what the others are refused by. Nothing stands on this crate.
+//! Tests of linked texts: which are read, and what the others are refused by. No crate depends on this one.
 #![tactic(auto)]
 
 #[cfg(test)]

@@ -4,7 +4,7 @@ use crate::answer::compare;
 use std::alloc::{AllocError, Global};
 use std::test::Fail;
 
-/// Appends a line so many times.
+/// Appends a line this many times.
 fn push_times(out: &mut String, line: &str, count: u32) -> Result<(), AllocError> {
     for _ in 0..count {
         out.push_str(line)?;
@@ -20,7 +20,7 @@ fn push_given(out: &mut String, arcs: u32) -> Result<(), AllocError> {
     Ok(())
 }
 
-/// A text of two nets, a and b, with so many couplings each, and with so many arcs from a, to a itself and to b.
+/// A text of two nets, a and b, with this many couplings each, and with this many arcs from a, to a itself and to b.
 fn coupled(
     alloc: Global,
     a_couplings: u32,

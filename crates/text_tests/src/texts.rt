@@ -19,7 +19,7 @@ pub const ONE: &str = "\
     fall quiet\n\
     end\n";
 
-/// Lines of each kind: a clock, and an input that drives a gate behind which there is a flop, and a port.
+/// Lines of each kind: a clock, and an input that drives a gate with a flop after it, and a port.
 pub const EACH_KIND: &str = "\
     xtalk-design 2\n\
     counts 2 3 4\n\

@@ -31,7 +31,7 @@ fn texts_are_read_or_refused(rt: HostRuntime) -> Result<(), Fail> {
     Ok(())
 }
 
-/// Compares a front of a text of so many whole lines with what is wanted of it: the line behind them.
+/// Compares a front of a text of this many whole lines with what is wanted of it: the line after them.
 fn compare_front(rt: &impl Abort, alloc: Global, front: &str, lines: u32) -> Result<(), Fail> {
     let line = lines.saturating_add(1);
     let want = format!(in alloc; "X1 {line}")?;

@@ -3,36 +3,36 @@
 pub enum Context {
     /// The start of the text: a module.
     Start,
-    /// Behind `endmodule`: a further module, or the end of the text.
+    /// After `endmodule`: a further module, or the end of the text.
     BehindModule,
-    /// Behind `module`: its name.
+    /// After `module`: its name.
     ModuleName,
-    /// Behind a module's name: its header's list of names, or `;`.
+    /// After a module's name: its header's list of names, or `;`.
     Header,
-    /// Behind a name of the header.
+    /// After a name of the header.
     Listed,
     /// Where a statement or `endmodule` may begin.
     Body,
-    /// Behind the left bound of a range.
+    /// After the left bound of a range.
     LeftBound,
-    /// Behind the right bound of a range.
+    /// After the right bound of a range.
     RightBound,
-    /// Behind a declared name.
+    /// After a declared name.
     Declared,
-    /// Behind an instance's name.
+    /// After an instance's name.
     Opening,
-    /// Behind the `(` of an instance.
+    /// After the `(` of an instance.
     Pins,
-    /// Behind the name of a pin.
+    /// After the name of a pin.
     Pin,
-    /// Behind the `(` of a pin.
+    /// After the `(` of a pin.
     Connection,
-    /// Behind the `]` of a bit.
+    /// After the `]` of a bit.
     BitGiven,
-    /// Behind the `)` of a pin.
+    /// After the `)` of a pin.
     Connected,
-    /// Behind the `)` of an instance.
+    /// After the `)` of an instance.
     Closed,
-    /// Behind the text's end.
+    /// After the text's end.
     Done,
 }

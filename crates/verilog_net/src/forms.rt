@@ -20,7 +20,7 @@ use crate::sort::Sort;
 use text_forms::{Refused, Term, Terms};
 use xt_model::Code;
 
-/// A form that was read, whose last token stands in this line.
+/// A form that was read, whose last token is in this line.
 #[inline]
 fn done(item: Item<'_>, line: u32, next: Context) -> FormRead<'_>
     ensures { whole_of result ≡ record { item = item_text item.entry; line = line; next = next } }
@@ -49,7 +49,7 @@ pub fn refused(term: Term<'_, Sort>) -> Refused
     }
 }
 
-/// What the word of a declaration makes of the names behind it.
+/// What the word of a declaration makes of the names after it.
 fn role_of(word: &[u8]) -> PortRole
     ensures { result ≡ role_of word.now }
 {
@@ -101,7 +101,7 @@ fn at_start<'a>(terms: &mut Terms<'a, Sort>) -> Result<FormRead<'a>, Refused>
     }
 }
 
-/// Behind `endmodule`.
+/// After `endmodule`.
 fn behind_module<'a>(terms: &mut Terms<'a, Sort>) -> Result<FormRead<'a>, Refused>
     ensures { Reads (λ r. (whole_of r, terms.new)) result (first_form behind_module_forms terms.old) }
 {
@@ -122,7 +122,7 @@ fn module_name<'a>(terms: &mut Terms<'a, Sort>) -> Result<FormRead<'a>, Refused>
     Ok(done(Item::ModuleName(name.text), name.line, Context::Header))
 }
 
-/// A name of the header, behind the `(` or the `,` before it.
+/// A name of the header, after the `(` or the `,` before it.
 fn header_name<'a>(
     mark: Term<'a, Sort>,
     terms: &mut Terms<'a, Sort>,
@@ -138,7 +138,7 @@ fn header_name<'a>(
     }
 }
 
-/// Behind the `)` of the header.
+/// After the `)` of the header.
 fn header_end<'a>(
     paren: Term<'a, Sort>,
     terms: &mut Terms<'a, Sort>,
@@ -154,7 +154,7 @@ fn header_end<'a>(
     }
 }
 
-/// Behind the name of a module.
+/// After the name of a module.
 fn header<'a>(terms: &mut Terms<'a, Sort>) -> Result<FormRead<'a>, Refused>
     ensures { Reads (λ r. (whole_of r, terms.new)) result (first_form header_forms terms.old) }
 {
@@ -167,7 +167,7 @@ fn header<'a>(terms: &mut Terms<'a, Sort>) -> Result<FormRead<'a>, Refused>
     }
 }
 
-/// Behind a name of the header.
+/// After a name of the header.
 fn listed<'a>(terms: &mut Terms<'a, Sort>) -> Result<FormRead<'a>, Refused>
     ensures { Reads (λ r. (whole_of r, terms.new)) result (first_form listed_forms terms.old) }
 {
@@ -216,7 +216,7 @@ fn in_body<'a>(terms: &mut Terms<'a, Sort>) -> Result<FormRead<'a>, Refused>
     }
 }
 
-/// Behind the left bound of a range.
+/// After the left bound of a range.
 fn left_bound<'a>(terms: &mut Terms<'a, Sort>) -> Result<FormRead<'a>, Refused>
     ensures { Reads (λ r. (whole_of r, terms.new)) result (first_form left_bound_forms terms.old) }
 {
@@ -225,7 +225,7 @@ fn left_bound<'a>(terms: &mut Terms<'a, Sort>) -> Result<FormRead<'a>, Refused>
     Ok(done(Item::Right(number.text), number.line, Context::RightBound))
 }
 
-/// Behind the right bound of a range.
+/// After the right bound of a range.
 fn right_bound<'a>(terms: &mut Terms<'a, Sort>) -> Result<FormRead<'a>, Refused>
     ensures { Reads (λ r. (whole_of r, terms.new)) result (first_form right_bound_forms terms.old) }
 {
@@ -234,7 +234,7 @@ fn right_bound<'a>(terms: &mut Terms<'a, Sort>) -> Result<FormRead<'a>, Refused>
     Ok(done(Item::Further(name.text), name.line, Context::Declared))
 }
 
-/// Behind a declared name.
+/// After a declared name.
 fn declared<'a>(terms: &mut Terms<'a, Sort>) -> Result<FormRead<'a>, Refused>
     ensures { Reads (λ r. (whole_of r, terms.new)) result (first_form declared_forms terms.old) }
 {
@@ -249,7 +249,7 @@ fn declared<'a>(terms: &mut Terms<'a, Sort>) -> Result<FormRead<'a>, Refused>
     }
 }
 
-/// Behind the name of an instance.
+/// After the name of an instance.
 fn opening<'a>(terms: &mut Terms<'a, Sort>) -> Result<FormRead<'a>, Refused>
     ensures { Reads (λ r. (whole_of r, terms.new)) result (first_form opening_forms terms.old) }
 {
@@ -261,7 +261,7 @@ fn opening<'a>(terms: &mut Terms<'a, Sort>) -> Result<FormRead<'a>, Refused>
     }
 }
 
-/// Behind the `(` of an instance.
+/// After the `(` of an instance.
 fn pins<'a>(terms: &mut Terms<'a, Sort>) -> Result<FormRead<'a>, Refused>
     ensures { Reads (λ r. (whole_of r, terms.new)) result (first_form pins_forms terms.old) }
 {
@@ -279,7 +279,7 @@ fn pins<'a>(terms: &mut Terms<'a, Sort>) -> Result<FormRead<'a>, Refused>
     }
 }
 
-/// Behind the name of a pin.
+/// After the name of a pin.
 fn pin<'a>(terms: &mut Terms<'a, Sort>) -> Result<FormRead<'a>, Refused>
     ensures { Reads (λ r. (whole_of r, terms.new)) result (first_form pin_forms terms.old) }
 {
@@ -287,7 +287,7 @@ fn pin<'a>(terms: &mut Terms<'a, Sort>) -> Result<FormRead<'a>, Refused>
     Ok(done(Item::Nothing, paren.line, Context::Connection))
 }
 
-/// Behind the `[` of a bit to which a pin is connected.
+/// After the `[` of a bit to which a pin is connected.
 fn bit<'a>(
     bus: Term<'a, Sort>,
     bracket: Term<'a, Sort>,
@@ -308,7 +308,7 @@ fn bit<'a>(
     }
 }
 
-/// Behind a name to which a pin is connected.
+/// After a name to which a pin is connected.
 fn net_or_bit<'a>(
     name: Term<'a, Sort>,
     terms: &mut Terms<'a, Sort>,
@@ -324,7 +324,7 @@ fn net_or_bit<'a>(
     }
 }
 
-/// Behind the `(` of a pin.
+/// After the `(` of a pin.
 fn connection<'a>(terms: &mut Terms<'a, Sort>) -> Result<FormRead<'a>, Refused>
     ensures { Reads (λ r. (whole_of r, terms.new)) result (first_form connection_forms terms.old) }
 {
@@ -341,7 +341,7 @@ fn connection<'a>(terms: &mut Terms<'a, Sort>) -> Result<FormRead<'a>, Refused>
     }
 }
 
-/// Behind the `]` of a bit.
+/// After the `]` of a bit.
 fn bit_given<'a>(terms: &mut Terms<'a, Sort>) -> Result<FormRead<'a>, Refused>
     ensures { Reads (λ r. (whole_of r, terms.new)) result (first_form bit_given_forms terms.old) }
 {
@@ -349,7 +349,7 @@ fn bit_given<'a>(terms: &mut Terms<'a, Sort>) -> Result<FormRead<'a>, Refused>
     Ok(done(Item::Nothing, paren.line, Context::Connected))
 }
 
-/// Behind the `,` of a pin.
+/// After the `,` of a pin.
 fn further_pin<'a>(
     comma: Term<'a, Sort>,
     terms: &mut Terms<'a, Sort>,
@@ -370,7 +370,7 @@ fn further_pin<'a>(
     }
 }
 
-/// Behind the `)` of a pin.
+/// After the `)` of a pin.
 fn connected<'a>(terms: &mut Terms<'a, Sort>) -> Result<FormRead<'a>, Refused>
     ensures { Reads (λ r. (whole_of r, terms.new)) result (first_form connected_forms terms.old) }
 {
@@ -382,7 +382,7 @@ fn connected<'a>(terms: &mut Terms<'a, Sort>) -> Result<FormRead<'a>, Refused>
     }
 }
 
-/// Behind the `)` of an instance.
+/// After the `)` of an instance.
 fn closed<'a>(terms: &mut Terms<'a, Sort>) -> Result<FormRead<'a>, Refused>
     ensures { Reads (λ r. (whole_of r, terms.new)) result (first_form closed_forms terms.old) }
 {
@@ -398,7 +398,7 @@ fn closed<'a>(terms: &mut Terms<'a, Sort>) -> Result<FormRead<'a>, Refused>
     }
 }
 
-/// Behind the end of the text.
+/// After the end of the text.
 fn at_end<'a>(terms: &mut Terms<'a, Sort>) -> Result<FormRead<'a>, Refused>
     ensures { Reads (λ r. (whole_of r, terms.new)) result (first_form [] terms.old) }
 {

@@ -6,7 +6,7 @@ use std::alloc::{AllocError, Global};
 use std::marker::Model;
 use std::rc::Rc;
 
-/// So many bytes stand in the name itself.
+/// This many bytes are in the name itself.
 const SHORT: usize = 14;
 
 /// The bytes of a name. Most names are short, and take no memory beside the value; those of a long one can be shared.

@@ -54,7 +54,7 @@ fn closed_number(bytes: &[u8]) -> Option<u32>
     }
 }
 
-/// Where the `[` of a bit's name stands, and the number of the bit.
+/// Where the `[` of a bit's name is, and the number of the bit.
 fn bit_place(name: &[u8]) -> Option<(usize, u32)>
     ensures value { result ≡ bit_from 0 name.now }
     ensures within { IfSome result (λ p. p.0 < length name.now) }

@@ -6,7 +6,7 @@ ghost use Rattle.verilog_net.specs.Ports.{bits_of, port_of};
 use crate::netlist::{Net, Netlist, PortRole};
 use crate::nets::named_bit;
 
-/// What stands for a name: the bits of a net from `first` to `last`, each number as the range of a bus has it, and
+/// What a name denotes: the bits of a net from `first` to `last`, each number as the range of a bus has it, and
 /// 0 for a net without a range; or nothing. `decl` is the number of the net.
 #[derive(Clone, Copy, Debug, PartialEq, Eq)]
 pub enum PortFound {

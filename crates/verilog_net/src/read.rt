@@ -74,13 +74,13 @@ fn modules(alloc: Global, single: bool, bytes: &[u8]) -> Result<Vec<Netlist>, Te
 /// The modules of a structural Verilog text, in its order, or its first refusal, at the line of the token that shows
 /// it.
 ///
-/// `V1` is a token that does not fit, a byte that may not stand where it stands, or a name of no byte or of more than
+/// `V1` is a token that does not fit, a byte that is not allowed where it is, or a name of no byte or of more than
 /// 1,024; `V2` a text, a comment or an attribute that ends early, at the last line. `V3` is a part of the language that
 /// is not read, such as `assign`, a part select or an ordered connection, or a second declaration of a name with
 /// another range or the other direction; `V4` a bit of a name that is not declared or, at `endmodule`, a name of the
 /// header without a direction; `V5` a name of a module, of an instance in its module or of a pin in its instance that
-/// stands twice; `V6` a bit outside its range or of a declared name without one, or a bound above 1,048,575. A fault of
-/// the tokens comes before all others. Without memory the answer is `NoMemory`. Takes time and memory linear in the
+/// is there twice; `V6` a bit outside its range or of a declared name without one, or a bound above 1,048,575. A fault
+/// of the tokens comes before all others. Without memory the answer is `NoMemory`. Takes time and memory linear in the
 /// bytes.
 pub fn read_modules(alloc: Global, bytes: &[u8]) -> Result<Modules, TextFault>
     requires { length bytes.now ≤ MOST_BYTES }
@@ -93,7 +93,7 @@ pub fn read_modules(alloc: Global, bytes: &[u8]) -> Result<Modules, TextFault>
 }
 
 /// The one module of a structural Verilog text, or its first refusal: those of `read_modules`, and `V3` also at a
-/// second module and at the `)` behind a whole bus as a connection. `NoMemory`, time and memory are as there.
+/// second module and at the `)` after a whole bus as a connection. `NoMemory`, time and memory are as there.
 pub fn read_netlist(alloc: Global, bytes: &[u8]) -> Result<Netlist, TextFault>
     requires { length bytes.now ≤ MOST_BYTES }
     ensures { Gives (λ m. m) result (netlist_of_text bytes.now) }

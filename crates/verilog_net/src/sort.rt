@@ -79,7 +79,7 @@ fn is_unsupported(word: &[u8]) -> bool
                                     || word == b"generate".as_slice())))))))
 }
 
-/// What bytes are that stand where a name may stand.
+/// What the bytes in the place of a name are.
 #[inline]
 fn name_sort(name: &[u8]) -> Sort
     ensures { result ≡ name_sort name.now }
@@ -91,7 +91,7 @@ fn name_sort(name: &[u8]) -> Sort
     }
 }
 
-/// What digits are, by what stands behind the first of them.
+/// What digits are, by what comes after the first of them.
 #[inline]
 fn digits_sort(more: &[u8]) -> Sort
     ensures { result ≡ digits_sort more.now }

@@ -14,7 +14,7 @@ pub struct FaultCounts {
 }
 
 impl FaultCounts {
-    /// No faults yet of so many files.
+    /// No faults yet of this many files.
     pub fn new(alloc: Global, files: usize) -> Result<FaultCounts, AllocError>
         ensures { IfOk result (λ counts. (counts.files.items ≡ replicate files 0) × (counts.others ≡ 0)) }
     {

@@ -6,7 +6,7 @@ use crate::failed::Failed;
 
 /// Files that are opened and read by name, one at a time.
 ///
-/// An implementation says what each name holds, where that is known; where its reader stands; and how many faults
+/// An implementation says what each name holds, where that is known; where its reader is; and how many faults
 /// each name had, a count that stays at the last value of a `u64` once that is reached.
 pub trait Files {
     ghost content: { Self → List ℕ → Option (List ℕ) };

@@ -30,7 +30,7 @@ pub fn is_white(byte: u8) -> bool
     is_blank(byte) || is_newline(byte)
 }
 
-/// Whether a byte may stand only in comments and quoted strings.
+/// Whether a byte is allowed only in comments and quoted strings.
 #[inline]
 pub fn is_foreign(byte: u8) -> bool
     ensures { result ≡ is_foreign byte }
@@ -49,7 +49,7 @@ pub fn begins(first: u8, bytes: &[u8]) -> bool
     }
 }
 
-/// Whether `/*` stands where this byte has these behind it.
+/// Whether `/*` is where this byte has these after it.
 #[inline]
 pub fn opens_comment(byte: u8, more: &[u8]) -> bool
     ensures value { result ≡ opens_comment byte more.now }
@@ -58,7 +58,7 @@ pub fn opens_comment(byte: u8, more: &[u8]) -> bool
     byte == b'/' && begins(b'*', more)
 }
 
-/// Whether a backslash stands before a newline where this byte has these behind it.
+/// Whether a backslash comes before a newline where this byte has these after it.
 #[inline]
 pub fn joins_lines(byte: u8, more: &[u8]) -> bool
     ensures value { result ≡ joins_lines byte more.now }
@@ -67,7 +67,7 @@ pub fn joins_lines(byte: u8, more: &[u8]) -> bool
     byte == b'\\' && begins(b'\n', more)
 }
 
-/// The bytes behind the first one.
+/// The bytes after the first one.
 #[inline]
 pub fn behind_first(bytes: &[u8]) -> &[u8]
     ensures { result.now ≡ drop 1 bytes.now }
@@ -78,7 +78,7 @@ pub fn behind_first(bytes: &[u8]) -> &[u8]
     }
 }
 
-/// The line behind bytes that begin in this line.
+/// The line after bytes that begin in this line.
 #[inline]
 pub fn line_behind(bytes: &[u8], line: u32) -> u32
     requires { line + length bytes.now < 2 ^ 32 }

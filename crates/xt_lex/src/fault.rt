@@ -12,7 +12,7 @@ pub enum LexFault {
     /// A string, a comment, an attribute or a braced word is open at the text's end; this is its last line.
     #[error("line {0}: the text ends within a token or a comment")]
     Unended(u32),
-    /// A byte that may stand only in comments and quoted strings stands elsewhere; this is the line of the first one.
+    /// A byte that is allowed only in comments and quoted strings is elsewhere; this is the line of the first one.
     #[error("line {0}: a byte that may not stand here")]
     Byte(u32),
     #[error("out of memory")]

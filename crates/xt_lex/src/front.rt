@@ -9,7 +9,7 @@ use crate::bytes::{behind_first, is_newline};
 use crate::class::Class;
 use crate::runs::past_pair;
 
-/// The piece at the front of some bytes: its class, how many bytes it has behind its first one, and whether a line of
+/// The piece at the front of some bytes: its class, how many bytes it has after its first one, and whether a line of
 /// Verilog or a command of SDC begins where it ends.
 #[derive(Clone, Copy)]
 pub struct Front {
@@ -19,7 +19,7 @@ pub struct Front {
 }
 
 impl Front {
-    /// A piece of this class with so many bytes behind its first one.
+    /// A piece of this class with this many bytes after its first one.
     #[inline]
     pub fn piece(class: Class, inner: usize) -> Front
         ensures { result ≡ piece class inner }
@@ -31,7 +31,7 @@ impl Front {
         }
     }
 
-    /// A piece that ends so many bytes behind its opening, or an unclosed one up to the end of the `rest`.
+    /// A piece that ends this many bytes after its opening, or an unclosed one up to the end of the `rest`.
     #[inline]
     pub fn enclosed(
         closed: Class,

@@ -1,6 +1,6 @@
 //! The tokens of Liberty, Verilog, SPEF and SDC texts.
 //!
-//! A text is cut into pieces from left to right: where a piece ended, the one that stands there is the next. White
+//! A text is cut into pieces from left to right: where a piece ended, the one that is there is the next. White
 //! space, comments, attributes and directives are pieces beside the tokens. Each rule set is one function from the
 //! bytes that are left to the piece at their front; cutting, lines, faults and spans are the same for all four.
 #![tactic(auto)]

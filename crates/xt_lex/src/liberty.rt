@@ -38,7 +38,7 @@ fn past_quote(bytes: &[u8]) -> Option<usize>
     None
 }
 
-/// Whether a word ends before a byte that has these behind it.
+/// Whether a word ends before a byte that has these after it.
 #[inline]
 fn ends_word(byte: u8, more: &[u8]) -> bool
     ensures { result ≡ ends_liberty_word byte more.now }

@@ -59,7 +59,7 @@ pub fn front_by(rules: Rules, fresh: bool, first: u8, more: &[u8]) -> Front
     }
 }
 
-/// The line behind a piece that begins in this line.
+/// The line after a piece that begins in this line.
 #[inline(always)]
 fn line_past(class: Class, text: &[u8], line: u32) -> u32
     requires fits { line + length text.now < 2 ^ 32 }

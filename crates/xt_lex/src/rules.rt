@@ -16,10 +16,10 @@ pub enum Rules {
     /// skipped. An open string or comment is a fault.
     Liberty,
     /// `Word` is an identifier (a letter or `_`, then letters, digits, `_` and `$`), a constant (`1'`, one of
-    /// `b h d o` in either case, `0` or `1`) or else the longest run of digits; its first byte, and behind a `1` its
-    /// second one, show which. `Escaped` is a backslash and the printable bytes behind it, perhaps none. Every other
+    /// `b h d o` in either case, `0` or `1`) or else the longest run of digits; its first byte, and after a `1` its
+    /// second one, show which. `Escaped` is a backslash and the printable bytes after it, perhaps none. Every other
     /// printable byte is a `Mark`. `//` and `/* */` comments are skipped, and so are attributes from `(*` to the
-    /// first `*)` behind it and lines whose first byte is a backtick, which are no comments: a byte beyond ASCII is
+    /// first `*)` after it and lines whose first byte is a backtick, which are no comments: a byte beyond ASCII is
     /// a fault there. An open comment or attribute is a fault.
     Verilog,
     /// `Text` is a string from a double quote at a token's start to the next one, `Word` the longest run of printable
@@ -29,8 +29,8 @@ pub enum Rules {
     /// `Break` is a newline or `;`: a command ends there. `Text` is a word in double quotes, up to the next one, and
     /// `Escaped` a word in braces, up to the next `}`, both over lines too. `Mark` is a `[` at a word's start or a
     /// `]` that closes no `[` of a bare word. `Word` is a bare word: printable bytes up to white space, `;` or such
-    /// a `]`; a `[` behind its first byte takes what follows up to the next `]` into the word, and where none comes
-    /// before white space or `;` the word has a `[` behind its last `]`. `#` where a command begins is a comment to
+    /// a `]`; a `[` after its first byte takes what follows up to the next `]` into the word, and where none comes
+    /// before white space or `;` the word has a `[` after its last `]`. `#` where a command begins is a comment to
     /// the line's end. A backslash before a newline is white space, and a comment goes on over it. Open braces and
     /// quotes are a fault. A reader refuses, as words that do not fit: a word with such an open `[`; brackets that
     /// do not match; and a token that begins where a `Text`, an `Escaped` or a `]` ended (its `from` is their `to`),

@@ -26,7 +26,7 @@ pub fn past_byte(last: u8, bytes: &[u8]) -> Option<usize>
     None
 }
 
-/// Whether such a pair of bytes stands where this byte has these behind it.
+/// Whether such a pair of bytes is where this byte has these after it.
 #[inline]
 fn is_pair(left: u8, right: u8, byte: u8, more: &[u8]) -> bool
     ensures value { result ≡ is_pair left right byte more.now }

@@ -28,7 +28,7 @@ fn to_line_end(bytes: &[u8]) -> usize
     passed
 }
 
-/// Whether a bare word ends before a byte that has these behind it.
+/// Whether a bare word ends before a byte that has these after it.
 #[inline]
 fn ends_word(in_bit: bool, byte: u8, more: &[u8]) -> bool
     ensures { result ≡ ends_bare_word in_bit byte more.now }
@@ -37,7 +37,7 @@ fn ends_word(in_bit: bool, byte: u8, more: &[u8]) -> bool
         || (byte == b';' || (joins_lines(byte, more) || !in_bit && byte == b']'))
 }
 
-/// Whether a `[` of a bare word is open behind this byte.
+/// Whether a `[` of a bare word is open after this byte.
 #[inline]
 fn in_bit_after(in_bit: bool, byte: u8) -> bool
     ensures { result ≡ in_bit_after in_bit byte }
@@ -65,7 +65,7 @@ fn word_rest(bytes: &[u8]) -> usize
     passed
 }
 
-/// White space, behind which a command begins if one began before it.
+/// White space, after which a command begins if one began before it.
 #[inline]
 fn blank(fresh: bool, inner: usize) -> Front
     ensures { result ≡ blank fresh inner }
@@ -77,7 +77,7 @@ fn blank(fresh: bool, inner: usize) -> Front
     }
 }
 
-/// The piece at the front of an SDC text, where `fresh` says that a command begins there or behind blanks.
+/// The piece at the front of an SDC text, where `fresh` says that a command begins there or after blanks.
 #[tactic(auto, unfolding(crate::specs::Sdc::sdc_front))]
 #[inline(always)]
 pub fn sdc_front(fresh: bool, first: u8, more: &[u8]) -> Front

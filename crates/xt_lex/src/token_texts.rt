@@ -55,7 +55,7 @@ impl<'a> Lexemes<'a> {
     ghost use Rattle.xt_lex.specs.Tokens.{token_texts, IsTextOf};
     ghost use Rattle.xt_lex.specs.View.{text_of};
 
-    /// The tokens of a text. Where it has a fault, they go on behind it: look for the fault first.
+    /// The tokens of a text. Where it has a fault, they go on after it: look for the fault first.
     pub fn new(bytes: &'a [u8], rules: Rules) -> Lexemes<'a>
         requires { length bytes.now ≤ MOST_BYTES }
         ensures tokens { result ≡ token_texts rules bytes.entry.now }

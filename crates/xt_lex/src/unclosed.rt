@@ -1,4 +1,4 @@
-//! Whether something stands open at a text's end.
+//! Whether something is open at a text's end.
 
 ghost use Rattle.std.specs.Prelude.{◌≡◌, ℕ, ◌≤◌, false, length, drop};
 ghost use Rattle.std.specs.List.{list_any};
@@ -22,7 +22,7 @@ fn openings(rules: Rules) -> (u8, u8)
     }
 }
 
-/// The number of bytes up to and with the last such byte: no piece that begins behind them is left open.
+/// The number of bytes up to and with the last such byte: no piece that begins after them is left open.
 fn past_openings(bytes: &[u8], rules: Rules) -> usize
     ensures within { result ≤ length bytes.now }
     ensures none { list_any (is_opening rules) (drop result bytes.now) ≡ false }

@@ -34,7 +34,7 @@ fn is_base(byte: u8) -> bool
     matches!(byte, b'b' | b'h' | b'd' | b'o' | b'B' | b'H' | b'D' | b'O')
 }
 
-/// Whether a constant stands where a `1` stands before these bytes.
+/// Whether a `1` before these bytes begins a constant.
 #[inline]
 fn is_constant(more: &[u8]) -> bool
     ensures value { result ≡ is_constant more.now }
@@ -65,7 +65,7 @@ fn digits(more: &[u8]) -> usize
     more.iter().take_while(|byte| byte.is_ascii_digit()).count()
 }
 
-/// An attribute, where `more` begins at the `*` behind its `(`.
+/// An attribute, where `more` begins at the `*` after its `(`.
 #[inline(always)]
 fn attribute(more: &[u8]) -> Front
     requires { 0 < length more.now }

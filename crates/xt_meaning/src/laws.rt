@@ -63,7 +63,7 @@ pub fn either_bound_respects()
     ensures { EitherBoundRespects }
 {}
 
-/// Where a bound crosses no barrier, no bound behind it does.
+/// Where a bound crosses no barrier, no bound that is no further crosses one.
 pub fn earlier_bound_respects()
     ensures { EarlierBoundRespects }
 {}

@@ -14,12 +14,12 @@ pub fn no_further_is_by_words()
     ensures { NoFurtherIsByWords }
 {}
 
-/// Numbers from 0 to 2^63 stand for the bounds from -2^62 to 2^62, in their order.
+/// Numbers from 0 to 2^63 denote the bounds from -2^62 to 2^62, in their order.
 pub fn numbers_are_bounds()
     ensures { NumbersAreBounds }
 {}
 
-/// The numbers of windows stand for their bounds, eight for each net.
+/// The numbers of windows denote their bounds, eight for each net.
 pub fn numbers_are_windows()
     ensures { NumbersAreWindows }
 {}

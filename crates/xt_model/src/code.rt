@@ -1,7 +1,7 @@
-/// Why a text is refused: one code for each cause, by format. The line of the cause stands beside it.
+/// Why a text is refused: one code for each cause, by format. The line of the cause is beside it.
 #[derive(Clone, Copy, Debug, PartialEq, Eq)]
 pub enum Code {
-    /// Of a library: a token that does not fit, a `{` too deep, or a name that is none.
+    /// Of a library: a token that does not fit, a `{` too deep, or a name that is not allowed.
     L1,
     /// Of a library: the text ends too early.
     L2,
@@ -61,7 +61,7 @@ pub enum Code {
     C5,
     /// Of constraints: a port or a clock that is not there.
     C6,
-    /// Of edits: words that do not fit, or a line too many, missing or behind the end.
+    /// Of edits: words that do not fit, or a line too many, missing or after the end.
     E1,
     /// Of edits: a number that cannot be taken.
     E2,

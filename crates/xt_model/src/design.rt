@@ -39,7 +39,8 @@ impl Design {
     ghost use Rattle.xt_model.specs.Miller.{IsMiller};
     ghost use Rattle.xt_model.specs.Parts.{Parts, classical_parts};
     ghost use Rattle.xt_model.specs.Sound.{IsSound, IsSoundNet};
-    ghost use Rattle.xt_model.specs.Levels.{AreLevels, AreLevelled, AreOrdered, IsLoop, IsLevel, IsDepth, IsOrder, IsPairCount};
+    ghost use Rattle.xt_model.specs.Levels.{AreLevels, AreLevelled, AreOrdered, IsLoop, IsLevel};
+    ghost use Rattle.xt_model.specs.Levels.{IsDepth, IsOrder, IsPairCount};
     ghost use Rattle.xt_model.specs.Build.{IsFaultOf, IsRoundBound};
 
     /// The design of these parts, whose couplings count by the classical factors, or the loop that their

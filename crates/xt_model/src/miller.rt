@@ -2,7 +2,7 @@ use crate::limits::MOST_FACTOR;
 use std::marker::Model;
 
 /// The factors by which a coupling capacitor counts, in quarters: where the aggressor switches the same
-/// way at the same time, where it stands still, and where it switches the other way.
+/// way at the same time, where it is quiet, and where it switches the other way.
 #[derive(Clone, Copy, Debug, PartialEq, Eq)]
 pub struct Miller {
     low: u8,
@@ -74,7 +74,7 @@ impl Miller {
         self.low
     }
 
-    /// The factor where the aggressor stands still, in quarters.
+    /// The factor where the aggressor is quiet, in quarters.
     pub fn mid(&self) -> u8
         ensures value { result ≡ self.now.mid }
         ensures sound { IsMiller self.now }

@@ -3,7 +3,7 @@ use std::alloc::{AllocError, Global};
 use std::marker::Model;
 
 /// A name of a net, a sink or a check: 1 to 2,049 bytes of printable ASCII without white space. One of at most 16
-/// bytes stands in the value itself and takes no other memory.
+/// bytes is in the value itself and takes no other memory.
 #[derive(Debug, Drop)]
 pub struct Name {
     bytes: SmallVec<u8, 16>,

@@ -2,7 +2,7 @@ use crate::row::Row;
 use std::marker::Model;
 
 /// A look-up table of a cell: delays or slews in fs over input slews in fs and loads in aF. The values
-/// stand row by row, one row per slew.
+/// are row by row, one row per slew.
 #[derive(Debug, Drop)]
 pub struct Table {
     slews: Row<i64>,

@@ -125,7 +125,7 @@ impl Walk {
 }
 
 impl Walk {
-    /// The next input without a level of the net at the end of the path, after which the net's cursor stands.
+    /// The next input without a level of the net at the end of the path, after which the net's cursor is.
     fn next_input(&mut self, nets: &[Net], net: u32) -> Option<u32>
         requires walk { IsWalkOf nets.now self.old }
         requires inputs { AreInputsThere nets.now }

@@ -11,7 +11,7 @@ use std::marker::Model;
 /// The bytes that any printed number has room in: a sign, 40 digits, a point and three digits.
 const ROOM: usize = 45;
 
-/// A printed number. It stands at the end of its room, since it is written from the last byte to the first.
+/// A printed number. It is at the end of its room, since it is written from the last byte to the first.
 #[derive(Drop)]
 pub struct Digits {
     buffer: [u8; ROOM],
@@ -80,7 +80,7 @@ fn digit(value: u32) -> u8
     b'0' + value as u8
 }
 
-/// A point and so many thousandths behind it.
+/// A point and this many thousandths after it.
 fn fraction(thousandths: u32) -> Digits
     requires { thousandths < 1000 }
     ensures value { result ≡ 46 ∷ three_digits thousandths }
@@ -94,7 +94,7 @@ fn fraction(thousandths: u32) -> Digits
     digits
 }
 
-/// So many thousandths of 64 bits.
+/// This many thousandths of 64 bits.
 fn short_size(size: u64) -> Digits
     ensures value { result ≡ size_text size }
     ensures short { length result ≤ 24 }
@@ -104,7 +104,7 @@ fn short_size(size: u64) -> Digits
     digits
 }
 
-/// So many thousandths of any size.
+/// This many thousandths of any size.
 fn long_size(size: u128) -> Digits
     ensures value { result ≡ size_text size }
     ensures short { length result ≤ 44 }
@@ -115,7 +115,7 @@ fn long_size(size: u128) -> Digits
     digits
 }
 
-/// A count of thousandths, with three digits behind the point.
+/// A count of thousandths, with three digits after the point.
 #[tactic(auto, unfolding(crate::specs::Thousandths::thousandths))]
 fn print_thousandths(count: i128) -> Digits
     ensures { result ≡ thousandths count }

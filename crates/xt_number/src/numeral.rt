@@ -27,7 +27,7 @@ pub struct Numeral<'a> {
 }
 
 impl Numeral<'_> {
-    /// Whether a digit stands before the exponent.
+    /// Whether a digit comes before the exponent.
     fn has_digit(&self) -> bool
         ensures { result ≡ has_digit (view self.now) }
     {
@@ -57,7 +57,7 @@ impl Numeral<'_> {
     }
 }
 
-/// The number that digits write behind those of `start`, or None from `limit` on.
+/// The number that digits write after those of `start`, or None from `limit` on.
 fn value_below(start: u128, digits: &[u8], limit: u128) -> Option<u128>
     requires start { start < limit }
     requires limit { limit ≤ 10 ^ 30 }
@@ -95,7 +95,7 @@ pub fn with_sign(negative: bool, size: u128) -> i128
     if negative { -size } else { size }
 }
 
-/// Whether a `-` stands in front, and the bytes behind the sign.
+/// Whether a `-` is in front, and the bytes after the sign.
 #[tactic(auto, unfolding(crate::specs::Reading::signed_at))]
 fn split_sign(text: &[u8]) -> (bool, &[u8])
     ensures { (result.0, result.1.now) ≡ signed_at text.now }
@@ -107,7 +107,7 @@ fn split_sign(text: &[u8]) -> (bool, &[u8])
     }
 }
 
-/// How many digits stand in front.
+/// How many digits are in front.
 fn count_digits(text: &[u8]) -> usize
     ensures count { result ≡ prefix_len is_ascii_digit text.now }
     ensures within { result ≤ length text.now }
@@ -115,7 +115,7 @@ fn count_digits(text: &[u8]) -> usize
     text.iter().take_while(|byte| byte.is_ascii_digit()).count()
 }
 
-/// The digits in front, and the bytes behind them.
+/// The digits in front, and the bytes after them.
 fn split_digits(text: &[u8]) -> (&[u8], &[u8])
     ensures front { result.0.now ≡ (digits_at text.now).0 }
     ensures back { result.1.now ≡ (digits_at text.now).1 }
@@ -123,8 +123,8 @@ fn split_digits(text: &[u8]) -> (&[u8], &[u8])
     text.split_at(count_digits(text))
 }
 
-/// The digits behind a point in front, and the bytes behind them, or None where the point has no
-/// digit behind it.
+/// The digits after a point in front, and the bytes after them, or None where the point has no
+/// digit after it.
 #[tactic(auto, unfolding(crate::specs::Reading::fraction_at))]
 fn split_fraction(text: &[u8]) -> Option<(&[u8], &[u8])>
     ensures { Gives (λ x. (x.0.now, x.1.now)) result (fraction_at text.now) }
@@ -156,7 +156,7 @@ fn has_digits_only(text: &[u8]) -> bool
     !text.is_empty() && are_digits(text)
 }
 
-/// The sign and the digits of the exponent that the text is, or None where it is none. No text is
+/// The sign and the digits of the exponent that the text is, or None where it is not one. No text is
 /// an exponent of no digits.
 #[tactic(auto, unfolding(crate::specs::Reading::exponent_at))]
 fn split_exponent(text: &[u8]) -> Option<(bool, &[u8])>

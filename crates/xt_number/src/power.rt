@@ -20,7 +20,7 @@ fn are_zeros(digits: &[u8]) -> bool
     digits.iter().all(|digit| *digit == b'0')
 }
 
-/// How many zeros stand in front.
+/// How many zeros are in front.
 fn count_zeros(digits: &[u8]) -> usize
     ensures count { result ≡ prefix_len (λ d. d == 48) digits.now }
     ensures within { result ≤ length digits.now }
@@ -36,7 +36,7 @@ fn skip_zeros(digits: &[u8]) -> &[u8]
     rest
 }
 
-/// How many zeros stand behind a one, or None where the digits are no one and zeros.
+/// How many zeros come after a one, or None where the digits are not a one and zeros.
 #[tactic(auto, unfolding(crate::specs::Value::place_at))]
 fn zeros_behind_one(digits: &[u8]) -> Option<usize>
     ensures { result ≡ place_at digits.now }
@@ -63,7 +63,7 @@ fn place_of_one(digits: &[u8]) -> Option<usize>
 }
 
 impl Numeral<'_> {
-    /// The power of ten that the mantissa is, or None where it is none.
+    /// The power of ten that the mantissa is, or None where it is not one.
     fn place(&self) -> Option<usize>
         requires whole { AllDigits 10 self.now.whole.now }
         requires fraction { AllDigits 10 self.now.fraction.now }

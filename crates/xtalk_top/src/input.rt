@@ -12,7 +12,7 @@ use std::alloc::Global;
 use xt_io::{Files, ReadFail, read_whole};
 use xt_model::Design;
 
-/// The bytes of a file, behind its name.
+/// The bytes of a file, after its name.
 pub fn read_file<F: Files>(
     alloc: Global,
     files: &mut F,

@@ -68,7 +68,7 @@ fn compare_timing(
     );
 }
 
-/// Compares the inverter: its delays stand in the tables 0 and 1, its slews in 2 and 3.
+/// Compares the inverter: its delays are in the tables 0 and 1, its slews in 2 and 3.
 fn compare_inverter(rt: &impl Abort, cell: &Cell) {
     compare_name(rt, &cell.name, "INV");
     assert!(rt; !cell.latch);
@@ -88,7 +88,7 @@ fn compare_inverter(rt: &impl Abort, cell: &Cell) {
     );
 }
 
-/// Compares the data pin: its setup stands in the tables 4 and 5, its hold in 6 and 7.
+/// Compares the data pin: its setup is in the tables 4 and 5, its hold in 6 and 7.
 fn compare_data(rt: &impl Abort, pin: &Pin) {
     compare_pin(rt, pin, "D", Role::Input, 1_000, 2);
     let numbers = (Some(4), Some(5), None, None);
@@ -111,7 +111,7 @@ fn compare_data(rt: &impl Abort, pin: &Pin) {
     );
 }
 
-/// Compares the flip-flop: its delays stand in the tables 8 and 9, its slews in 10 and 11.
+/// Compares the flip-flop: its delays are in the tables 8 and 9, its slews in 10 and 11.
 fn compare_flip_flop(rt: &impl Abort, cell: &Cell) {
     compare_name(rt, &cell.name, "DFF");
     assert!(rt; !cell.latch);
