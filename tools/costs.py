@@ -9,6 +9,13 @@ crate and after it `TIMES` with the seconds of the clock, of the user and of the
 TIMEFORMAT is 'TIMES %R %U %S'. Of several lines of a crate the dearest counts: a check that begins with what an earlier
 one kept is cheap. A minus means that nothing was measured.
 
+    python3 tools/costs.py watch PROCESS
+
+watches the checks that the process and those below it make, until it ends or this command is told to (SIGTERM), and then
+prints what they took, in processor minutes by crate, dearest first. `.ci/run` runs it beside the gate, so that growth is
+seen when it comes; what the gate keeps from an earlier run costs nothing and has no line. The last second of each check is
+not seen.
+
     python3 tools/costs.py parts [SECONDS [CRATE ..]]
 
 prints the parts of checks that took longer, 10 seconds if nothing is said: `rt check --jobs 1` keeps each part of its
@@ -16,8 +23,12 @@ work in the crate's folder out/ when the part is done, and the times of these fi
 named after the function and what was made of it: `Proof`, with its goals; `Lts`, its steps, which grow with the ways
 out of it and with what each of them drops.
 """
+import os
 import re
+import signal
 import sys
+import time
+from collections import Counter, defaultdict
 from pathlib import Path
 
 TOP = Path(__file__).resolve().parent.parent
@@ -69,6 +80,53 @@ def table(logs):
     print(f"| all | {all_lines:,} | {cells} | {whole:.1f} | {1000 * whole / max(all_lines, 1):.1f} |")
 
 
+def processes():
+    """Of each process its number, its parent, the processor ticks that it took, and its words."""
+    found = {}
+    for number in filter(str.isdigit, os.listdir("/proc")):
+        try:
+            fields = Path(f"/proc/{number}/stat").read_text().rpartition(")")[2].split()
+            words = Path(f"/proc/{number}/cmdline").read_text(errors="replace").split("\0")
+            found[int(number)] = (int(fields[1]), int(fields[11]) + int(fields[12]), words)
+        except (OSError, ValueError, IndexError):
+            continue
+    return found
+
+
+def checks_below(top, found):
+    """The checks among the processes below `top`: their number, crate, kind and ticks."""
+    for number, (parent, ticks, words) in found.items():
+        while parent in found and parent != top:
+            parent = found[parent][0]
+        if parent != top or Path(words[0]).name != "rattle" or "--crate-name" not in words:
+            continue
+        name = words[words.index("--crate-name") + 1]
+        try:
+            is_edit = os.readlink(f"/proc/{number}/cwd").startswith("/tmp/rt-edit")
+        except OSError:
+            continue
+        kind = "edits" if is_edit else "tests" if "--test" in words or name.endswith("_tests") else "proof"
+        yield number, name, kind, ticks
+
+
+def watch(top):
+    ended = []
+    signal.signal(signal.SIGTERM, lambda *_: ended.append(True))
+    taken = {}
+    while not ended and Path(f"/proc/{top}").exists():
+        for number, name, kind, ticks in checks_below(top, processes()):
+            taken[number, name, kind] = max(taken.get((number, name, kind), 0), ticks)
+        time.sleep(1)
+    costs = defaultdict(Counter)
+    for (_, name, kind), ticks in taken.items():
+        costs[name][kind] += ticks / os.sysconf("SC_CLK_TCK") / 60
+    print("processor minutes of this run by crate: all, proof, tests, edits")
+    sums = sum(costs.values(), Counter())
+    for name, cost in [*sorted(costs.items(), key=lambda it: -sum(it[1].values())), ("all", sums)]:
+        cells = " ".join(f"{cost[kind]:7.1f}" for kind in ("proof", "tests", "edits"))
+        print(f"{name:20} {sum(cost.values()):7.1f} {cells}")
+
+
 def parts(least, names):
     rows = []
     for name in names:
@@ -84,6 +142,8 @@ def parts(least, names):
 def main(words):
     if words[:1] == ["table"] and len(words) == 4:
         table(words[1:])
+    elif words[:1] == ["watch"] and len(words) == 2:
+        watch(int(words[1]))
     elif words[:1] == ["parts"]:
         parts(float(words[1]) if words[1:] else 10.0, words[2:] or crates())
     else:
