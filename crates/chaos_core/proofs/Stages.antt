@@ -21,9 +21,10 @@ use Rattle.xt_meaning.specs.Words.{bound_in, number_for, bounds_in, onward, furt
 use Rattle.xt_meaning.proofs.Numbers.{bound_there}
 use Rattle.net_eval.specs.ReadLists.{AreReadLists, ids, reads_of}
 use Rattle.chaos_core.specs.declared.worker.Stage.{Stage}
+use Rattle.chaos_core.specs.declared.worker.Stage.TheVariants.{Idle, Loading, Publishing, Finished}
 use Rattle.chaos_core.specs.declared.worker.Moved.TheVariants.{Drew, Published}
 use Rattle.chaos_core.specs.Boards.{nets_of, Knowledge, IsSeen, CanPublish, Publishes, HasPublished, Draws}
-use Rattle.chaos_core.specs.Tasks.{idle, publishing, task_at, list_of, word_to_load, evaluated, bound_at, with_loaded, moved_on}
+use Rattle.chaos_core.specs.Tasks.{Task, idle, loading, publishing, done, task_at, loaded_of, list_of, word_to_load, evaluated, bound_at, with_loaded, moved_on}
 use Rattle.chaos_core.specs.Steps.{AreLoaded, FitsPublishing, Fits, Steps}
 use Rattle.chaos_core.specs.Views.{IsLoaded}
 use Rattle.chaos_core.proofs.Places.{id_at, ids_count, order_there}
@@ -133,3 +134,19 @@ places_stay count n xs ys is same few =
     let P : ℕ → Type 0 = λ k. take k (ys ++ drop (length ys) xs) ≡ ys in
     let long : length (take n (ys ++ drop (length ys) xs)) ≡ length ys = ap length (subst P (same ∙ sym is) (take-append_seam ys (drop (length ys) xs))) in
     omega (arith, long, same, few)
+
+-- ---- what a worker that loads has loaded is what its task says
+abbrev IsLoading : Task → Type 0
+IsLoading idle = ⊥
+IsLoading (loading net numbers) = Unit {0}
+IsLoading (publishing net pair place) = ⊥
+IsLoading done = ⊥
+
+loads_at : (stage : Stage) (items : List ℕ) (net : ℕ) → task_at stage items ≡ loading net (loaded_of (task_at stage items)) → task_at stage items ≡ loading net items
+loads_at Idle items net e = absurd (subst IsLoading (sym e) tt)
+loads_at (Loading n) items net e = e
+loads_at (Publishing n pair place) items net e = absurd (subst IsLoading (sym e) tt)
+loads_at Finished items net e = absurd (subst IsLoading (sym e) tt)
+
+pub loads_there : (stage : Stage) (items : List ℕ) (net : ℕ) (t : Task) → task_at stage items ≡ t → t ≡ loading net (loaded_of t) → t ≡ loading net items
+loads_there stage items net t is = subst (λ u. u ≡ loading net (loaded_of u) → u ≡ loading net items) is (loads_at stage items net)

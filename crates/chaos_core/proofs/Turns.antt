@@ -1,6 +1,5 @@
 -- Workers on words in memory, between picks.
 use Rattle.std.proofs.Common.{◌≡◌, ℕ, zero, suc, ◌+◌, ◌<◌, ◌≤◌, refl, sym, subst, ◌∙◌, List, [], ◌∷◌, ◌++◌, length, map, set, take, get_or, arith}
-use Rattle.std.specs.Prelude.{vec_capacity}
 use Rattle.std.specs.List.{All, fold}
 use Rattle.std.proofs.lemmas.List.{take_more}
 use Rattle.std.proofs.lemmas.List.Elements.{All-set}
@@ -12,7 +11,7 @@ use Rattle.chaos_core.specs.declared.setting.Setting.{Setting}
 use Rattle.chaos_core.specs.declared.worker.Worker.{Worker}
 use Rattle.chaos_core.specs.declared.worker.Moved.{Moved}
 use Rattle.chaos_core.specs.Boards.{Knowledge}
-use Rattle.chaos_core.specs.Tasks.{Task, done, task_of}
+use Rattle.chaos_core.specs.Tasks.{Task, done, places_of, room_of, task_of}
 use Rattle.chaos_core.specs.Steps.{Fits, IsFitting, Steps}
 use Rattle.chaos_core.specs.Memories.{Memory, knowledge_of, IsKept}
 use Rattle.chaos_core.specs.Machine.{State, acted, scheduled, IsGood, IsReached, state_of, count_open}
@@ -45,15 +44,15 @@ fits_from a m lists workers own good rooms =
       task = subst (Fits (knowledge_of m) lists) (task_there workers i x h) (good'.tasks i);
     }
 
-pub room_kept : (lists : List (List NetId)) (before after : Worker) → vec_capacity after.loaded ≡ vec_capacity before.loaded → length after.places.items ≡ length before.places.items
+pub room_kept : (lists : List (List NetId)) (before after : Worker) → room_of after ≡ room_of before → places_of after ≡ places_of before
     → HasRoom lists before → HasRoom lists after
 room_kept lists before after same long h = record {
   room = λ net. let r = h.room net in omega (arith, same, r);
   places = let p = h.places in omega (arith, long, p);
 }
 
-pub rooms_set : (lists : List (List NetId)) (workers : List Worker) (pick : ℕ) (x w : Worker) → pick < length workers → vec_capacity w.loaded ≡ vec_capacity (get_or workers pick x).loaded
-    → length w.places.items ≡ length (get_or workers pick x).places.items → All (HasRoom lists) workers → All (HasRoom lists) (set workers pick w)
+pub rooms_set : (lists : List (List NetId)) (workers : List Worker) (pick : ℕ) (x w : Worker) → pick < length workers → room_of w ≡ room_of (get_or workers pick x)
+    → places_of w ≡ places_of (get_or workers pick x) → All (HasRoom lists) workers → All (HasRoom lists) (set workers pick w)
 rooms_set lists workers pick x w inside same long rooms =
     let own : HasRoom lists w = room_kept lists (get_or workers pick x) w same long (rooms pick x inside) in
     All-set (HasRoom lists) workers pick w own rooms

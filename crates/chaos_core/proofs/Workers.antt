@@ -1,6 +1,5 @@
 -- Lists of workers: which are done, and which is picked.
 use Rattle.std.proofs.Common.{◌≡◌, ℕ, zero, suc, ◌+◌, ◌-◌, ◌*◌, ◌%◌, ◌<◌, ◌≤◌, inl, inr, refl, sym, ap, subst, ◌∙◌, List, [], ◌∷◌, length, map, set, get_or, replicate, arith}
-use Rattle.std.specs.Prelude.{vec_capacity}
 use Rattle.std.specs.List.{All}
 use Rattle.std.proofs.Math.Nat.{add-mod_right}
 use Rattle.std.proofs.lemmas.Nat.{mod-mul-add}
@@ -15,7 +14,7 @@ use Rattle.chaos_core.specs.declared.setting.Setting.{Setting}
 use Rattle.chaos_core.specs.declared.worker.Worker.{Worker}
 use Rattle.chaos_core.specs.declared.worker.Moved.{Moved}
 use Rattle.chaos_core.specs.Boards.{nets_of, Knowledge}
-use Rattle.chaos_core.specs.Tasks.{Task, idle, done, task_of}
+use Rattle.chaos_core.specs.Tasks.{Task, idle, done, places_of, room_of, task_of}
 use Rattle.chaos_core.specs.Steps.{Fits, IsFitting, Steps}
 use Rattle.chaos_core.specs.Runs.{IsDone}
 use Rattle.chaos_core.specs.Memories.{Memory, knowledge_of, AreKept, IsKept}
@@ -110,8 +109,8 @@ module _ (d : Parts) (lists : List (List NetId)) (order : List ℕ) (b c : Memor
   pub one_late : count_open (map task_of workers) ≤ (knowledge_of b).late → count_open (map task_of (set workers pick w)) ≤ (knowledge_of c).late
   one_late few = pick_late b.setting lists order b c workers (set workers pick w) pick y w moved refl inside refl own_steps few
 
-  pub one_fits : AreReadLists d lists → IsOrder d.nets order → IsKept b → All (IsFitting (knowledge_of b) lists) workers → vec_capacity w.loaded ≡ vec_capacity (get_or workers pick y).loaded
-      → length w.places.items ≡ length (get_or workers pick y).places.items → All (IsFitting (knowledge_of c) lists) (set workers pick w)
+  pub one_fits : AreReadLists d lists → IsOrder d.nets order → IsKept b → All (IsFitting (knowledge_of b) lists) workers → room_of w ≡ room_of (get_or workers pick y)
+      → places_of w ≡ places_of (get_or workers pick y) → All (IsFitting (knowledge_of c) lists) (set workers pick w)
   one_fits are o kept fits room long =
       let a = b.setting in
       let s = state_of b workers in

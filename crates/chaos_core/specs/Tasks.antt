@@ -1,6 +1,6 @@
 -- What a worker is at, and what its next action makes of it.
 use Rattle.std.specs.Prelude.{ℕ, ◌+◌, ◌*◌, ◌/◌, ◌%◌, nat_lt, ◌==◌, suc, ℤ, List, [], ◌∷◌, ◌++◌, length, slice_index}
-use Rattle.std.specs.Prelude.{if◌then◌else◌, vec_capacity}
+use Rattle.std.specs.Prelude.{if◌then◌else◌}
 use Rattle.xt_model.specs.declared.edge.Edge.TheVariants.{Rise, Fall}
 use Rattle.xt_model.specs.declared.net.NetId.{NetId}
 use Rattle.xt_model.specs.declared.quad.Pair.{Pair}
@@ -12,7 +12,6 @@ use Rattle.xt_meaning.specs.Words.{bound_in}
 use Rattle.net_eval.specs.ReadLists.{ids, reads_of}
 use Rattle.chaos_core.specs.declared.worker.Stage.{Stage}
 use Rattle.chaos_core.specs.declared.worker.Stage.TheVariants.{Idle, Loading, Publishing, Finished}
-use Rattle.chaos_core.specs.declared.worker.Worker.{Worker}
 use Rattle.chaos_core.specs.declared.worker.Moved.{Moved}
 use Rattle.chaos_core.specs.declared.worker.Moved.TheVariants.{Drew, Loaded, Published, Done}
 
@@ -30,15 +29,27 @@ task_at (Loading net) numbers = loading net numbers
 task_at (Publishing net pair published) numbers = publishing net pair published
 task_at Finished numbers = done
 
-abbrev pub task_of : Worker → Task
-task_of worker = task_at worker.stage worker.loaded.items
+-- what a worker is at, how many numbers it has room for, and for how many nets it has a place
+pub record WorkerState : Type 0 where
+  pub task : Task
+  pub room : ℕ
+  pub places : ℕ
 
--- how many numbers a worker has room for, and for how many nets it has a place
-abbrev pub room_of : Worker → ℕ
-room_of worker = vec_capacity worker.loaded
+abbrev pub task_of : WorkerState → Task
+task_of worker = worker.task
 
-abbrev pub places_of : Worker → ℕ
-places_of worker = length worker.places.items
+abbrev pub room_of : WorkerState → ℕ
+room_of worker = worker.room
+
+abbrev pub places_of : WorkerState → ℕ
+places_of worker = worker.places
+
+-- the numbers that a worker has loaded of a read list
+abbrev pub loaded_of : Task → List ℕ
+loaded_of idle = []
+loaded_of (loading net numbers) = numbers
+loaded_of (publishing net pair published) = []
+loaded_of done = []
 
 -- the numbers of the nets in the read list of a net
 abbrev pub list_of : List (List NetId) → ℕ → List ℕ

@@ -3,7 +3,7 @@
 ghost use Rattle.std.specs.Prelude.{◌≡◌, ℕ, suc, ◌↔◌, ◌<◌, List, [], IsTrue};
 ghost use Rattle.xt_model.specs.Levels.{IsOrder};
 ghost use Rattle.net_eval.specs.ReadLists.{AreReadLists};
-ghost use Rattle.chaos_core.specs.Tasks.{done, idle, loading, places_of, room_of, task_of};
+ghost use Rattle.chaos_core.specs.Tasks.{done, idle, loaded_of, loading, places_of, room_of, task_of};
 ghost use Rattle.chaos_core.specs.Steps.{AreSteps, IsFitting};
 ghost use Rattle.chaos_core.specs.Runs.{IsDone, Ran};
 
@@ -33,7 +33,7 @@ fn load_rest<B: Board>(
     requires design { (B.knows board.old).setting.design ≡ design.now }
     requires lists { AreReadLists design.now lists.now }
     requires fits { IsFitting (B.knows board.old) lists.now worker.old }
-    requires loading { task_of worker.old ≡ loading net.0 worker.old.loaded.items }
+    requires loading { task_of worker.old ≡ loading net.0 (loaded_of (task_of worker.old)) }
     ensures fits { IsFitting (B.knows board.new) lists.now worker.new }
     ensures steps { (order : List ℕ) → (more : ℕ) × AreSteps design.now lists.now order (suc more)
         (B.knows board.old) (task_of worker.old) (B.knows board.new) (task_of worker.new) }

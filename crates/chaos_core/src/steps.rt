@@ -8,8 +8,8 @@ ghost use Rattle.xt_model.specs.Parts.{Parts};
 ghost use Rattle.xt_meaning.specs.Words.{MovesDown, MovesUp};
 ghost use Rattle.net_eval.specs.ReadLists.{AreReadLists, ids};
 ghost use Rattle.chaos_core.specs.Boards.{CanPublish, HasPublished, IsSeen, nets_of};
-ghost use Rattle.chaos_core.specs.Tasks.{evaluated, idle, loading, moved_on, places_of, publishing, room_of};
-ghost use Rattle.chaos_core.specs.Tasks.{task_at, task_of, with_loaded};
+ghost use Rattle.chaos_core.specs.Tasks.{evaluated, idle, loaded_of, loading, moved_on, places_of, publishing};
+ghost use Rattle.chaos_core.specs.Tasks.{room_of, task_at, task_of, with_loaded};
 ghost use Rattle.chaos_core.specs.Steps.{Fits, FitsPublishing, IsFitting, Steps};
 ghost use Rattle.chaos_core.specs.Views.{IsLoaded};
 
@@ -90,10 +90,10 @@ fn load_step<B: Board>(
     requires design { (B.knows board.old).setting.design ≡ design.now }
     requires lists { AreReadLists design.now lists.now }
     requires fits { IsFitting (B.knows board.old) lists.now worker.old }
-    requires loading { task_of worker.old ≡ loading net.0 worker.old.loaded.items }
+    requires loading { task_of worker.old ≡ loading net.0 (loaded_of (task_of worker.old)) }
     ensures fits { IsFitting (B.knows board.new) lists.now worker.new }
     ensures step { (order : List ℕ) → Steps design.now lists.now order (B.knows board.old)
-        (loading net.0 worker.old.loaded.items) result (B.knows board.new) (task_of worker.new) }
+        (task_of worker.old) result (B.knows board.new) (task_of worker.new) }
     ensures room { room_of worker.new ≡ room_of worker.old }
     ensures places { places_of worker.new ≡ places_of worker.old }
 {

@@ -5,6 +5,7 @@ ghost use Rattle.chaos_core.specs.Rounds.{HasRoom};
 
 use net_eval::ReadLists;
 use std::alloc::Global;
+use std::marker::Model;
 use xt_model::{NoMemory, Pair};
 
 /// What a worker is at: it loads the words of the read list of a net, or publishes the windows of a net, of which
@@ -27,12 +28,26 @@ pub enum Moved {
 }
 
 /// One of those who evaluate the nets of a design over shared words, with room for the words of the longest read
-/// list, and for each net a number: its place in the read list that is evaluated, where it is read.
+/// list, and for each net a number: its place in the read list that is evaluated, where it is read. Contracts see
+/// what it is at, for how many numbers it has room, and for how many nets it has a place.
 #[derive(Debug, Drop)]
 pub struct Worker {
     pub(crate) stage: Stage,
     pub(crate) loaded: Vec<u64>,
     pub(crate) places: Vec<u32>,
+}
+
+impl Model for Worker {
+    ghost use Rattle.std.specs.Prelude.{length, vec_capacity};
+    ghost use Rattle.chaos_core.specs.Tasks.{WorkerState, task_at};
+
+    ghost Value = { WorkerState };
+
+    ghost view = { λ w. record {
+      task = task_at w.stage w.loaded.items;
+      room = vec_capacity w.loaded;
+      places = length w.places.items;
+    } };
 }
 
 impl Worker {

@@ -199,7 +199,7 @@ default_of [] n x h = absurd (omega arith)
 default_of (l ∷ lists) zero x h = refl
 default_of (l ∷ lists) (suc n) x h = default_of lists n x (omega arith)
 
-past_none : (lists : List (List NetId)) (n : ℕ) → length lists ≤ n → length (get_or lists n []) ≡ 0
+pub past_none : (lists : List (List NetId)) (n : ℕ) → length lists ≤ n → length (get_or lists n []) ≡ 0
 past_none [] n h = refl
 past_none (l ∷ lists) zero h = absurd (omega arith)
 past_none (l ∷ lists) (suc n) h = past_none lists n (omega arith)

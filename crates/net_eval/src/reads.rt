@@ -18,7 +18,8 @@ pub struct ReadLists {
 
 /// The length of the longest of several lists, 0 for none.
 fn longest(lists: &[Row<NetId>]) -> usize
-    ensures { (net : ℕ) → length (reads_of lists.now net) ≤ result }
+    ensures most { (net : ℕ) → length (reads_of lists.now net) ≤ result }
+    ensures one { (net : ℕ) × (length (reads_of lists.now net) ≡ result) }
 {
     let mut longest = 0;
     for list in lists {
@@ -54,9 +55,10 @@ impl ReadLists {
         self.lists.len()
     }
 
-    /// The length of the longest list.
+    /// The length of the longest list, 0 for none.
     pub fn longest(&self) -> usize
-        ensures { (net : ℕ) → length (reads_of self.now net) ≤ result }
+        ensures most { (net : ℕ) → length (reads_of self.now net) ≤ result }
+        ensures one { (net : ℕ) × (length (reads_of self.now net) ≡ result) }
     {
         longest(self.lists.as_slice())
     }

@@ -1,22 +1,28 @@
-use Rattle.std.proofs.Common.{◌≡◌, ℕ, suc, refl, ◌∙◌, sym, ap, subst, length, arith}
+use Rattle.std.proofs.Common.{◌≡◌, ℕ, suc, refl, ◌∙◌, sym, ap, subst, List, length, arith}
 use Rattle.chaos_core.specs.Boards.{Knowledge}
-use Rattle.chaos_core.specs.Tasks.{Task, evaluated, list_of, publishing}
-use Rattle.chaos_core.specs.Steps.{AreSteps, Fits}
-use Rattle.chaos_core.proofs.Stages.{load_word, places_stay, room_stays}
+use Rattle.chaos_core.specs.Tasks.{Task, evaluated, list_of, loaded_of, loading, places_of, publishing, room_of, task_of, with_loaded}
+use Rattle.chaos_core.specs.Steps.{AreLoaded, AreSteps, Fits}
+use Rattle.chaos_core.proofs.Stages.{load_word, loads_there, places_stay, room_stays}
 use Rattle.chaos_core.proofs.Several.{all_now, inside_now, loaded_then, more_now, none_more, publishes_now, some_steps, steps_then, whole_now}
 use Rattle.chaos_core.proofs.run.load_rest.Goals as goal
 
 pub words-init : goal.words-init
 words-init g c =
     let k = g.B.Board.knows c.args.board.now in
-    let fits = subst (Fits k c.args.lists.now) c.requires.loading c.requires.fits.task in
+    let lists = c.args.lists.now in
+    let net = c.args.net.0 in
+    let numbers = loaded_of (task_of c.args.worker.now) in
+    let fits = subst (Fits k lists) c.requires.loading c.requires.fits.task in
+    let same : numbers ≡ c.worker.inside.loaded.items = ap loaded_of (loads_there c.worker.inside.stage c.worker.inside.loaded.items net _ (ap task_of c.worker.view_is) c.requires.loading) in
     record {
       setting = refl;
       seen = fits.seen;
-      loaded = fits.loaded;
-      steps = λ order. (0, none_more c.args.design.now c.args.lists.now order k c.args.net.0 c.args.worker.now.loaded.items fits.more);
-      room = refl;
-      places = refl;
+      loaded = subst (AreLoaded k.setting k.seen (list_of lists net)) same fits.loaded;
+      steps = λ order.
+          let P : List ℕ → Type 0 = λ items. AreSteps c.args.design.now lists order 0 k (loading net numbers) k (with_loaded c.args.design.now (list_of lists net) net items) in
+          (0, subst P same (none_more c.args.design.now lists order k net numbers fits.more));
+      room = ap room_of c.worker.view_is;
+      places = ap places_of c.worker.view_is;
     }
 
 pub load-number-requires : goal.load-number-requires
@@ -25,8 +31,8 @@ load-number-requires g c =
     let l = g.B.Board.knows c.words.board in
     let lists = c.args.lists.now in
     let net = c.args.net.0 in
-    let numbers = c.args.worker.now.loaded.items in
-    let items = c.words.worker.loaded.items in
+    let numbers = loaded_of (task_of c.args.worker.now) in
+    let items = c.words.worker-inside.loaded.items in
     let d = c.args.design.now in
     let inv = c.words.invariant in
     let fits = subst (Fits k lists) c.requires.loading c.requires.fits.task in
@@ -42,8 +48,8 @@ words-preserved g c =
     let m = g.B.Board.knows c.load-number.new.self in
     let lists = c.args.lists.now in
     let net = c.args.net.0 in
-    let numbers = c.args.worker.now.loaded.items in
-    let items = c.words.worker.loaded.items in
+    let numbers = loaded_of (task_of c.args.worker.now) in
+    let items = c.words.worker-inside.loaded.items in
     let later = c.push_reserved.new.self.items in
     let d = c.args.design.now in
     let inv = c.words.invariant in
@@ -76,7 +82,7 @@ evaluate-pair-requires-clause-loaded g c =
     let fits = subst (Fits k lists) c.requires.loading c.requires.fits.task in
     let same = c.as_slice-2.ensures.value ∙ sym c.as_slice.ensures.value in
     let long = ap length same in
-    whole_now k l lists net c.args.worker.now.loaded.items c.words.worker.loaded.items c.args.design.now c.requires.design c.requires.lists fits inv.setting inv.seen inv.loaded c.of-reads.result.now c.as_slice-2.result.now
+    whole_now k l lists net (loaded_of (task_of c.args.worker.now)) c.words.worker-inside.loaded.items c.args.design.now c.requires.design c.requires.lists fits inv.setting inv.seen inv.loaded c.of-reads.result.now c.as_slice-2.result.now
     c.of-reads.ensures c.as_slice-2.ensures.value (omega (arith, long, c.words-test.false))
 
 pub returns-clause-fits : goal.returns-clause-fits
@@ -93,9 +99,9 @@ returns-clause-fits g c =
     let kept = inv.places in
     record {
       room = room_stays lists _ _ inv.room c.requires.fits.room;
-      places = places_stay (length lists) c.words.worker.places.len c.words.worker.places.items c.evaluate-pair.new.places c.words.worker.places.ok.0
+      places = places_stay (length lists) c.words.worker-inside.places.len c.words.worker-inside.places.items c.evaluate-pair.new.places c.words.worker-inside.places.ok.0
           (c.evaluate-pair.ensures.count ∙ ap length c.as_mut_slice.ensures.value) (omega (arith, few, kept));
-      task = publishes_now k l lists net c.args.worker.now.loaded.items c.words.worker.loaded.items c.args.design.now c.requires.design c.requires.lists fits inv.setting inv.seen inv.loaded c.of-reads.result.now
+      task = publishes_now k l lists net (loaded_of (task_of c.args.worker.now)) c.words.worker-inside.loaded.items c.args.design.now c.requires.design c.requires.lists fits inv.setting inv.seen inv.loaded c.of-reads.result.now
           c.as_slice-2.result.now c.evaluate-pair.result c.of-reads.ensures c.as_slice-2.ensures.value (omega (arith, long, c.words-test.false)) c.evaluate-pair.ensures.value c.evaluate-pair.ensures.range;
     }
 
@@ -105,8 +111,8 @@ returns-clause-steps g c = λ order.
     let l = g.B.Board.knows c.words.board in
     let lists = c.args.lists.now in
     let net = c.args.net.0 in
-    let numbers = c.args.worker.now.loaded.items in
-    let items = c.words.worker.loaded.items in
+    let numbers = loaded_of (task_of c.args.worker.now) in
+    let items = c.words.worker-inside.loaded.items in
     let d = c.args.design.now in
     let inv = c.words.invariant in
     let fits = subst (Fits k lists) c.requires.loading c.requires.fits.task in

@@ -1,7 +1,6 @@
 use Rattle.std.proofs.Common.{suc, ◌∙◌, refl, ap, sym, subst}
-use Rattle.std.specs.Prelude.{vec_capacity}
 use Rattle.chaos_core.specs.declared.setting.Setting.{Setting}
-use Rattle.chaos_core.specs.Tasks.{task_of}
+use Rattle.chaos_core.specs.Tasks.{room_of, task_of}
 use Rattle.chaos_core.proofs.Places.{no_lie}
 use Rattle.chaos_core.proofs.Running.{Running, ran, runs_from}
 use Rattle.chaos_core.proofs.Several.{run_over, some_nearer, steps_on}
@@ -33,7 +32,7 @@ steps-smaller g c =
     let o = c.requires.lists.ordered.1 in
     let s = c.advance.ensures.steps order o in
     let less = some_nearer c.args.lists.now c.args.design.now order (g.B.Board.knows c.args.board.now) c.requires.design c.requires.lists.sound c.requires.lists o s.0 (g.B.Board.knows c.steps.board)
-    (g.B.Board.knows c.advance.new.board) (task_of c.steps.worker) (task_of c.advance.new.worker) (vec_capacity c.steps.worker.loaded) c.steps.invariant.fits.room (λ h. no_lie (c.steps-test.ensures.1 h)) s.1
+    (g.B.Board.knows c.advance.new.board) (task_of c.steps.worker) (task_of c.advance.new.worker) (room_of c.steps.worker) c.steps.invariant.fits.room (λ h. no_lie (c.steps-test.ensures.1 h)) s.1
     (c.steps.invariant.running order o) in
     rw c.advance.ensures.room less
 

@@ -1,4 +1,5 @@
-use Rattle.std.proofs.Common.{◌∙◌, ap, length}
+use Rattle.std.proofs.Common.{◌∙◌, ap, sym, subst, length}
+use Rattle.chaos_core.specs.Steps.{IsFitting}
 use Rattle.chaos_core.proofs.Stages.{drawn_there, drawn_steps, places_stay, room_stays}
 use Rattle.chaos_core.proofs.DrawStep.{draw_whole, draw_fits}
 use Rattle.chaos_core.proofs.steps.draw_step.Goals as goal
@@ -6,22 +7,24 @@ use Rattle.chaos_core.proofs.steps.draw_step.Goals as goal
 pub of-requires : goal.of-requires
 of-requires g c = drawn_there c.args.design.now c.args.lists.now c.order.result.now c.draw-number.result c.requires.lists c.order.ensures.value (rw c.nets.ensures.value at c.if-number-nets.false)
 
-pub stage_with-worker-requires-clause-whole : goal.stage_with-worker-requires-clause-whole
-stage_with-worker-requires-clause-whole g c =
+pub stage_with-worker-inside-requires-clause-whole : goal.stage_with-worker-inside-requires-clause-whole
+stage_with-worker-inside-requires-clause-whole g c =
     draw_whole (g.B.Board.knows c.args.board.now) (g.B.Board.knows c.draw-number.new.self) c.args.lists.now c.draw-number.result c.args.design.now c.order.result.now _ _ c.requires.design c.requires.lists
     c.order.ensures.value (rw c.nets.ensures.value at c.if-number-nets.false) c.of.ensures (c.as_slice.ensures.value ∙ c.clear.ensures.items) c.draw-number.ensures.draws c.draw-number.ensures.seen
 
 pub returns-clause-fits : goal.returns-clause-fits
-returns-clause-fits g c = record {
-  room = room_stays c.args.lists.now _ _ c.clear.ensures.capacity c.requires.fits.room;
-  places = places_stay (length c.args.lists.now) c.args.worker.now.places.len c.args.worker.now.places.items c.stage_with-worker.new.places c.args.worker.now.places.ok.0
-      (c.stage_with-worker.ensures.count ∙ ap length c.as_mut_slice.ensures.value) c.requires.fits.places;
-  task = draw_fits (g.B.Board.knows c.args.board.now) (g.B.Board.knows c.draw-number.new.self) c.args.lists.now c.draw-number.result c.args.design.now c.order.result.now _ _ _ _ c.requires.design c.requires.lists
-      c.order.ensures.value (rw c.nets.ensures.value at c.if-number-nets.false) c.of.ensures c.as_slice.ensures.value c.clear.ensures.items c.draw-number.ensures.draws c.draw-number.ensures.seen
-      c.stage_with-worker.ensures.range c.stage_with-worker.ensures.task;
-}
+returns-clause-fits g c =
+    let own = subst (IsFitting (g.B.Board.knows c.args.board.now) c.args.lists.now) (sym c.worker.view_is) c.requires.fits in
+    record {
+      room = room_stays c.args.lists.now _ _ c.clear.ensures.capacity own.room;
+      places = places_stay (length c.args.lists.now) c.worker.inside.places.len c.worker.inside.places.items c.stage_with-worker-inside.new.places c.worker.inside.places.ok.0
+          (c.stage_with-worker-inside.ensures.count ∙ ap length c.as_mut_slice.ensures.value) own.places;
+      task = draw_fits (g.B.Board.knows c.args.board.now) (g.B.Board.knows c.draw-number.new.self) c.args.lists.now c.draw-number.result c.args.design.now c.order.result.now _ _ _ _ c.requires.design c.requires.lists
+          c.order.ensures.value (rw c.nets.ensures.value at c.if-number-nets.false) c.of.ensures c.as_slice.ensures.value c.clear.ensures.items c.draw-number.ensures.draws c.draw-number.ensures.seen
+          c.stage_with-worker-inside.ensures.range c.stage_with-worker-inside.ensures.task;
+    }
 
 pub returns-clause-step : goal.returns-clause-step
 returns-clause-step g c = λ order o.
     drawn_steps c.args.design.now c.args.lists.now order c.order.result.now (g.B.Board.knows c.args.board.now) (g.B.Board.knows c.draw-number.new.self) c.draw-number.result _ _ _ _ o c.order.ensures.value
-    (rw c.nets.ensures.value at c.if-number-nets.false) c.of.ensures (c.as_slice.ensures.value ∙ c.clear.ensures.items) c.clear.ensures.items c.draw-number.ensures.draws c.stage_with-worker.ensures.task
+    (rw c.nets.ensures.value at c.if-number-nets.false) c.of.ensures (c.as_slice.ensures.value ∙ c.clear.ensures.items) c.clear.ensures.items c.draw-number.ensures.draws c.stage_with-worker-inside.ensures.task

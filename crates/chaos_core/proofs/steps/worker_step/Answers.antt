@@ -1,13 +1,10 @@
-use Rattle.std.proofs.Common.{sym, subst, arith}
-use Rattle.chaos_core.specs.Tasks.{task_at, task_of}
-use Rattle.chaos_core.specs.Steps.{Steps}
+use Rattle.std.proofs.Common.{◌≡◌, ◌∙◌, sym, ap, arith}
+use Rattle.chaos_core.specs.Tasks.{publishing, task_at, task_of}
 use Rattle.chaos_core.proofs.Stages.{room_stays}
 use Rattle.chaos_core.proofs.steps.worker_step.Goals as goal
 
 pub returns-in-Loading-clause-step : goal.returns-in-Loading-clause-step
-returns-in-Loading-clause-step g c = λ order o.
-    subst (λ stage. Steps c.args.design.now c.args.lists.now order (g.B.Board.knows c.args.board.now) (task_at stage c.args.worker.now.loaded.items) c.load_step.result (g.B.Board.knows c.load_step.new.board)
-    (task_of c.load_step.new.worker)) (sym c.in-Loading.is) (c.load_step.ensures.step order)
+returns-in-Loading-clause-step g c = λ order o. c.load_step.ensures.step order
 
 pub returns-in-Publishing-clause-fits : goal.returns-in-Publishing-clause-fits
 returns-in-Publishing-clause-fits g c = record {
@@ -18,5 +15,5 @@ returns-in-Publishing-clause-fits g c = record {
 
 pub returns-in-Publishing-clause-step : goal.returns-in-Publishing-clause-step
 returns-in-Publishing-clause-step g c = λ order o.
-    subst (λ stage. Steps c.args.design.now c.args.lists.now order (g.B.Board.knows c.args.board.now) (task_at stage c.args.worker.now.loaded.items) c.publish_step.result (g.B.Board.knows c.publish_step.new.board)
-    (task_of c.publish_step.new.worker)) (sym c.in-Publishing.is) (c.publish_step.ensures.step c.args.design.now c.args.lists.now order)
+    let at = sym (ap task_of c.worker.view_is) ∙ ap (λ s. task_at s c.worker.inside.loaded.items) c.in-Publishing.is in
+    rw at (c.publish_step.ensures.step c.args.design.now c.args.lists.now order)
