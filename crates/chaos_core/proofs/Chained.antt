@@ -26,28 +26,22 @@ use Rattle.run_laws.proofs.Short.{chain_is_short}
 use Rattle.net_eval.specs.ReadLists.{AreReadLists}
 use Rattle.chaos_core.specs.declared.setting.Setting.{Setting}
 use Rattle.chaos_core.specs.Memories.{AreKept}
-use Rattle.chaos_core.specs.Rounds.{Pause, AreClosed, AreRounds, HasCarried}
+use Rattle.chaos_core.specs.Rounds.{Pause, AreClosed, AreRounds, AreTurns, HasCarried}
 use Rattle.chaos_core.proofs.Moves.{below, not_below}
 use Rattle.chaos_core.proofs.Carrying.{round_carries}
 
--- ---- steps that carry
--- so many steps from words on, each from words that are not closed, and each carries them at least as far as the
--- operator does
-abbrev pub AreCarried : Setting → ℕ → List ℕ → List ℕ → Type 0
-AreCarried a zero p q = q ≡ p
-AreCarried a (suc n) p q = (m : List ℕ) × AreCarried a n p m × (AreClosed a.design m → ⊥) × HasCarried a m q
-
-pub carried_kept : (a : Setting) (n : ℕ) (p q : List ℕ) → AreKept a p → AreCarried a n p q → AreKept a q
+-- ---- rounds that carry
+pub carried_kept : (a : Setting) (n : ℕ) (p q : List ℕ) → AreKept a p → AreTurns a n p q → AreKept a q
 carried_kept a zero p q kept e = subst (AreKept a) (sym e) kept
 carried_kept a (suc n) p q kept h = h.3.kept
 
-pub carried_more : (a : Setting) (n : ℕ) (p m q : List ℕ) → AreCarried a n p m → (AreClosed a.design m → ⊥) → HasCarried a m q → AreCarried a (n + 1) p q
+pub carried_more : (a : Setting) (n : ℕ) (p m q : List ℕ) → AreTurns a n p m → (AreClosed a.design m → ⊥) → HasCarried a m q → AreTurns a (n + 1) p q
 carried_more a n p m q steps open_words one =
     let e : suc n ≡ n + 1 = omega arith in
-    subst (λ k. AreCarried a k p q) e (m, steps, open_words, one)
+    subst (λ k. AreTurns a k p q) e (m, steps, open_words, one)
 
 -- where a step was made, the words at first were not closed
-pub carried_open : (a : Setting) (n : ℕ) (p q : List ℕ) → 0 < n → AreCarried a n p q → AreClosed a.design p → ⊥
+pub carried_open : (a : Setting) (n : ℕ) (p q : List ℕ) → 0 < n → AreTurns a n p q → AreClosed a.design p → ⊥
 carried_open a zero p q some h closed = absurd (omega (arith, some))
 carried_open a (suc zero) p q some h closed = h.2 (subst (AreClosed a.design) (sym h.1) closed)
 carried_open a (suc (suc n)) p q some h closed = carried_open a (suc n) p h.0 (omega arith) h.1 closed
@@ -70,7 +64,7 @@ extended_new : {X : Type 0} (n : ℕ) (s : ℕ → X) (x : X) (i : ℕ) → n < 
 unfolding extended
 extended_new n s x i h = rw (below n i h) refl
 
-path_of : (a : Setting) (n : ℕ) (p q : List ℕ) → AreKept a p → AreCarried a n p q → (s : ℕ → List ℕ) × IsPath a s n q
+path_of : (a : Setting) (n : ℕ) (p q : List ℕ) → AreKept a p → AreTurns a n p q → (s : ℕ → List ℕ) × IsPath a s n q
 path_of a zero p q kept e = (
   λ i. p,
   record {
@@ -118,7 +112,7 @@ path_of a (suc n) p q kept h =
 
 -- rounds of the machine carry
 pub rounds_carried : (a : Setting) (lists : List (List NetId)) (order : List ℕ) (workers n : ℕ) (p q : Pause) → 0 < workers → AreReadLists a.design lists → IsOrder a.design.nets order → AreKept a p.words
-    → AreRounds a lists order workers n p q → AreCarried a n p.words q.words
+    → AreRounds a lists order workers n p q → AreTurns a n p.words q.words
 rounds_carried a lists order workers zero p q some are o kept e = ap (λ (x : Pause). x.words) e
 rounds_carried a lists order workers (suc n) p q some are o kept h =
     let m = h.0 in
@@ -175,7 +169,7 @@ chain_few way d s n bound sound chain moving b =
     subst (λ m. n ≤ m) (sym b.4) y
 
 -- steps that carry, each from words that are not closed, are no more than the bound
-pub carried_few : (a : Setting) (n bound : ℕ) (p q : List ℕ) → AreKept a p → AreCarried a n p q → IsRoundBound a.design.nets bound → n ≤ bound
+pub carried_few : (a : Setting) (n bound : ℕ) (p q : List ℕ) → AreKept a p → AreTurns a n p q → IsRoundBound a.design.nets bound → n ≤ bound
 carried_few a n bound p q kept steps b =
     let found = path_of a n p q kept steps in
     let s = found.0 in
@@ -238,7 +232,7 @@ module _ (way : Direction) (d : Parts) (s : ℕ → Assignment) (n : ℕ) (ws : 
   ]
 
 -- where the words after them are not closed either, they are fewer
-pub carried_fewer : (a : Setting) (n bound : ℕ) (p q : List ℕ) → AreKept a p → AreCarried a n p q → (AreClosed a.design q → ⊥) → IsRoundBound a.design.nets bound → n < bound
+pub carried_fewer : (a : Setting) (n bound : ℕ) (p q : List ℕ) → AreKept a p → AreTurns a n p q → (AreClosed a.design q → ⊥) → IsRoundBound a.design.nets bound → n < bound
 carried_fewer a n bound p q kept steps open_words b =
     let d = a.design in
     let ws = wired d kept.seen.sound in

@@ -5,7 +5,7 @@ pub mod Moves
 pub mod Stages
 mod LoadStep
 mod DrawStep
-mod Running
+pub mod Running
 mod Ends
 mod Several
 pub mod Kept
@@ -19,6 +19,7 @@ pub mod Starting
 mod Turns
 mod Workers
 pub mod Chained
+pub mod NoNets
 pub mod Settling
 mod OnlyWorker
 mod LookLaws

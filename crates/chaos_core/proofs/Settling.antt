@@ -1,5 +1,5 @@
 -- A run by rounds: its words are closed exactly where its windows are a fixpoint, and each round leaves less room.
-use Rattle.std.proofs.Common.{◌≡◌, ℕ, suc, ◌+◌, ◌/◌, ◌%◌, ◌<◌, ◌⊎◌, inl, inr, refl, sym, ap, subst, ◌∙◌, List, ℤ, arith}
+use Rattle.std.proofs.Common.{◌≡◌, ℕ, suc, ◌+◌, ◌*◌, ◌/◌, ◌%◌, ◌<◌, ◌≤◌, ◌⊎◌, inl, inr, refl, sym, ap, subst, ◌∙◌, List, ℤ, arith}
 use Rattle.std.specs.List.{All}
 use Rattle.xt_model.specs.declared.direction.Direction.{Direction}
 use Rattle.xt_model.specs.declared.edge.Edge.{Edge}
@@ -13,10 +13,12 @@ use Rattle.xt_model.specs.Assign.{assigned, edge_of, side_of, words_of, quads_of
 use Rattle.xt_meaning.specs.Operator.{step}
 use Rattle.xt_meaning.specs.Fixpoint.{IsFixpoint}
 use Rattle.xt_meaning.specs.Barrier.{NoFurther, IsFittingStart}
+use Rattle.xt_meaning.specs.Laws.{IsExtremeFixpoint}
 use Rattle.xt_meaning.specs.Words.{bounds_in, numbers_of, onward, AreNoFurther}
 use Rattle.xt_meaning.specs.Measure.{room}
 use Rattle.xt_meaning.proofs.Words.{quads_of_words}
 use Rattle.xt_meaning.proofs.Numbers.{windows_by_words}
+use Rattle.xt_meaning.proofs.Extremes.{extreme_from_fixpoint}
 use Rattle.xt_meaning.proofs.Runs.{round_less}
 use Rattle.net_eval.specs.ReadLists.{AreReadLists}
 use Rattle.chaos_core.specs.declared.setting.Setting.{Setting}
@@ -118,3 +120,16 @@ fits_under a b d way v same own on h =
     let x : IsFittingStart a.way a.design v = subst (λ (s : Setting). IsFittingStart s.way s.design v) same h in
     let y : IsFittingStart way a.design v = subst (λ (z : Direction). IsFittingStart z a.design v) on x in
     subst (λ (z : Parts). IsFittingStart way z v) own y
+
+-- windows that fit and stand in closed words are the extreme fixpoint
+pub closed_extreme : (way : Direction) (d : Parts) (words : List ℕ) (v : List Pair) → IsFittingStart way d v → numbers_of v ≡ words → AreClosed d words → IsExtremeFixpoint way d v
+closed_extreme way d words v fits is closed =
+    extreme_from_fixpoint way d v (record { windows = fits.windows; fixed = λ n e. steady_from d words v fits.windows.in_range is closed n e }) fits.respects
+
+-- what is published in one round more
+pub made_more : (begin before after nets rounds : ℕ) → before ≤ begin + 8 * nets * rounds → after ≤ before + 8 * nets → after ≤ begin + 8 * nets * (rounds + 1)
+made_more begin before after nets rounds h k =
+    let e : 8 * nets * (rounds + 1) ≡ 8 * nets * rounds + 8 * nets = next (8 * nets) rounds in
+    omega (arith, h, k, e) where
+      next : (m n : ℕ) → m * (n + 1) ≡ m * n + m
+      next m n = omega arith

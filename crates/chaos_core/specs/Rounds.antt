@@ -111,3 +111,10 @@ RoundsCarry = (a : Setting) (lists : List (List NetId)) (order : List ℕ) (work
 pub record HasRoom (lists : List (List NetId)) (worker : Worker) : Type 0 where
   pub room : (net : ℕ) → 8 * length (list_of lists net) ≤ room_of worker
   pub places : length lists ≤ places_of worker
+
+-- from words p to words q in `rounds` rounds, one after another: each began at words that were not closed, and carried
+-- them at least as far as the operator does
+abbrev pub AreTurns : Setting → ℕ → List ℕ → List ℕ → Type 0
+AreTurns a zero p q = q ≡ p
+AreTurns a (suc rounds) p q =
+    (m : List ℕ) × AreTurns a rounds p m × (AreClosed a.design m → ⊥) × HasCarried a m q

@@ -73,7 +73,7 @@ impl<'a> Bounds for LoadedWords<'a> {
 }
 
 /// What the operator makes of a net of the numbers loaded for its read list. Writes the places of that list's nets.
-pub(crate) fn evaluate(
+pub fn evaluate(
     design: &Design,
     reads: &[NetId],
     net: NetId,

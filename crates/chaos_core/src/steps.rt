@@ -113,7 +113,7 @@ fn load_step<B: Board>(
 }
 
 /// Whether a run in this direction lowers a word. If not, it raises it.
-fn moves_down(way: Direction, word: usize) -> bool
+pub fn moves_down(way: Direction, word: usize) -> bool
     ensures down { IsTrue result → MovesDown way (word % 2) }
     ensures up { IsFalse result → MovesUp way (word % 2) }
 {

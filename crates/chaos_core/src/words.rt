@@ -37,7 +37,7 @@ fn bound_of(pair: &Pair, place: u32) -> i64
 }
 
 /// The number that denotes the bound in one of the eight words of a net.
-pub(crate) fn number_in(pair: &Pair, place: u32) -> u64
+pub fn number_in(pair: &Pair, place: u32) -> u64
     requires place { place < 8 }
     requires range { IsPairInRange pair.now }
     ensures { result ≡ number_for (bound_at pair.now place) }
@@ -110,8 +110,8 @@ pub(crate) fn pairs_of(alloc: Global, words: &[u64]) -> Result<Vec<Pair>, AllocE
     Ok(pairs)
 }
 
-/// Gives each net the windows whose numbers are in its words.
-pub(crate) fn set_pairs(windows: &mut Windows, words: &[u64])
+/// Gives each net the windows whose numbers are in its words, eight for each net. Takes no memory.
+pub fn set_pairs(windows: &mut Windows, words: &[u64])
     requires count { length words.now ≡ 8 * length windows.old }
     requires range { All (λ n. n ≤ top_number) words.now }
     ensures numbers { numbers_of windows.new ≡ words.now }

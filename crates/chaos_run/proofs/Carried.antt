@@ -1,29 +1,17 @@
 -- What a round leaves, once the first pass has loaded a word: the words are at or past what the operator makes of those
 -- before, and no more is published than eight words for each net.
-use Rattle.std.proofs.Common.{◌≡◌, ℕ, ◌+◌, ◌*◌, ◌<◌, ◌≤◌, sym, ap, subst, ◌∙◌, List, arith}
+use Rattle.std.proofs.Common.{ℕ, ◌+◌, ◌*◌, ◌<◌, ◌≤◌, ap, subst, ◌∙◌, List, arith}
 use Rattle.xt_model.specs.Levels.{IsOrder}
 use Rattle.xt_meaning.proofs.Passes.{all_turned}
 use Rattle.chaos_core.specs.declared.setting.Setting.{Setting}
-use Rattle.chaos_core.specs.Boards.{nets_of, IsSeen}
+use Rattle.chaos_core.specs.Boards.{nets_of}
 use Rattle.chaos_core.specs.Runs.{HasPassed, Ran}
 use Rattle.chaos_core.specs.Memories.{AreKept}
 use Rattle.chaos_core.specs.Rounds.{HasCarried}
 use Rattle.chaos_core.proofs.Carrying.{all_words}
-use Rattle.window_words.specs.declared.view.View.{View}
-use Rattle.window_words.specs.Boards.{Holding, IsAlone, knowledge_of}
-use Rattle.window_words.specs.Steps.{Loaded}
-use Rattle.window_words.proofs.Holding.{loads_same}
-use Rattle.chaos_run.specs.Rounds.{IsRested}
-use Rattle.chaos_run.proofs.Drawn.{all_drawn, few_below}
-
--- a load by the first pass while none is out
-pub rested : (v w : View) (word number : ℕ) → IsAlone v → Loaded v word number w → IsRested w
-rested v w word number alone step =
-    let same : w ≡ v = loads_same v w word number alone step in
-    let whole = step.whole alone in
-    let seen = step.seen in
-    let P : View → Type 0 = λ x. IsRested x in
-    subst P (sym same) (record { kept = record { seen = subst (λ (x : View). IsSeen x.setting x.seen) same seen; fits = whole.fits }; next = whole.next; drawn = whole.drawn })
+use Rattle.window_words.specs.Boards.{Holding, knowledge_of}
+use Rattle.window_words.specs.Steps.{IsRested}
+use Rattle.window_words.proofs.Drawn.{all_drawn, few_below}
 
 module _ (order : List ℕ) (h g : Holding) (o : IsOrder h.view.setting.design.nets order) (ran : Ran order (knowledge_of h) (knowledge_of g)) (rest : IsRested g.view) where
   net_passed : (net : ℕ) → net < nets_of h.view.setting → HasPassed (knowledge_of h) (knowledge_of g) net 8

@@ -1,4 +1,3 @@
-mod Drawn
 mod Taken
 mod Parts
 mod Carried

@@ -3,46 +3,28 @@ use Rattle.std.proofs.Common.{◌≡◌, ℕ, ◌+◌, ◌*◌, ◌/◌, ◌%◌
 use Rattle.std.specs.List.{All}
 use Rattle.std.proofs.lemmas.Bool.{cases_lt}
 use Rattle.std.proofs.lemmas.Grind.{get_or_default_zero, same_number_lists}
-use Rattle.xt_model.specs.declared.direction.Direction.{Direction}
 use Rattle.xt_model.specs.declared.edge.Edge.{Edge}
 use Rattle.xt_model.specs.declared.edge.Edge.TheVariants.{Rise, Fall}
 use Rattle.xt_model.specs.declared.quad.Quad.{Quad}
 use Rattle.xt_model.specs.declared.quad.Pair.{Pair}
-use Rattle.xt_model.specs.Quads.{bottom, IsBound, IsPairInRange, quad_at}
-use Rattle.xt_model.specs.Parts.{Parts}
+use Rattle.xt_model.specs.Quads.{IsBound, IsPairInRange, quad_at}
 use Rattle.xt_model.specs.Assign.{assigned, word_number, edge_of, side_of, quads_of}
-use Rattle.xt_meaning.specs.Overlap.{overlap_answers}
-use Rattle.xt_meaning.specs.Operator.{operator}
-use Rattle.xt_meaning.specs.Barrier.{IsBoundNoFurther}
-use Rattle.xt_meaning.specs.Words.{bound_in, quiet_number, number_at, bounds_in, numbers_of, onward, AreNoFurther}
+use Rattle.xt_meaning.specs.Words.{bound_in, quiet_number, number_at, bounds_in, numbers_of}
 use Rattle.xt_meaning.proofs.Order.{same_quad}
-use Rattle.xt_meaning.proofs.Existence.{past_bottom}
-use Rattle.xt_meaning.proofs.Steps.{bound_refl}
 use Rattle.xt_meaning.proofs.Numbers.{words_of_quads, numbers_order, number_back, numbers_count, numbers_each}
 use Rattle.xt_meaning.proofs.Rounds.{assigned-set_same, assigned-set_other}
-use Rattle.chaos_core.specs.declared.setting.Setting.{Setting}
-use Rattle.chaos_core.specs.Boards.{nets_of, IsSeen}
-use Rattle.chaos_core.specs.Memories.{AreKept}
-use Rattle.chaos_core.specs.Rounds.{AreClosed}
 use Rattle.chaos_core.proofs.Sight.{seen_range}
-use Rattle.chaos_core.proofs.Chained.{outside_quad}
 use Rattle.window_words.specs.declared.view.View.{View}
 use Rattle.window_words.specs.Boards.{IsAlone}
 use Rattle.window_words.specs.Steps.{Loaded}
-use Rattle.window_words.proofs.Holding.{loads_same}
+use Rattle.window_words.proofs.Holding.{rested}
 use Rattle.chaos_run.specs.Looks.{quad_from}
-use Rattle.chaos_run.specs.Rounds.{IsRested}
-use Rattle.chaos_run.proofs.Carried.{rested}
-
--- what the first pass knew before it loaded is what it knows after
-pub rested_before : (v w : View) (word number : ℕ) → IsAlone v → Loaded v word number w → IsRested v
-rested_before v w word number alone step = subst IsRested (loads_same v w word number alone step) (rested v w word number alone step)
 
 -- ---- one word
 -- a number that is loaded stands for a bound, which is the one seen in the word
 pub number_low : (v w : View) (word number : ℕ) → IsAlone v → Loaded v word number w → number ≤ 9223372036854775808
 number_low v w word number alone step =
-    let low = seen_range v.setting v.seen word (rested_before v w word number alone step).kept.seen in
+    let low = seen_range v.setting v.seen word (rested v w word number alone step).kept.seen in
     subst (λ n. n ≤ 9223372036854775808) (sym (step.whole alone).exact) low
 
 pub bound_found : (v w : View) (word number : ℕ) → IsAlone v → Loaded v word number w → bound_in number ≡ bounds_in v.seen word
@@ -95,39 +77,3 @@ numbers_found v words count range there =
     let bound = numbers_each v word range ∙ (ap (λ (q : Quad). side_of q (word % 4)) (there (word / 8) (edge_of (word / 4 % 2)) net) ∙ words_of_quads (bounds_in words) word) in
     let same : get_or (numbers_of v) word x ≡ get_or words word x = bound_once (number_at (numbers_of v) word) (number_at words word) bound in
     sym (get_or_default_zero (numbers_of v) word x inside) ∙ (same ∙ get_or_default_zero words word x (omega (arith, inside, many, count))))
-
--- ---- a board without nets
--- the operator gives each word back, where there is no net
-nothing_moves : (d : Parts) (words : List ℕ) → length words ≡ 8 * length d.nets → length d.nets ≡ 0 → (word : ℕ) → bounds_in words word ≡ onward d (bounds_in words) word
-nothing_moves d words count none word =
-    let f = bounds_in words in
-    let n = word / 8 in
-    let e = edge_of (word / 4 % 2) in
-    let here : quads_of f n e ≡ bottom = outside_quad words n e (omega (arith, count, none)) in
-    let there : operator d (quads_of f) n e ≡ bottom = past_bottom d (overlap_answers d.period (quads_of f)) (quads_of f) n e (omega (arith, none)) in
-    sym (words_of_quads f word) ∙ ap (λ (q : Quad). side_of q (word % 4)) (here ∙ sym there)
-
-nothing_further : (way : Direction) (d : Parts) (words : List ℕ) → length words ≡ 8 * length d.nets → length d.nets ≡ 0 → AreNoFurther way (bounds_in words) (onward d (bounds_in words))
-nothing_further way d words count none word =
-    let f = bounds_in words in
-    let P : ℤ → Type 0 = λ b. IsBoundNoFurther way (word % 2) (f word) b in
-    subst P (nothing_moves d words count none word) (bound_refl way (word % 2) (f word))
-
-pub kept_found : (v : View) → IsSeen v.setting v.seen → (0 < nets_of v.setting → IsRested v) → AreKept v.setting v.seen
-kept_found v seen rest = elim (cases_lt 0 (nets_of v.setting)) [
-  | inl some ↦ (rest some).kept
-  | inr none ↦ record { seen = seen; fits = nothing_further v.setting.way v.setting.design v.seen seen.count (omega (arith, none)) }
-]
-
--- words of a board without nets are closed
-nothing_closed : (d : Parts) (words : List ℕ) → length words ≡ 8 * length d.nets → length d.nets ≡ 0 → AreClosed d words
-nothing_closed d words count none = record { each = λ word. sym (nothing_moves d words count none word) }
-
--- where words are not closed, there are nets
-pub some_nets : (a : Setting) (d : Parts) (words : List ℕ) → a.design ≡ d → AreKept a words → (AreClosed d words → ⊥) → 0 < length d.nets
-some_nets a d words own kept open_words = elim (cases_lt 0 (length d.nets)) [
-  | inl some ↦ some
-  | inr none ↦
-      let count : length words ≡ 8 * length d.nets = subst (λ (x : Parts). length words ≡ 8 * length x.nets) own kept.seen.count in
-      absurd (open_words (nothing_closed d words count (omega (arith, none))))
-]

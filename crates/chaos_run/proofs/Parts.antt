@@ -1,7 +1,6 @@
 -- The parts of a round, joined: passes that were sent out, that workers ran by, and that come back.
-use Rattle.std.proofs.Common.{◌≡◌, ℕ, suc, ◌<◌, sym, ap, subst, ◌∙◌, List, [], ◌∷◌, ◌++◌, length, take, drop, get_or, vec_capacity, arith}
+use Rattle.std.proofs.Common.{◌≡◌, ℕ, ◌<◌, sym, ap, subst, ◌∙◌, List, [], ◌∷◌, ◌++◌, length, get_or, vec_capacity, arith}
 use Rattle.std.specs.List.{All, AllZip}
-use Rattle.std.proofs.Math.Seq.{take-append_seam}
 use Rattle.std.proofs.lemmas.List.Elements.{All-push, AllZip-get_or}
 use Rattle.std.proofs.lemmas.Slice.Zip.{AllZip-long}
 use Rattle.std.proofs.lemmas.List.{length-append}
@@ -29,18 +28,6 @@ room_for lists before after same long has = record {
 }
 
 -- ---- all parts
-pub zip_each : {X : Type 0} (R : X → X → Type 0) (xs ys : List X) → length ys ≡ length xs → ((i : ℕ) (d : X) → i < length xs → R (get_or xs i d) (get_or ys i d)) → AllZip R xs ys
-zip_each R [] [] e each = tt
-zip_each R [] (y ∷ ys) e each = absurd (omega arith)
-zip_each R (x ∷ xs) [] e each = absurd (omega arith)
-zip_each R (x ∷ xs) (y ∷ ys) e each = (each 0 x (omega arith), zip_each R xs ys (omega arith) (λ i d h. each (suc i) d (omega arith)))
-
--- what is in a vector after all its places were written by way of a slice
-pub slice_back : {X : Type 0} (n : ℕ) (xs ys : List X) → n ≡ length xs → length ys ≡ length xs → take n (ys ++ drop (length ys) xs) ≡ ys
-slice_back n xs ys is same =
-    let P : ℕ → Type 0 = λ k. take k (ys ++ drop (length ys) xs) ≡ ys in
-    subst P (same ∙ sym is) (take-append_seam ys (drop (length ys) xs))
-
 pub all_back : (board : BoardId) (d : Parts) (lists : List (List NetId)) (first : Holding) (xs ys : List SeatedWorker) → All (IsSent lists first) xs → AllZip (HasRun board d lists) xs ys
     → All (IsBack board d lists first) ys
 all_back board d lists first xs ys sent ran k e h =

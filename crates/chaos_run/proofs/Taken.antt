@@ -5,9 +5,8 @@ use Rattle.std.specs.List.{Contains}
 use Rattle.std.proofs.lemmas.List.Elements.{Contains-append_right, Contains-append_cases}
 use Rattle.xt_model.specs.declared.direction.Direction.{Direction}
 use Rattle.xt_meaning.specs.Barrier.{IsBoundNoFurther}
-use Rattle.xt_meaning.specs.Words.{bound_in, number_at, bounds_in, onward, AreNoFurther, furthest}
+use Rattle.xt_meaning.specs.Words.{bounds_in, onward, AreNoFurther}
 use Rattle.xt_meaning.proofs.Steps.{bound_trans}
-use Rattle.xt_meaning.proofs.Numbers.{further_first, further_second, furthest_each}
 use Rattle.chaos_core.specs.declared.setting.Setting.{Setting}
 use Rattle.chaos_core.specs.Boards.{nets_of, Knowledge, IsSeen}
 use Rattle.chaos_core.specs.Runs.{count_below, HasPassed, Ran}
@@ -15,8 +14,9 @@ use Rattle.chaos_core.proofs.Sight.{are_refl, are_trans}
 use Rattle.window_words.specs.declared.view.View.{View}
 use Rattle.window_words.specs.Views.{with_both}
 use Rattle.window_words.specs.Boards.{Holding, knowledge_of}
+use Rattle.window_words.proofs.Drawn.{count_both}
+use Rattle.window_words.proofs.Parting.{both_first, both_second}
 use Rattle.chaos_run.specs.Rounds.{sent_of}
-use Rattle.chaos_run.proofs.Drawn.{count_both}
 
 -- from k to l some passes were joined, by each of which a worker ran from what was seen in k
 pub record HasTaken (order : List ℕ) (joined : ℕ) (k l : Knowledge) : Type 0 where
@@ -40,17 +40,6 @@ all_taken order joined k l some t = record {
   rose = t.rose;
   made = t.made;
 }
-
--- ---- what both have seen is at or past what each has
-both_first : (way : Direction) (ms ns : List ℕ) → length ms ≡ length ns → AreNoFurther way (bounds_in ms) (bounds_in (furthest way ms ns))
-both_first way ms ns e word =
-    let P : ℕ → Type 0 = λ n. IsBoundNoFurther way (word % 2) (bounds_in ms word) (bound_in n) in
-    subst P (sym (furthest_each way ms ns word e)) (further_first way (word % 2) (number_at ms word) (number_at ns word))
-
-both_second : (way : Direction) (ms ns : List ℕ) → length ms ≡ length ns → AreNoFurther way (bounds_in ns) (bounds_in (furthest way ms ns))
-both_second way ms ns e word =
-    let P : ℕ → Type 0 = λ n. IsBoundNoFurther way (word % 2) (bounds_in ns word) (bound_in n) in
-    subst P (sym (furthest_each way ms ns word e)) (further_second way (word % 2) (number_at ms word) (number_at ns word))
 
 -- ---- one pass more
 module _ (order : List ℕ) (joined : ℕ) (h now other : Holding) (t : HasTaken order joined (knowledge_of h) (knowledge_of now)) (r : Ran order (knowledge_of (sent_of h)) (knowledge_of other))

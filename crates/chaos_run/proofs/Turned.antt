@@ -1,7 +1,6 @@
 -- A turn of a run: a round, and the look after it.
-use Rattle.std.proofs.Common.{◌≡◌, ℕ, zero, suc, ◌+◌, ◌*◌, ◌<◌, ◌≤◌, ◌↔◌, inl, inr, refl, sym, ap, subst, ◌∙◌, List, length, arith}
+use Rattle.std.proofs.Common.{◌≡◌, ℕ, ◌+◌, ◌*◌, ◌<◌, ◌≤◌, ◌↔◌, inl, inr, refl, sym, ap, subst, ◌∙◌, List, length, arith}
 use Rattle.std.proofs.lemmas.Bool.{cases_lt}
-use Rattle.xt_model.specs.declared.direction.Direction.{Direction}
 use Rattle.xt_model.specs.declared.net.NetId.{NetId}
 use Rattle.xt_model.specs.declared.quad.Pair.{Pair}
 use Rattle.xt_model.specs.Levels.{IsOrder}
@@ -9,19 +8,17 @@ use Rattle.xt_model.specs.Build.{IsRoundBound}
 use Rattle.xt_model.specs.Parts.{Parts}
 use Rattle.xt_meaning.specs.Fixpoint.{IsWindows, IsFixpoint}
 use Rattle.xt_meaning.specs.Barrier.{IsFittingStart}
-use Rattle.xt_meaning.specs.Laws.{IsExtremeFixpoint}
 use Rattle.xt_meaning.specs.Words.{numbers_of}
-use Rattle.xt_meaning.proofs.Extremes.{extreme_from_fixpoint}
 use Rattle.net_eval.specs.ReadLists.{AreReadLists}
 use Rattle.chaos_core.specs.declared.setting.Setting.{Setting}
 use Rattle.chaos_core.specs.Runs.{Ran}
 use Rattle.chaos_core.specs.Memories.{AreKept}
-use Rattle.chaos_core.specs.Rounds.{AreClosed, HasCarried, Settles}
-use Rattle.chaos_core.proofs.Chained.{AreCarried, carried_few, carried_fewer, carried_more, carried_open, rounds_carried}
+use Rattle.chaos_core.specs.Rounds.{AreClosed, AreTurns, HasCarried, Settles}
+use Rattle.chaos_core.proofs.Chained.{carried_few, carried_fewer, carried_more, carried_open, rounds_carried}
 use Rattle.chaos_core.proofs.Kept.{start_kept}
 use Rattle.chaos_core.proofs.Settling.{closed_from, steady_from}
 use Rattle.window_words.specs.Boards.{Holding, knowledge_of}
-use Rattle.chaos_run.specs.Rounds.{AreTurns, IsRested}
+use Rattle.chaos_run.specs.Rounds.{IsRested}
 use Rattle.chaos_run.proofs.Carried.{carried, made_few}
 
 -- ---- a round
@@ -39,45 +36,32 @@ module _ (a : Setting) (d : Parts) (order : List ℕ) (h g : Holding) (under : h
       let same : length h.view.setting.design.nets ≡ length d.nets = ap (λ (x : Parts). length x.nets) (ap (λ (x : Setting). x.design) under ∙ own) in
       omega (arith, few, same)
 
--- what is published in one round more
-pub made_more : (begin before after nets rounds : ℕ) → before ≤ begin + 8 * nets * rounds → after ≤ before + 8 * nets → after ≤ begin + 8 * nets * (rounds + 1)
-made_more begin before after nets rounds h k =
-    let e : 8 * nets * (rounds + 1) ≡ 8 * nets * rounds + 8 * nets = next (8 * nets) rounds in
-    omega (arith, h, k, e) where
-      next : (m n : ℕ) → m * (n + 1) ≡ m * n + m
-      next m n = omega arith
-
 -- ---- all rounds
 closed_own : (a : Setting) (d : Parts) (words : List ℕ) → a.design ≡ d → (AreClosed d words → ⊥) → AreClosed a.design words → ⊥
 closed_own a d words own open_words closed = open_words (subst (λ x. AreClosed x words) own closed)
-
-pub turns_of : (a : Setting) (rounds : ℕ) (p q : List ℕ) → AreCarried a rounds p q → AreTurns a rounds p q
-turns_of a zero p q same = same
-turns_of a (suc rounds) p q h = (h.0, turns_of a rounds p h.0 h.1, h.2, h.3)
 
 -- the rounds of the machine
 pub turns_picked : (a : Setting) (lists : List (List NetId)) (order : List ℕ) (workers number : ℕ) (windows : List Pair) (rounds : ℕ) → 0 < workers → AreReadLists a.design lists → IsOrder a.design.nets order
     → IsFittingStart a.way a.design a.start → Settles a lists order workers number windows rounds → AreTurns a rounds (numbers_of a.start) (numbers_of windows)
 turns_picked a lists order workers number windows rounds some are o start settles =
-    turns_of a rounds (numbers_of a.start) (numbers_of windows)
-    (rounds_carried a lists order workers rounds (record { source = number; words = numbers_of a.start }) (record { source = settles.source; words = numbers_of windows }) some are o (start_kept a are.sound start) settles.path)
+    rounds_carried a lists order workers rounds (record { source = number; words = numbers_of a.start }) (record { source = settles.source; words = numbers_of windows }) some are o (start_kept a are.sound start) settles.path
 
 -- one step more, from words that are not closed
-pub turn_more : (a : Setting) (d : Parts) (rounds : ℕ) (p m q : List ℕ) → a.design ≡ d → AreCarried a rounds p m → (AreClosed d m → ⊥) → HasCarried a m q → AreCarried a (rounds + 1) p q
+pub turn_more : (a : Setting) (d : Parts) (rounds : ℕ) (p m q : List ℕ) → a.design ≡ d → AreTurns a rounds p m → (AreClosed d m → ⊥) → HasCarried a m q → AreTurns a (rounds + 1) p q
 turn_more a d rounds p m q own steps open_words one = carried_more a rounds p m q steps (closed_own a d m own open_words) one
 
-pub turns_few : (a : Setting) (d : Parts) (rounds bound : ℕ) (p q : List ℕ) → a.design ≡ d → AreKept a p → AreCarried a rounds p q → IsRoundBound d.nets bound → rounds ≤ bound
+pub turns_few : (a : Setting) (d : Parts) (rounds bound : ℕ) (p q : List ℕ) → a.design ≡ d → AreKept a p → AreTurns a rounds p q → IsRoundBound d.nets bound → rounds ≤ bound
 turns_few a d rounds bound p q own kept steps b = carried_few a rounds bound p q kept steps (subst (λ (x : Parts). IsRoundBound x.nets bound) (sym own) b)
 
-pub turns_fewer : (a : Setting) (d : Parts) (rounds bound : ℕ) (p q : List ℕ) → a.design ≡ d → AreKept a p → AreCarried a rounds p q → (AreClosed d q → ⊥) → IsRoundBound d.nets bound → rounds < bound
+pub turns_fewer : (a : Setting) (d : Parts) (rounds bound : ℕ) (p q : List ℕ) → a.design ≡ d → AreKept a p → AreTurns a rounds p q → (AreClosed d q → ⊥) → IsRoundBound d.nets bound → rounds < bound
 turns_fewer a d rounds bound p q own kept steps open_words b =
     carried_fewer a rounds bound p q kept steps (closed_own a d q own open_words) (subst (λ (x : Parts). IsRoundBound x.nets bound) (sym own) b)
 
 -- no step was made exactly where the words were closed at first
-pub none_made : (a : Setting) (d : Parts) (rounds : ℕ) (p q : List ℕ) → a.design ≡ d → AreCarried a rounds p q → AreClosed d q → (rounds ≡ 0) ↔ AreClosed d p
+pub none_made : (a : Setting) (d : Parts) (rounds : ℕ) (p q : List ℕ) → a.design ≡ d → AreTurns a rounds p q → AreClosed d q → (rounds ≡ 0) ↔ AreClosed d p
 none_made a d rounds p q own steps closed = (
   λ none.
-      let P : ℕ → Type 0 = λ n. AreCarried a n p q in
+      let P : ℕ → Type 0 = λ n. AreTurns a n p q in
       let same : q ≡ p = subst P none steps in
       subst (AreClosed d) same closed,
   λ begin. elim (cases_lt 0 rounds) [
@@ -85,11 +69,6 @@ none_made a d rounds p q own steps closed = (
     | inr none ↦ omega (arith, none)
   ],
 )
-
--- windows that fit and stand in closed words are the extreme fixpoint
-pub closed_extreme : (way : Direction) (d : Parts) (words : List ℕ) (v : List Pair) → IsFittingStart way d v → numbers_of v ≡ words → AreClosed d words → IsExtremeFixpoint way d v
-closed_extreme way d words v fits is closed =
-    extreme_from_fixpoint way d v (record { windows = fits.windows; fixed = λ n e. steady_from d words v fits.windows.in_range is closed n e }) fits.respects
 
 -- ---- the start of a run
 -- the words of windows are closed exactly where the windows are a fixpoint

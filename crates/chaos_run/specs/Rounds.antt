@@ -1,5 +1,5 @@
 -- Rounds of workers in threads of their own, on one board.
-use Rattle.std.specs.Prelude.{◌≡◌, ℕ, zero, suc, ◌+◌, ◌≤◌, List, [], length, vec_capacity}
+use Rattle.std.specs.Prelude.{◌≡◌, ℕ, ◌+◌, ◌≤◌, List, [], length, vec_capacity}
 use Rattle.std.specs.List.{All}
 use Rattle.xt_model.specs.declared.direction.Direction.{Direction}
 use Rattle.xt_model.specs.declared.net.NetId.{NetId}
@@ -7,8 +7,7 @@ use Rattle.xt_model.specs.Parts.{Parts}
 use Rattle.xt_model.specs.Levels.{IsOrder}
 use Rattle.net_eval.specs.ReadLists.{AreReadLists}
 use Rattle.chaos_core.specs.Runs.{Ran}
-use Rattle.chaos_core.specs.declared.setting.Setting.{Setting}
-use Rattle.chaos_core.specs.Rounds.{AreClosed, HasCarried, HasRoom}
+use Rattle.chaos_core.specs.Rounds.{HasRoom}
 use Rattle.window_words.specs.declared.view.View.{View}
 use Rattle.window_words.specs.Views.{sent_out}
 pub use Rattle.window_words.specs.Steps.{IsRested}
@@ -68,13 +67,6 @@ pub record IsBack (board : BoardId) (d : Parts) (lists : List (List NetId)) (fir
   pub ran : (order : List ℕ) → IsOrder d.nets order
       → Ran order (knowledge_of (sent_of first)) (knowledge_of w.seated.pass)
   pub room : HasRoom lists w.worker
-
--- from words p to words q in `rounds` rounds, one after another: each began at words that were not closed, and carried
--- them at least as far as the operator does
-abbrev pub AreTurns : Setting → ℕ → List ℕ → List ℕ → Type 0
-AreTurns a zero p q = q ≡ p
-AreTurns a (suc rounds) p q =
-    (m : List ℕ) × AreTurns a rounds p m × (AreClosed a.design m → ⊥) × HasCarried a m q
 
 -- how many workers a room is for
 abbrev pub workers_in : RunRoom → ℕ

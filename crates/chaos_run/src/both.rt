@@ -12,7 +12,7 @@ ghost use Rattle.xt_meaning.specs.Words.{numbers_of};
 ghost use Rattle.run_laws.specs.Transitions.{Transition, AreConsistent};
 ghost use Rattle.run_laws.specs.Laws.{LieWithin};
 ghost use Rattle.net_eval.specs.ReadLists.{AreReadLists};
-ghost use Rattle.chaos_run.specs.Rounds.{AreTurns};
+ghost use Rattle.chaos_core.specs.Rounds.{AreTurns};
 
 use crate::settling::settle;
 use chaos_core::{Gate, Settled, settle_picked};

@@ -11,9 +11,9 @@ ghost use Rattle.xt_meaning.specs.Words.{numbers_of};
 ghost use Rattle.run_laws.specs.Transitions.{Transition, AreConsistent};
 ghost use Rattle.run_laws.specs.Laws.{LieWithin};
 ghost use Rattle.net_eval.specs.ReadLists.{AreReadLists};
-ghost use Rattle.chaos_core.specs.Rounds.{AreClosed};
+ghost use Rattle.chaos_core.specs.Rounds.{AreClosed, AreTurns};
 ghost use Rattle.window_words.specs.Boards.{IsAlone, IsOf};
-ghost use Rattle.chaos_run.specs.Rounds.{AreIdle, AreTurns, IsRoomFor, IsRun, workers_in};
+ghost use Rattle.chaos_run.specs.Rounds.{AreIdle, IsRoomFor, IsRun, workers_in};
 
 use crate::look::look;
 use crate::round::round;

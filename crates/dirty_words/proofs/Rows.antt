@@ -1,10 +1,9 @@
 -- The rows of readers, net by net.
-use Rattle.std.proofs.Common.{◌≡◌, ◌≢◌, ℕ, zero, suc, ◌+◌, ◌<◌, ◌≤◌, ◌==◌, Bool, true, false, cond, ◌||◌, inl, inr, refl, sym, ap, subst, ◌∙◌, List, [], ◌∷◌, ◌++◌, length, map, take, drop, set, get_or, filter, Contains, arith}
+use Rattle.std.proofs.Common.{◌≡◌, ◌≢◌, ℕ, zero, suc, ◌+◌, ◌<◌, ◌≤◌, ◌==◌, Bool, true, false, cond, ◌||◌, inl, inr, refl, sym, ap, subst, ◌∙◌, List, [], ◌∷◌, ◌++◌, length, map, take, set, get_or, filter, Contains, arith}
 use Rattle.std.specs.List.{range_with_len}
 use Rattle.std.proofs.lemmas.Bool.{cases_eq}
 use Rattle.std.proofs.lemmas.Bool.Decides.{nat_tests}
 use Rattle.std.proofs.lemmas.List.{map-set, map-append, take_more, get_or-set_same, get_or-set_other, get_or-map, length-map, get_or_default, append-nil}
-use Rattle.std.proofs.Math.Seq.{take-append_seam}
 use Rattle.std.proofs.lemmas.List.Elements.{filter-append}
 use Rattle.xt_model.specs.declared.net.NetId.{NetId}
 use Rattle.xt_model.specs.Parts.{Parts}
@@ -168,7 +167,3 @@ rows_more {V} f d lists old given new items reads reader k are below many was ba
     ap (λ (xs : List V). row_of (map f xs) net) back ∙ (step ∙ (ap (λ (xs : List V). row_of (map f xs) net ++ cond (has (ids reads) net) (reader ∷ []) []) was
     ∙ (ap (λ (xs : List ℕ). row_of (map f old) net ++ cond (has xs net) (reader ∷ []) []) list ∙ (ap (λ n. row_of (map f old) net ++ cond (has (list_of lists k) net) (n ∷ []) []) is
     ∙ reader_more lists k net (row_of (map f old) net) (before net lt)))))
-
--- what is in a vector after all its places were written by way of a slice
-pub written_back : {V : Type 0} (n : ℕ) (xs ys : List V) → n ≡ length xs → length ys ≡ length xs → take n (ys ++ drop (length ys) xs) ≡ ys
-written_back n xs ys is same = subst (λ k. take k (ys ++ drop (length ys) xs) ≡ ys) (same ∙ sym is) (take-append_seam ys (drop (length ys) xs))

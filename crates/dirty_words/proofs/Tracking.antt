@@ -2,8 +2,6 @@
 use Rattle.std.proofs.Common.{◌≡◌, ◌≢◌, ◌⊎◌, ℕ, ◌<◌, ◌≤◌, ◌==◌, Bool, inl, inr, sym, ap, subst, ◌∙◌, List, length, set, Contains, arith}
 use Rattle.std.specs.Prelude.{slice_index}
 use Rattle.std.proofs.lemmas.Bool.{cases_lt}
-use Rattle.std.proofs.lemmas.Bool.Decides.{nat_tests}
-use Rattle.std.proofs.lemmas.List.Sums.{length-filter}
 use Rattle.xt_model.specs.declared.net.Net.{Net}
 use Rattle.xt_model.specs.Levels.{IsOrder}
 use Rattle.chaos_core.specs.declared.setting.Setting.{Setting}
@@ -13,9 +11,9 @@ use Rattle.window_words.specs.Views.{times}
 use Rattle.window_words.specs.Rule.{once_below, AreDrawn}
 use Rattle.window_words.specs.Rule.{IsThere as IsThereBelow}
 use Rattle.window_words.proofs.Totals.{total_part, total_rest}
+use Rattle.window_words.proofs.Drawn.{some_times, once_most}
 use Rattle.dirty_words.specs.declared.view.DirtyView.{DirtyView}
 use Rattle.dirty_words.specs.Rule.{IsThere, IsLive, HasDrawn, HasTaken, HasFound, IsLeft}
-use Rattle.dirty_words.proofs.Nets.{filter_keeps}
 use Rattle.dirty_words.proofs.Live.{each_live, some_on}
 
 -- what a pass drew it has drawn with one more number
@@ -61,24 +59,12 @@ one_place nets order m n net o hm hn em en =
         omega (arith, h, e)
     not_twice levels order m n net (inr h) em en = let k = h.1 in omega (arith, k, em, en)
 
--- a number that was drawn is there some times
-some_drawn : (xs : List ℕ) (n : ℕ) → Contains xs n → 0 < times n xs
-some_drawn xs n c =
-    let p : ℕ → Bool = λ m. m == n in
-    let kept = filter_keeps p xs n c (grind (arith, nat_tests)) in
-    let inside = kept.1 in
-    let long = length-filter p xs in
-    omega (arith, inside, long)
-
-once_most : (next x : ℕ) → once_below next x ≤ 1
-once_most next x = grind (arith, nat_tests)
-
 -- two passes that drew one number are one
 pub drawn_once : (next : ℕ) (views : List View) (i j : ℕ) (v w : View) (n : ℕ) → AreDrawn next views → IsThereBelow views i v → IsThereBelow views j w → Contains v.drawn n → Contains w.drawn n → j ≢ i → ⊥
 drawn_once next views i j v w n drawn at there cv cw ne =
     let f : View → ℕ = λ u. times n u.drawn in
-    let a = some_drawn v.drawn n cv in
-    let b = some_drawn w.drawn n cw in
+    let a = some_times v.drawn n cv in
+    let b = some_times w.drawn n cw in
     let all = drawn n in
     let most = once_most next n in
     let part = total_part f views i v at in

@@ -1,14 +1,17 @@
 -- What a pass keeps over its calls, and what one who works by it knows.
-use Rattle.std.proofs.Common.{◌≡◌, ℕ, ◌+◌, ◌-◌, ◌*◌, ◌%◌, ◌<◌, refl, sym, ap, subst, ◌∙◌, List, [], ◌∷◌, ◌++◌, length, set, get_or, take, nat_lt, arith}
+use Rattle.std.proofs.Common.{◌≡◌, ℕ, ◌+◌, ◌-◌, ◌*◌, ◌%◌, ◌<◌, inl, inr, refl, sym, ap, subst, ◌∙◌, List, [], ◌∷◌, ◌++◌, length, set, get_or, take, nat_lt, arith}
 use Rattle.std.specs.Prelude.{Bool, false, IsTrue}
 use Rattle.std.specs.Prelude.{if◌then◌else◌}
 use Rattle.std.proofs.lemmas.List.{set-get_or, take_more}
+use Rattle.std.proofs.lemmas.Bool.{cases_lt}
 use Rattle.std.proofs.lemmas.Bool.Decides.{nat_tests}
 use Rattle.atomic_table.specs.Table.{Me}
 use Rattle.atomic_table.specs.Seated.{TableId}
 use Rattle.xt_meaning.specs.Words.{quiet_number}
 use Rattle.chaos_core.specs.declared.setting.Setting.{Setting}
 use Rattle.chaos_core.specs.Boards.{nets_of, IsSeen, Loads, Publishes, Draws, late_after}
+use Rattle.chaos_core.specs.Memories.{AreKept}
+use Rattle.chaos_core.proofs.NoNets.{nothing_further}
 use Rattle.window_words.specs.declared.view.View.{View}
 use Rattle.window_words.specs.Views.{IsUnspent, count_from, begun_anew, with_one_out, sent_out, with_both}
 use Rattle.window_words.specs.Boards.{BoardId, Holding, IsOf, IsHeld, IsAlone, late_of, home_of, knowledge_of}
@@ -146,6 +149,13 @@ rested v w word number alone step =
     let same : w ≡ v = loads_same v w word number alone step in
     let whole = step.whole alone in
     record { kept = record { seen = subst (λ (x : View). IsSeen x.setting x.seen) same step.seen; fits = whole.fits }; next = whole.next; drawn = whole.drawn }
+
+-- what is seen fits, also where there is no word to load
+pub kept_found : (v : View) → IsSeen v.setting v.seen → (0 < nets_of v.setting → IsRested v) → AreKept v.setting v.seen
+kept_found v seen rest = elim (cases_lt 0 (nets_of v.setting)) [
+  | inl some ↦ (rest some).kept
+  | inr none ↦ record { seen = seen; fits = nothing_further v.setting.way v.setting.design v.seen seen.count (omega (arith, none)) }
+]
 
 pub loads_next : (v w : View) (word number : ℕ) (words : List ℕ) → IsAlone v → Loaded v word number w → word < length v.seen → words ≡ take word v.seen → words ++ number ∷ [] ≡ take (word + 1) v.seen
 loads_next v w word number words alone step h e =

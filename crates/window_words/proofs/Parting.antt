@@ -9,9 +9,9 @@ use Rattle.atomic_table.proofs.Lists.{set_here, set_else, at_longer}
 use Rattle.xt_model.specs.declared.direction.Direction.{Direction}
 use Rattle.xt_model.specs.declared.direction.Direction.TheVariants.{Widen, Narrow}
 use Rattle.xt_meaning.specs.Barrier.{IsBoundNoFurther, RespectsAt}
-use Rattle.xt_meaning.specs.Words.{bound_in, number_at, bounds_in, further, furthest_from, furthest}
+use Rattle.xt_meaning.specs.Words.{bound_in, number_at, bounds_in, AreNoFurther, further, furthest_from, furthest}
 use Rattle.xt_meaning.proofs.Steps.{bound_trans}
-use Rattle.xt_meaning.proofs.Numbers.{further_one, further_first, further_least, furthest_each}
+use Rattle.xt_meaning.proofs.Numbers.{further_one, further_first, further_second, further_least, furthest_each}
 use Rattle.chaos_core.specs.declared.setting.Setting.{Setting}
 use Rattle.chaos_core.specs.Boards.{nets_of, started, IsSeen}
 use Rattle.window_words.specs.declared.view.Role.{Role}
@@ -324,3 +324,14 @@ module _ (a : Setting) (s : State (Unit {0}) View) (k : Kept a s) (id : ℕ) (v 
               omega (arith, t, b, d);
         };
       }
+
+-- ---- what both have seen is at or past what each has
+pub both_first : (way : Direction) (ms ns : List ℕ) → length ms ≡ length ns → AreNoFurther way (bounds_in ms) (bounds_in (furthest way ms ns))
+both_first way ms ns e word =
+    let P : ℕ → Type 0 = λ n. IsBoundNoFurther way (word % 2) (bounds_in ms word) (bound_in n) in
+    subst P (sym (furthest_each way ms ns word e)) (further_first way (word % 2) (number_at ms word) (number_at ns word))
+
+pub both_second : (way : Direction) (ms ns : List ℕ) → length ms ≡ length ns → AreNoFurther way (bounds_in ns) (bounds_in (furthest way ms ns))
+both_second way ms ns e word =
+    let P : ℕ → Type 0 = λ n. IsBoundNoFurther way (word % 2) (bounds_in ns word) (bound_in n) in
+    subst P (sym (furthest_each way ms ns word e)) (further_second way (word % 2) (number_at ms word) (number_at ns word))

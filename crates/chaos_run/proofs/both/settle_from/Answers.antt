@@ -3,7 +3,7 @@ use Rattle.std.proofs.lemmas.Result.{IfOk-weaker}
 use Rattle.xt_meaning.specs.Words.{numbers_of}
 use Rattle.window_words.specs.declared.view.View.{View}
 use Rattle.chaos_core.specs.declared.setting.Setting.{Setting}
-use Rattle.chaos_run.specs.Rounds.{AreTurns}
+use Rattle.chaos_core.specs.Rounds.{AreTurns}
 use Rattle.chaos_run.proofs.Turned.{from_start, settles_from, turns_picked}
 use Rattle.chaos_run.proofs.both.settle_from.Goals as goal
 

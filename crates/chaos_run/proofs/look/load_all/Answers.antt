@@ -7,7 +7,8 @@ use Rattle.xt_model.specs.Assign.{assigned, quads_of}
 use Rattle.xt_meaning.specs.Words.{bounds_in}
 use Rattle.window_words.specs.declared.view.View.{View}
 use Rattle.chaos_run.specs.Rounds.{IsRested}
-use Rattle.chaos_run.proofs.Looked.{windows_more, numbers_found, kept_found}
+use Rattle.window_words.proofs.Holding.{kept_found}
+use Rattle.chaos_run.proofs.Looked.{windows_more, numbers_found}
 use Rattle.chaos_run.proofs.look.load_all.Goals as goal
 
 pub loop-net-preserved : goal.loop-net-preserved

@@ -2,7 +2,8 @@ use Rattle.std.proofs.Common.{rules, w64, ◌∙◌, subst, sym}
 use Rattle.std.proofs.lemmas.Int.{to_z-of_z}
 use mir.Val.{SFits}
 use Rattle.xt_model.specs.Quads.{IsBound}
-use Rattle.chaos_run.proofs.Looked.{number_low, bound_found, bound_ranges, rested_before}
+use Rattle.window_words.proofs.Holding.{rested}
+use Rattle.chaos_run.proofs.Looked.{number_low, bound_found, bound_ranges}
 use Rattle.chaos_run.proofs.look.load_bound.Goals as goal
 
 pub bound_of-requires : goal.bound_of-requires
@@ -20,4 +21,4 @@ returns-clause-range c =
     (bound_ranges c.args.first.now.view c.load.new.pass.view c.args.word c.load.result c.requires.alone c.load.ensures.loaded)
 
 pub returns-clause-rested : goal.returns-clause-rested
-returns-clause-rested c = rested_before c.args.first.now.view c.load.new.pass.view c.args.word c.load.result c.requires.alone c.load.ensures.loaded
+returns-clause-rested c = rested c.args.first.now.view c.load.new.pass.view c.args.word c.load.result c.requires.alone c.load.ensures.loaded

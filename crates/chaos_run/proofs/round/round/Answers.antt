@@ -4,7 +4,8 @@ use Rattle.std.proofs.lemmas.Slice.Zip.{AllZip-long}
 use Rattle.window_words.specs.declared.view.View.{View}
 use Rattle.chaos_run.specs.declared.workers.SeatedWorker.{SeatedWorker}
 use Rattle.chaos_run.specs.Rounds.{with_out, HasRun, IsBack, IsSent}
-use Rattle.chaos_run.proofs.Parts.{slice_back, all_back, sent_later, ran_from}
+use Rattle.window_words.proofs.Slices.{slice_back}
+use Rattle.chaos_run.proofs.Parts.{all_back, sent_later, ran_from}
 use Rattle.chaos_run.proofs.round.round.Goals as goal
 
 pub take_back-requires-clause-back : goal.take_back-requires-clause-back

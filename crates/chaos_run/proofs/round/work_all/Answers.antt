@@ -1,7 +1,7 @@
 use Rattle.std.proofs.Common.{get_or, subst, rules}
 use Rattle.chaos_run.specs.declared.workers.SeatedWorker.{SeatedWorker}
 use Rattle.chaos_run.specs.Rounds.{HasRun}
-use Rattle.chaos_run.proofs.Parts.{zip_each}
+use Rattle.window_words.proofs.Slices.{zip_each}
 use Rattle.chaos_run.proofs.round.work_all.Goals as goal
 
 pub returns : goal.returns

@@ -4,13 +4,12 @@ use Rattle.std.proofs.lemmas.Bool.{both_ways}
 use Rattle.xt_model.specs.declared.direction.Direction.{Direction}
 use Rattle.xt_meaning.specs.Barrier.{IsFittingStart}
 use Rattle.chaos_core.specs.Memories.{AreKept}
-use Rattle.chaos_core.specs.Rounds.{AreClosed}
-use Rattle.chaos_core.proofs.Chained.{AreCarried}
-use Rattle.chaos_core.proofs.Settling.{closed_from, run_nearer}
+use Rattle.chaos_core.specs.Rounds.{AreClosed, AreTurns}
+use Rattle.chaos_core.proofs.NoNets.{some_nets}
+use Rattle.chaos_core.proofs.Settling.{closed_from, closed_extreme, made_more, run_nearer}
 use Rattle.window_words.specs.declared.view.View.{View}
 use Rattle.window_words.specs.Boards.{IsAlone}
-use Rattle.chaos_run.proofs.Looked.{some_nets}
-use Rattle.chaos_run.proofs.Turned.{turn_carries, turn_made, turn_more, turns_few, turns_fewer, turns_of, made_more, none_made, closed_extreme}
+use Rattle.chaos_run.proofs.Turned.{turn_carries, turn_made, turn_more, turns_few, turns_fewer, none_made}
 use Rattle.chaos_run.proofs.settling.run_rounds.Goals as goal
 
 pub prove-unreachable-requires : goal.prove-unreachable-requires
@@ -68,7 +67,7 @@ rounds-preserved g c =
       numbers = look.numbers ∙ sym same;
       kept = subst (AreKept a) (sym same) look.kept;
       closed = subst (λ (ws : List ℕ). IsTrue c.look-done-in-rounds.result ↔ AreClosed d ws) (sym same) look.closed;
-      steps = subst (λ (ws : List ℕ). AreCarried a (c.rounds.rounds + 1) begin.seen ws) (sym same) (turn_more a d c.rounds.rounds begin.seen words later run.design inv.steps open_words carry);
+      steps = subst (λ (ws : List ℕ). AreTurns a (c.rounds.rounds + 1) begin.seen ws) (sym same) (turn_more a d c.rounds.rounds begin.seen words later run.design inv.steps open_words carry);
       split = λ some. ap (λ (v : View). v.split) look.view ∙ (c.round.ensures.split ∙ inv.count);
       made = omega (arith, published, more);
     }
@@ -88,4 +87,4 @@ returns-clause-few g c = λ bound b.
     turns_few c.args.run.now.board.now.setting c.args.run.now.design.now c.rounds.rounds bound c.args.first.now.view.seen c.rounds.first.view.seen c.requires.run.design c.look-done.ensures.kept c.rounds.invariant.steps b
 
 pub returns-clause-turns : goal.returns-clause-turns
-returns-clause-turns g c = turns_of c.args.run.now.board.now.setting c.rounds.rounds c.args.first.now.view.seen c.rounds.first.view.seen c.rounds.invariant.steps
+returns-clause-turns g c = c.rounds.invariant.steps

@@ -4,8 +4,7 @@ use Rattle.xt_meaning.specs.Barrier.{IsFittingStart}
 use Rattle.xt_meaning.specs.Measure.{room}
 use Rattle.xt_meaning.specs.Words.{numbers_of}
 use Rattle.chaos_core.specs.Memories.{AreKept}
-use Rattle.chaos_core.specs.Rounds.{AreClosed}
-use Rattle.chaos_core.proofs.Chained.{AreCarried}
+use Rattle.chaos_core.specs.Rounds.{AreClosed, AreTurns}
 use Rattle.window_words.specs.Boards.{IsAlone, IsOf}
 use Rattle.chaos_run.specs.Rounds.{AreIdle}
 use Rattle.chaos_run.proofs.settling.run_rounds.Given as goal
@@ -20,7 +19,7 @@ invariant-rounds g l = record {
   numbers : numbers_of l.windows ≡ l.first.view.seen;
   kept : AreKept l.run.board.now.setting l.first.view.seen;
   closed : IsTrue l.done ↔ AreClosed l.run.design.now l.first.view.seen;
-  steps : AreCarried l.run.board.now.setting l.rounds l.fn.first.view.seen l.first.view.seen;
+  steps : AreTurns l.run.board.now.setting l.rounds l.fn.first.view.seen l.first.view.seen;
   split : 0 < l.rounds → l.first.view.split ≡ length l.fn.workers.idle.items;
   made : l.first.view.made ≤ l.fn.first.view.made + 8 * length l.run.design.now.nets * l.rounds;
 }

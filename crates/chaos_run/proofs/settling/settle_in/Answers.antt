@@ -1,9 +1,8 @@
 use Rattle.std.proofs.Common.{List, ℕ, subst}
 use Rattle.xt_model.specs.declared.direction.Direction.{Direction}
 use Rattle.xt_meaning.specs.Laws.{IsExtremeFixpoint}
-use Rattle.xt_meaning.specs.Words.{numbers_of}
 use Rattle.run_laws.proofs.Hulls.{within_greatest}
-use Rattle.chaos_run.specs.Rounds.{AreTurns}
+use Rattle.chaos_core.specs.Rounds.{AreTurns}
 use Rattle.chaos_run.proofs.settling.settle_in.Goals as goal
 
 pub returns-clause-consistent : goal.returns-clause-consistent

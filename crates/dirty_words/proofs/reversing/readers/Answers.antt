@@ -5,7 +5,8 @@ use Rattle.xt_model.specs.declared.net.NetId.{NetId}
 use Rattle.chaos_core.specs.Tasks.{list_of}
 use Rattle.dirty_words.specs.Views.{has}
 use Rattle.dirty_words.specs.Readers.{row_of}
-use Rattle.dirty_words.proofs.Rows.{rows_more, written_back}
+use Rattle.window_words.proofs.Slices.{slice_back}
+use Rattle.dirty_words.proofs.Rows.{rows_more}
 use Rattle.dirty_words.proofs.reversing.readers.Goals as goal
 
 pub loop-number-preserved : goal.loop-number-preserved
@@ -15,7 +16,7 @@ loop-number-preserved c =
     let new = c.push_reader.new.rows in
     let given = c.as_mut_slice.ensures.value in
     let same = c.push_reader.ensures.count ∙ ap length given in
-    let back = written_back c.loop-number.rows.len old new c.loop-number.rows.ok.0 same in
+    let back = slice_back c.loop-number.rows.len old new c.loop-number.rows.ok.0 same in
     let count = c.count-number-end.ensures in
     let test = c.loop-number-test.true in
     let is : c.in-Ok.reader ≡ c.loop-number.number = search rules in

@@ -38,13 +38,13 @@ times_some (n ∷ more) x h = elim (cases_eq n x) [
 ]
 
 -- ---- numbers drawn
-once_inside : (next x : ℕ) → 0 < once_below next x → x < next
+pub once_inside : (next x : ℕ) → 0 < once_below next x → x < next
 once_inside next x h = grind (arith, nat_tests)
 
-once_there : (next x : ℕ) → x < next → once_below next x ≡ 1
+pub once_there : (next x : ℕ) → x < next → once_below next x ≡ 1
 once_there next x h = grind (arith, nat_tests)
 
-once_most : (next x : ℕ) → once_below next x ≤ 1
+pub once_most : (next x : ℕ) → once_below next x ≤ 1
 once_most next x = grind (arith, nat_tests)
 
 -- where a number at or past a bound was drawn, each below the bound was
