@@ -93,20 +93,27 @@ def processes():
     return found
 
 
+def crate_and_kind(number, words):
+    """The crate that a process checks, and what of it, or None where it is no check."""
+    if Path(words[0]).name != "rattle" or "--crate-name" not in words:
+        return None
+    name = words[words.index("--crate-name") + 1]
+    try:
+        is_edit = os.readlink(f"/proc/{number}/cwd").startswith("/tmp/rt-edit")
+    except OSError:
+        return None
+    return name, "edits" if is_edit else "tests" if "--test" in words or name.endswith("_tests") else "proof"
+
+
 def checks_below(top, found):
-    """The checks among the processes below `top`: their number, crate, kind and ticks."""
-    for number, (parent, ticks, words) in found.items():
-        while parent in found and parent != top:
-            parent = found[parent][0]
-        if parent != top or Path(words[0]).name != "rattle" or "--crate-name" not in words:
-            continue
-        name = words[words.index("--crate-name") + 1]
-        try:
-            is_edit = os.readlink(f"/proc/{number}/cwd").startswith("/tmp/rt-edit")
-        except OSError:
-            continue
-        kind = "edits" if is_edit else "tests" if "--test" in words or name.endswith("_tests") else "proof"
-        yield number, name, kind, ticks
+    """The processes below `top` that check something, or work for one that does: their number, crate, kind and ticks."""
+    for number, (_, ticks, _) in found.items():
+        check, at = None, number
+        while at in found and at != top:
+            check = check or crate_and_kind(at, found[at][2])
+            at = found[at][0]
+        if check and at == top:
+            yield number, *check, ticks
 
 
 def watch(top):
