@@ -8,3 +8,4 @@ mod Places
 mod Sweeps
 mod Small
 mod Rising
+mod Ascending

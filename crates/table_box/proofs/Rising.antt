@@ -23,7 +23,7 @@ use Rattle.table_box.proofs.Small.{alike_span, one_cell}
 use Rattle.table_box.proofs.Sweeps.{box_of_ends, row_of_rising}
 
 -- ---- plain numbers
-mixed_more : (p q p' q' b a : ℤ) → p ≤ℤ p' → q ≤ℤ q' → pos 0 ≤ℤ b → pos 0 ≤ℤ a → mixed p q b a ≤ℤ mixed p' q' b a
+pub mixed_more : (p q p' q' b a : ℤ) → p ≤ℤ p' → q ≤ℤ q' → pos 0 ≤ℤ b → pos 0 ≤ℤ a → mixed p q b a ≤ℤ mixed p' q' b a
 mixed_more p q p' q' b a h k m n = let x = mul_mono p p' b h m in let y = mul_mono q q' a k n in omega (arith, ints, x, y)
 
 named : (a a' b b' : ℤ) → a ≡ a' → b ≡ b' → a' ≤ℤ b' → a ≤ℤ b
@@ -38,7 +38,7 @@ least_of_two a b h = omega (arith, ints, clamps, h)
 greatest_of_two : (a b : ℤ) → a ≤ℤ b → b ≡ int_max a b
 greatest_of_two a b h = omega (arith, ints, clamps, h)
 
-chained : (a b c : ℤ) → a ≤ℤ b → b ≤ℤ c → a ≤ℤ c
+pub chained : (a b c : ℤ) → a ≤ℤ b → b ≤ℤ c → a ≤ℤ c
 chained a b c h k = omega (arith, ints, h, k)
 
 -- ---- places in one cell
@@ -64,7 +64,7 @@ module _ (t : TableParts) (s : Span) (sound_s : IsSpan (length t.slews) s) (c : 
   rising_area = area_positive s.width c.width sound_s.positive sound_c.positive
 
   -- a value of a cell rises with the load
-  by_load : (d : Span) → AreAlike c d → c.above ≤ℤ d.above → along_slews t c.first s ≤ℤ along_slews t c.second s → value_in t s c ≤ℤ value_in t s d
+  pub by_load : (d : Span) → AreAlike c d → c.above ≤ℤ d.above → along_slews t c.first s ≤ℤ along_slews t c.second s → value_in t s c ≤ℤ value_in t s d
   by_load d alike up h =
       let p = along_slews t c.first s in let q = along_slews t c.second s in
       let m = mixed_rises p q c.below c.above d.below d.above (d.above -ℤ c.above) h (omega (arith, ints, up)) (omega (arith, ints))
@@ -77,7 +77,7 @@ module _ (t : TableParts) (s : Span) (sound_s : IsSpan (length t.slews) s) (c : 
       (fraction_mono _ _ (s.width *ℤ c.width) rising_area m)
 
   -- and with the slew
-  by_slew : (r : Span) → AreAlike s r → s.above ≤ℤ r.above → along_loads t s.first c ≤ℤ along_loads t s.second c → value_in t s c ≤ℤ value_in t r c
+  pub by_slew : (r : Span) → AreAlike s r → s.above ≤ℤ r.above → along_loads t s.first c ≤ℤ along_loads t s.second c → value_in t s c ≤ℤ value_in t r c
   by_slew r alike up h =
       let p = along_loads t s.first c in let q = along_loads t s.second c in
       let m = mixed_rises p q s.below s.above r.below r.above (r.above -ℤ s.above) h (omega (arith, ints, up)) (omega (arith, ints))
@@ -93,17 +93,33 @@ module _ (t : TableParts) (s : Span) (sound_s : IsSpan (length t.slews) s) (c : 
   line_of : (q : ℤ) → int_div_euclid (q *ℤ c.width) (s.width *ℤ c.width) ≡ int_div_euclid q s.width
   line_of q = swapped_area (q *ℤ c.width) s.width c.width ∙ fraction_scaled q c.width s.width sound_c.positive sound_s.positive
 
-  up_to_line : along_slews t c.first s ≤ℤ along_slews t c.second s → value_in t s c ≤ℤ int_div_euclid (along_slews t c.second s) s.width
+  pub up_to_line : along_slews t c.first s ≤ℤ along_slews t c.second s → value_in t s c ≤ℤ int_div_euclid (along_slews t c.second s) s.width
   up_to_line h =
       let p = along_slews t c.first s in let q = along_slews t c.second s in
       let m = mixed_most q p q c.below c.above c.width h (omega (arith, ints)) sound_c.below sound_c.above (sym sound_c.whole) in
       named _ _ _ _ (value_by_load t s c) (sym (line_of q)) (fraction_mono _ _ (s.width *ℤ c.width) rising_area m)
 
-  from_line : along_slews t c.first s ≤ℤ along_slews t c.second s → int_div_euclid (along_slews t c.first s) s.width ≤ℤ value_in t s c
+  pub from_line : along_slews t c.first s ≤ℤ along_slews t c.second s → int_div_euclid (along_slews t c.first s) s.width ≤ℤ value_in t s c
   from_line h =
       let p = along_slews t c.first s in let q = along_slews t c.second s in
       let m = mixed_least p p q c.below c.above c.width (omega (arith, ints)) h sound_c.below sound_c.above (sym sound_c.whole) in
       named _ _ _ _ (sym (line_of p)) (value_by_load t s c) (fraction_mono _ _ (s.width *ℤ c.width) rising_area m)
+
+  -- and between those of both rows
+  row_of : (q : ℤ) → int_div_euclid (q *ℤ s.width) (s.width *ℤ c.width) ≡ int_div_euclid q c.width
+  row_of q = fraction_scaled q s.width c.width sound_s.positive sound_c.positive
+
+  pub up_to_row : along_loads t s.first c ≤ℤ along_loads t s.second c → value_in t s c ≤ℤ int_div_euclid (along_loads t s.second c) c.width
+  up_to_row h =
+      let p = along_loads t s.first c in let q = along_loads t s.second c in
+      let m = mixed_most q p q s.below s.above s.width h (omega (arith, ints)) sound_s.below sound_s.above (sym sound_s.whole) in
+      named _ _ _ _ (value_by_slew t s c) (sym (row_of q)) (fraction_mono _ _ (s.width *ℤ c.width) rising_area m)
+
+  pub from_row : along_loads t s.first c ≤ℤ along_loads t s.second c → int_div_euclid (along_loads t s.first c) c.width ≤ℤ value_in t s c
+  from_row h =
+      let p = along_loads t s.first c in let q = along_loads t s.second c in
+      let m = mixed_least p p q s.below s.above s.width (omega (arith, ints)) h sound_s.below sound_s.above (sym sound_s.whole) in
+      named _ _ _ _ (sym (row_of p)) (value_by_slew t s c) (fraction_mono _ _ (s.width *ℤ c.width) rising_area m)
 
 -- ---- a cell that rises
 module _ (k : Cell) (small : IsSmallCell k) (rising : IsRising k) (s c : Span) (s_alike : AreAlike (span_in k.slew.now) s) (c_alike : AreAlike (span_in k.load.now) c) where

@@ -3,5 +3,6 @@ pub mod Rows
 pub mod Stretches
 pub mod Mixes
 pub mod Ranges
+pub mod Rises
 pub mod Cells
 pub mod TablePairs

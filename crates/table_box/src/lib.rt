@@ -2,6 +2,7 @@
 #![tactic(auto)]
 
 mod cell;
+mod corners;
 mod lines;
 mod pair;
 mod place;

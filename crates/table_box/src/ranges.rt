@@ -7,6 +7,7 @@ ghost use Rattle.table_box.specs.Stretches.{IsStretch, box_of};
 ghost use Rattle.table_box.specs.Rows.{row_least, row_greatest};
 
 use crate::cell::cell_range;
+use crate::corners::corner_range;
 use crate::place::Place;
 use crate::stretch::Stretch;
 use crate::values::{value_at, value_on_line};
@@ -98,7 +99,8 @@ fn swept_range(table: &Table, slews: &Stretch, loads: &Stretch) -> (i64, i64)
     range
 }
 
-/// The least and the greatest value over several slews and several loads.
+/// The least and the greatest value over several slews and several loads: in one cell, at the corners of several where
+/// their numbers rise, and else along all grid lines.
 pub(crate) fn box_range(table: &Table, slews: &Stretch, loads: &Stretch) -> (i64, i64)
     requires table { IsTable table.now }
     requires slews { IsStretch table.now.slews slews.now }
@@ -109,6 +111,9 @@ pub(crate) fn box_range(table: &Table, slews: &Stretch, loads: &Stretch) -> (i64
     ensures greatest_number { IsTableNumber result.1 }
 {
     if let Some(range) = cell_range(table, slews, loads) {
+        return range;
+    }
+    if let Some(range) = corner_range(table, slews, loads) {
         return range;
     }
     swept_range(table, slews, loads)
@@ -131,7 +136,8 @@ pub(crate) fn have_same_axes(a: &Table, b: &Table) -> bool
 
 /// The least and the greatest value of a table over every whole slew from `s0` to `s1` fs and every whole load
 /// from `c0` to `c1` aF. It looks at the ends of the box and the grid lines within: at four values at most for a
-/// box in one cell, and at (k + 2)·(l + 2) at most where k slews and l loads of the index lie within.
+/// box in one cell, and at (k + 2)·(l + 2) at most where k slews and l loads of the index lie within. Where the numbers
+/// of the cells that the box touches rise along both axes, it looks at these numbers and at two values.
 pub fn range(table: &Table, s0: i64, s1: i64, c0: i64, c1: i64) -> (i64, i64)
     requires slews { s0 ≤ℤ s1 }
     requires loads { c0 ≤ℤ c1 }
