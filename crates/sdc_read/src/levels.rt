@@ -3,11 +3,11 @@
 ghost use Rattle.std.specs.Prelude.{◌≡◌, ◌==◌, IfOk, OnOk};
 ghost use Rattle.std.specs.Map.{lookup};
 ghost use Rattle.sdc_read.specs.Ports.{same_bit};
-ghost use Rattle.sdc_read.specs.Levels.{no_levels, for_role, for_port, for_rest, for_bit};
-ghost use Rattle.sdc_read.specs.Levels.{with_bit, with_port, with_role, with_all, with_place, levels_of};
+ghost use Rattle.sdc_read.specs.Levels.{no_levels, for_role, for_port, for_rest, for_bit, with_bit, with_port};
+ghost use Rattle.sdc_read.specs.Levels.{with_role, with_all, with_place, levels_of};
 
 use crate::change::{Bits, Change};
-use crate::mentions::{Mention, role_at};
+use crate::mentions::{Mentions, role_at};
 use crate::ports::PortBit;
 use crate::set_numbers::{SetNumbers, or_set, put};
 use indexmap::IndexMap;
@@ -159,14 +159,15 @@ impl Levels {
     }
 
     /// The levels of mentions, the last of which is looked at first.
-    pub fn of(alloc: Global, nets: &[Net], said: &[Mention]) -> Result<Levels, AllocError>
+    #[tactic(auto, using(crate::proofs::KeptLaws::levels_more))]
+    pub fn of(alloc: Global, nets: &[Net], said: &Mentions) -> Result<Levels, AllocError>
         ensures { IfOk result (λ l. l ≡ levels_of nets.now said.now) }
     {
         let mut levels = Levels::new(alloc);
         let mut place = said.len();
         'said: while place > 0 {
             place -= 1;
-            let mention = said[place];
+            let mention = said.at(place);
             levels.set(nets, mention.bits, mention.change)?;
         }
         Ok(levels)

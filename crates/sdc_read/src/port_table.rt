@@ -8,7 +8,7 @@ ghost use Rattle.sdc_read.specs.Levels.{set_by, known};
 
 use crate::change::is_clock;
 use crate::levels::Levels;
-use crate::mentions::{Mention, set_by};
+use crate::mentions::{Mentions, set_by};
 use crate::ports::{PortBit, PortSet};
 use crate::set_numbers::SetNumbers;
 use std::alloc::{AllocError, Global};
@@ -20,7 +20,7 @@ use verilog_net::{Net, Netlist};
 #[derive(Drop)]
 pub struct PortTable {
     nets: Vec<Net>,
-    said: Vec<Mention>,
+    said: Mentions,
     clock: Option<PortBit>,
     own: Option<SetNumbers>,
     levels: Levels,
@@ -36,11 +36,11 @@ impl Model for PortTable {
 
     ghost Value = { List PortSet };
 
-    ghost view = { λ t. map settled (told t.nets.items t.said.items) };
+    ghost view = { λ t. map settled (told t.nets.items t.said) };
 
     ghost invariant = { λ t.
-        ((at : PortBit) → known t.nets.items t.clock t.own t.levels at ≡ set_by t.nets.items at t.said.items)
-        × AllInRange (told t.nets.items t.said.items) };
+        ((at : PortBit) → known t.nets.items t.clock t.own t.levels at ≡ set_by t.nets.items at t.said)
+        × AllInRange (told t.nets.items t.said) };
 }
 
 /// Adds the net of this number.
@@ -67,7 +67,7 @@ fn copied_nets(alloc: Global, netlist: &Netlist) -> Result<Vec<Net>, AllocError>
 }
 
 /// What is set for the bit of the clock, if there is one.
-fn clock_numbers(nets: &[Net], clock: Option<PortBit>, said: &[Mention]) -> Option<SetNumbers>
+fn clock_numbers(nets: &[Net], clock: Option<PortBit>, said: &Mentions) -> Option<SetNumbers>
     ensures { IfSome clock (λ at. result ≡ set_by nets.now at said.now) }
 {
     match clock {
@@ -101,10 +101,10 @@ impl PortTable {
         alloc: Global,
         netlist: &Netlist,
         clock: Option<PortBit>,
-        said: Vec<Mention>,
+        said: Mentions,
     ) -> Result<PortTable, AllocError>
-        requires { AllFit (nets_of netlist.now.nets) clock said.items }
-        ensures { IfOk result (λ t. t ≡ map settled (told (nets_of netlist.now.nets) said.items)) }
+        requires { AllFit (nets_of netlist.now.nets) clock said }
+        ensures { IfOk result (λ t. t ≡ map settled (told (nets_of netlist.now.nets) said)) }
     {
         let nets = copied_nets(alloc, netlist)?;
         let levels = Levels::of(alloc, &nets, &said)?;

@@ -15,7 +15,7 @@ use crate::change::Change;
 use crate::clocks::knows_clock;
 use crate::constraints::{Clock, Constraints};
 use crate::listed::ListedNetlist;
-use crate::mentions::Mention;
+use crate::mentions::Mentions;
 use crate::numbers::{fall_in, number_from, number_in};
 use crate::objects::change_objects;
 use crate::port_table::PortTable;
@@ -35,7 +35,7 @@ pub struct Progress {
     time: i32,
     cap: i32,
     clock: Option<Clock>,
-    said: Vec<Mention>,
+    said: Mentions,
 }
 
 impl Model for Progress {
@@ -45,7 +45,7 @@ impl Model for Progress {
 
     ghost Value = { Kept };
 
-    ghost view = { λ p. record { time = p.time; cap = p.cap; clock = p.clock; said = p.said.items } };
+    ghost view = { λ p. record { time = p.time; cap = p.cap; clock = p.clock; said = p.said } };
 
     ghost invariant = { λ p. IsScale p.time × IsScale p.cap × IfSome p.clock IsClock };
 }
@@ -102,7 +102,7 @@ impl Progress {
             time,
             cap,
             clock: None,
-            said: Vec::new(alloc),
+            said: Mentions::new(alloc),
         }
     }
 
