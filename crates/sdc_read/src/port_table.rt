@@ -11,6 +11,7 @@ use crate::levels::Levels;
 use crate::mentions::{Mentions, set_by};
 use crate::ports::{PortBit, PortSet};
 use crate::set_numbers::SetNumbers;
+use name_numbers::TextKey;
 use std::alloc::{AllocError, Global};
 use std::marker::Model;
 use verilog_net::{Net, Netlist};
@@ -96,9 +97,10 @@ fn known(
 impl PortTable {
     ghost use Rattle.sdc_read.specs.Ports.{settled, port_at, IsInRange};
 
-    /// What is meant by what was said.
+    /// What is meant by what was said, with the key of the text that said it.
     pub fn new(
         alloc: Global,
+        key: TextKey,
         netlist: &Netlist,
         clock: Option<PortBit>,
         said: Mentions,
@@ -107,7 +109,7 @@ impl PortTable {
         ensures { IfOk result (λ t. t ≡ map settled (told (nets_of netlist.now.nets) said)) }
     {
         let nets = copied_nets(alloc, netlist)?;
-        let levels = Levels::of(alloc, &nets, &said)?;
+        let levels = Levels::of(alloc, key, &nets, &said)?;
         let own = clock_numbers(&nets, clock, &said);
         Ok(PortTable {
             nets,

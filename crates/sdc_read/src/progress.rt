@@ -21,6 +21,7 @@ use crate::objects::change_objects;
 use crate::port_table::PortTable;
 use crate::ports::PortBit;
 use crate::source::{bit_name, source_of};
+use name_numbers::TextKey;
 use sdc_forms::Statement;
 use sdc_words::Word;
 use std::alloc::{AllocError, Global};
@@ -228,10 +229,11 @@ impl Progress {
         }
     }
 
-    /// The constraints.
+    /// The constraints, with the key of their text.
     pub fn into_constraints(
         self,
         alloc: Global,
+        key: TextKey,
         netlist: &ListedNetlist<'_>,
     ) -> Result<Constraints, AllocError>
         requires { IsKept netlist.now self }
@@ -245,7 +247,7 @@ impl Progress {
             clock,
             said,
         } = self;
-        let ports = PortTable::new(alloc, netlist.whole(), bit_of(&clock), said)?;
+        let ports = PortTable::new(alloc, key, netlist.whole(), bit_of(&clock), said)?;
         Ok(Constraints { clock, ports })
     }
 }
