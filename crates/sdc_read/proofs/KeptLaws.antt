@@ -1,6 +1,6 @@
 -- Mentions that are kept by the numbers of what is said.
-use Rattle.std.proofs.Common.{◌≡◌, refl, sym, ap, ◌∙◌, subst, ℕ, ◌+◌, ◌<◌, [], ◌∷◌, ◌++◌, length, map, drop, arith}
-use Rattle.std.specs.Prelude.{List, Option, Some, None, IsSome}
+use Rattle.std.proofs.Common.{◌≡◌, refl, sym, ap, ◌∙◌, ℕ, ◌+◌, ◌<◌, [], ◌∷◌, ◌++◌, length, map, drop, arith}
+use Rattle.std.specs.Prelude.{List, Option, Some, None, IsSome, is_some}
 use Rattle.std.specs.List.{All, slice_get, slice_index_or}
 use Rattle.std.proofs.lemmas.List.{map-append, drop_more}
 use Rattle.std.proofs.lemmas.List.Elements.{All-append, All-from_recursion, All-head, All-tail, All-nil}
@@ -25,7 +25,7 @@ module _ (old new : List Said) (kept : AreKept old new) where
 
   there_by : (o : Option Said) (p : Place) → slice_get old p.said ≡ o → IsSome o → IsThere new p
   there_by None p at is = absurd (cc)
-  there_by (Some s) p at is = subst (λ o. IsSome o) (sym (kept p.said s at)) tt
+  there_by (Some s) p at is = ap is_some (kept p.said s at)
 
   pub view_kept : (ps : List Place) → All (IsThere old) ps → map (mention_of new) ps ≡ map (mention_of old) ps
   view_kept [] all = refl
