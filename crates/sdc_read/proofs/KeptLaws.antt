@@ -1,13 +1,12 @@
 -- Mentions that are kept by the numbers of what is said.
-use Rattle.std.proofs.Common.{◌≡◌, refl, sym, ap, ◌∙◌, ℕ, ◌+◌, ◌<◌, [], ◌∷◌, ◌++◌, length, map, drop, arith}
+use Rattle.std.proofs.Common.{◌≡◌, refl, sym, ap, ◌∙◌, ℕ, ◌+◌, [], ◌∷◌, ◌++◌, map, drop}
 use Rattle.std.specs.Prelude.{List, Option, Some, None, IsSome, is_some}
 use Rattle.std.specs.List.{All, slice_get, slice_index_or}
 use Rattle.std.proofs.lemmas.List.{map-append, drop_more}
-use Rattle.std.proofs.lemmas.List.Elements.{All-append, All-from_recursion, All-head, All-tail, All-nil}
+use Rattle.std.proofs.lemmas.List.Elements.{All-head, All-tail}
 use Rattle.std.proofs.lemmas.Option.{slice_get_within, get_or_from_slice_get}
 use Rattle.verilog_net.specs.declared.netlist.Net.{Net}
 use Rattle.sdc_forms.specs.declared.picked.Picked.{Picked}
-use Rattle.sdc_read.specs.declared.change.Bits as of_code
 use Rattle.sdc_read.specs.declared.mentions.Mention.{Mention}
 use Rattle.sdc_read.specs.declared.mentions.Place.{Place}
 use Rattle.sdc_read.specs.declared.mentions.Said.{Said}
