@@ -4,5 +4,6 @@ mod FoundLaws
 mod NumberLaws
 mod LevelLaws
 mod TableLaws
+mod KeptLaws
 pub mod PortLaws
 pub mod Ranges

@@ -3,6 +3,7 @@ pub mod Changes
 pub mod Objects
 pub mod Meaning
 pub mod Mentions
+pub mod Kept
 pub mod Levels
 pub mod Reading
 pub mod View

@@ -3,14 +3,15 @@
 ghost use Rattle.std.specs.Prelude.{◌≡◌, ◌==◌, IfOk, OnOk};
 ghost use Rattle.std.specs.Map.{lookup};
 ghost use Rattle.sdc_read.specs.Ports.{same_bit};
-ghost use Rattle.sdc_read.specs.Levels.{no_levels, for_role, for_port, for_rest, for_bit};
-ghost use Rattle.sdc_read.specs.Levels.{with_bit, with_port, with_role, with_all, with_place, levels_of};
+ghost use Rattle.sdc_read.specs.Levels.{no_levels, for_role, for_port, for_rest, for_bit, with_bit, with_port};
+ghost use Rattle.sdc_read.specs.Levels.{with_role, with_all, with_place, levels_of};
 
 use crate::change::{Bits, Change};
-use crate::mentions::{Mention, role_at};
+use crate::mentions::{Mentions, role_at};
 use crate::ports::PortBit;
 use crate::set_numbers::{SetNumbers, or_set, put};
 use indexmap::IndexMap;
+use name_numbers::TextKey;
 use std::alloc::{AllocError, Global};
 use std::marker::Model;
 use verilog_net::{Net, PortRole};
@@ -19,8 +20,8 @@ use verilog_net::{Net, PortRole};
 /// outputs. Of a bit its own numbers are the latest ones, then its port's, then those of all ports.
 #[derive(Drop)]
 pub struct Levels {
-    bits: IndexMap<PortBit, SetNumbers>,
-    ports: IndexMap<u32, SetNumbers>,
+    bits: IndexMap<PortBit, SetNumbers, TextKey>,
+    ports: IndexMap<u32, SetNumbers, TextKey>,
     inputs: Option<SetNumbers>,
     outputs: Option<SetNumbers>,
 }
@@ -35,13 +36,13 @@ impl Model for Levels {
 }
 
 impl Levels {
-    /// Nothing is set.
-    fn new(alloc: Global) -> Levels
+    /// Nothing is set, with the key of the text that names the bits.
+    fn new(alloc: Global, key: TextKey) -> Levels
         ensures { result ≡ no_levels }
     {
         Levels {
-            bits: IndexMap::new(alloc),
-            ports: IndexMap::new(alloc),
+            bits: IndexMap::with_hasher(alloc, key),
+            ports: IndexMap::with_hasher(alloc, key),
             inputs: None,
             outputs: None,
         }
@@ -158,15 +159,21 @@ impl Levels {
         }
     }
 
-    /// The levels of mentions, the last of which is looked at first.
-    pub fn of(alloc: Global, nets: &[Net], said: &[Mention]) -> Result<Levels, AllocError>
+    /// The levels of mentions, the last of which is looked at first, with the key of their text.
+    #[tactic(auto, using(crate::proofs::KeptLaws::levels_more))]
+    pub fn of(
+        alloc: Global,
+        key: TextKey,
+        nets: &[Net],
+        said: &Mentions,
+    ) -> Result<Levels, AllocError>
         ensures { IfOk result (λ l. l ≡ levels_of nets.now said.now) }
     {
-        let mut levels = Levels::new(alloc);
+        let mut levels = Levels::new(alloc, key);
         let mut place = said.len();
         'said: while place > 0 {
             place -= 1;
-            let mention = said[place];
+            let mention = said.at(place);
             levels.set(nets, mention.bits, mention.change)?;
         }
         Ok(levels)

@@ -13,7 +13,7 @@ ghost use Rattle.sdc_read.specs.View.{bits_text};
 
 use crate::change::{Bits, Change};
 use crate::listed::{ListedNetlist, named_bits, same_role};
-use crate::mentions::Mention;
+use crate::mentions::Mentions;
 use crate::ports::PortBit;
 use sdc_words::{NameList, Word, first_item};
 use std::alloc::AllocError;
@@ -80,23 +80,19 @@ fn change_named(
     clock: Option<PortBit>,
     change: Change,
     name: &[u8],
-    said: &mut Vec<Mention>,
+    said: &mut Mentions,
 ) -> Result<(), Stop>
     requires { IsChange change }
-    ensures value { Changes result (told (nets_of netlist.now) said.new.items)
+    ensures value { Changes result (told (nets_of netlist.now) said.new)
         (change_found clock change (named_bits (role_for change) netlist.now name.now)
-        (told (nets_of netlist.now) said.old.items)) }
+        (told (nets_of netlist.now) said.old)) }
     ensures fits { OnOk result
-        (AllFit (nets_of netlist.now) clock said.old.items → AllFit (nets_of netlist.now) clock said.new.items) }
+        (AllFit (nets_of netlist.now) clock said.old → AllFit (nets_of netlist.now) clock said.new) }
 {
     let Some(bits) = named_bits(change.role(), netlist.whole(), name) else {
         return Err(Stop::Refused(Code::C6));
     };
-    said.push(Mention {
-        change,
-        clock,
-        bits: Some(bits),
-    })?;
+    said.push(change, clock, Some(bits))?;
     Ok(())
 }
 
@@ -106,13 +102,13 @@ fn change_many(
     clock: Option<PortBit>,
     change: Change,
     names: &[u8],
-    said: &mut Vec<Mention>,
+    said: &mut Mentions,
 ) -> Result<(), Stop>
     requires { IsChange change }
-    ensures value { Changes result (told (nets_of netlist.now) said.new.items)
-        (change_names netlist.now clock change (items_of names.now) (told (nets_of netlist.now) said.old.items)) }
+    ensures value { Changes result (told (nets_of netlist.now) said.new)
+        (change_names netlist.now clock change (items_of names.now) (told (nets_of netlist.now) said.old)) }
     ensures fits { OnOk result
-        (AllFit (nets_of netlist.now) clock said.old.items → AllFit (nets_of netlist.now) clock said.new.items) }
+        (AllFit (nets_of netlist.now) clock said.old → AllFit (nets_of netlist.now) clock said.new) }
 {
     let mut rest = names;
     'names: while let Some((name, more)) = first_item(rest) {
@@ -128,14 +124,14 @@ fn change_names(
     clock: Option<PortBit>,
     change: Change,
     names: NameList<'_>,
-    said: &mut Vec<Mention>,
+    said: &mut Mentions,
 ) -> Result<(), Stop>
     requires { IsChange change }
-    ensures value { Changes result (told (nets_of netlist.now) said.new.items)
+    ensures value { Changes result (told (nets_of netlist.now) said.new)
         (change_names netlist.now clock change (names_in (names_text names.entry))
-        (told (nets_of netlist.now) said.old.items)) }
+        (told (nets_of netlist.now) said.old)) }
     ensures fits { OnOk result
-        (AllFit (nets_of netlist.now) clock said.old.items → AllFit (nets_of netlist.now) clock said.new.items) }
+        (AllFit (nets_of netlist.now) clock said.old → AllFit (nets_of netlist.now) clock said.new) }
 {
     match names {
         NameList::One(name) => change_named(netlist, clock, change, name, said),
@@ -144,24 +140,20 @@ fn change_names(
 }
 
 /// Changes all ports of the direction.
-#[tactic(auto, using(crate::proofs::MentionLaws::all_told))]
+#[tactic(auto)]
 fn change_all(
     netlist: &ListedNetlist<'_>,
     clock: Option<PortBit>,
     change: Change,
-    said: &mut Vec<Mention>,
+    said: &mut Mentions,
 ) -> Result<(), AllocError>
     requires { IsChange change }
-    ensures value { OnOk result (told (nets_of netlist.now) said.new.items
-        ≡ change_all netlist.now clock change (told (nets_of netlist.now) said.old.items)) }
+    ensures value { OnOk result (told (nets_of netlist.now) said.new
+        ≡ change_all netlist.now clock change (told (nets_of netlist.now) said.old)) }
     ensures fits { OnOk result
-        (AllFit (nets_of netlist.now) clock said.old.items → AllFit (nets_of netlist.now) clock said.new.items) }
+        (AllFit (nets_of netlist.now) clock said.old → AllFit (nets_of netlist.now) clock said.new) }
 {
-    said.push(Mention {
-        change,
-        clock,
-        bits: None,
-    })?;
+    said.push(change, clock, None)?;
     Ok(())
 }
 
@@ -171,13 +163,13 @@ fn change_role(
     clock: Option<PortBit>,
     change: Change,
     role: PortRole,
-    said: &mut Vec<Mention>,
+    said: &mut Mentions,
 ) -> Result<(), Stop>
     requires { IsChange change }
-    ensures value { Changes result (told (nets_of netlist.now) said.new.items)
-        (change_role netlist.now clock change role (told (nets_of netlist.now) said.old.items)) }
+    ensures value { Changes result (told (nets_of netlist.now) said.new)
+        (change_role netlist.now clock change role (told (nets_of netlist.now) said.old)) }
     ensures fits { OnOk result
-        (AllFit (nets_of netlist.now) clock said.old.items → AllFit (nets_of netlist.now) clock said.new.items) }
+        (AllFit (nets_of netlist.now) clock said.old → AllFit (nets_of netlist.now) clock said.new) }
 {
     if same_role(change.role(), role) {
         change_all(netlist, clock, change, said)?;
@@ -197,13 +189,13 @@ pub fn change_objects(
     clock: Option<PortBit>,
     change: Change,
     list: Word<'_>,
-    said: &mut Vec<Mention>,
+    said: &mut Mentions,
 ) -> Result<(), Stop>
     requires { IsChange change }
-    ensures value { Changes result (told (nets_of netlist.now) said.new.items)
-        (change_objects netlist.now clock change (word_text list.entry) (told (nets_of netlist.now) said.old.items)) }
+    ensures value { Changes result (told (nets_of netlist.now) said.new)
+        (change_objects netlist.now clock change (word_text list.entry) (told (nets_of netlist.now) said.old)) }
     ensures fits { OnOk result
-        (AllFit (nets_of netlist.now) clock said.old.items → AllFit (nets_of netlist.now) clock said.new.items) }
+        (AllFit (nets_of netlist.now) clock said.old → AllFit (nets_of netlist.now) clock said.new) }
 {
     if let Some(names) = port_names(list) {
         return change_names(netlist, clock, change, names, said);

@@ -8,9 +8,10 @@ ghost use Rattle.sdc_read.specs.Levels.{set_by, known};
 
 use crate::change::is_clock;
 use crate::levels::Levels;
-use crate::mentions::{Mention, set_by};
+use crate::mentions::{Mentions, set_by};
 use crate::ports::{PortBit, PortSet};
 use crate::set_numbers::SetNumbers;
+use name_numbers::TextKey;
 use std::alloc::{AllocError, Global};
 use std::marker::Model;
 use verilog_net::{Net, Netlist};
@@ -20,7 +21,7 @@ use verilog_net::{Net, Netlist};
 #[derive(Drop)]
 pub struct PortTable {
     nets: Vec<Net>,
-    said: Vec<Mention>,
+    said: Mentions,
     clock: Option<PortBit>,
     own: Option<SetNumbers>,
     levels: Levels,
@@ -36,11 +37,11 @@ impl Model for PortTable {
 
     ghost Value = { List PortSet };
 
-    ghost view = { λ t. map settled (told t.nets.items t.said.items) };
+    ghost view = { λ t. map settled (told t.nets.items t.said) };
 
     ghost invariant = { λ t.
-        ((at : PortBit) → known t.nets.items t.clock t.own t.levels at ≡ set_by t.nets.items at t.said.items)
-        × AllInRange (told t.nets.items t.said.items) };
+        ((at : PortBit) → known t.nets.items t.clock t.own t.levels at ≡ set_by t.nets.items at t.said)
+        × AllInRange (told t.nets.items t.said) };
 }
 
 /// Adds the net of this number.
@@ -67,7 +68,7 @@ fn copied_nets(alloc: Global, netlist: &Netlist) -> Result<Vec<Net>, AllocError>
 }
 
 /// What is set for the bit of the clock, if there is one.
-fn clock_numbers(nets: &[Net], clock: Option<PortBit>, said: &[Mention]) -> Option<SetNumbers>
+fn clock_numbers(nets: &[Net], clock: Option<PortBit>, said: &Mentions) -> Option<SetNumbers>
     ensures { IfSome clock (λ at. result ≡ set_by nets.now at said.now) }
 {
     match clock {
@@ -96,18 +97,19 @@ fn known(
 impl PortTable {
     ghost use Rattle.sdc_read.specs.Ports.{settled, port_at, IsInRange};
 
-    /// What is meant by what was said.
+    /// What is meant by what was said, with the key of the text that said it.
     pub fn new(
         alloc: Global,
+        key: TextKey,
         netlist: &Netlist,
         clock: Option<PortBit>,
-        said: Vec<Mention>,
+        said: Mentions,
     ) -> Result<PortTable, AllocError>
-        requires { AllFit (nets_of netlist.now.nets) clock said.items }
-        ensures { IfOk result (λ t. t ≡ map settled (told (nets_of netlist.now.nets) said.items)) }
+        requires { AllFit (nets_of netlist.now.nets) clock said }
+        ensures { IfOk result (λ t. t ≡ map settled (told (nets_of netlist.now.nets) said)) }
     {
         let nets = copied_nets(alloc, netlist)?;
-        let levels = Levels::of(alloc, &nets, &said)?;
+        let levels = Levels::of(alloc, key, &nets, &said)?;
         let own = clock_numbers(&nets, clock, &said);
         Ok(PortTable {
             nets,

@@ -15,12 +15,13 @@ use crate::change::Change;
 use crate::clocks::knows_clock;
 use crate::constraints::{Clock, Constraints};
 use crate::listed::ListedNetlist;
-use crate::mentions::Mention;
+use crate::mentions::Mentions;
 use crate::numbers::{fall_in, number_from, number_in};
 use crate::objects::change_objects;
 use crate::port_table::PortTable;
 use crate::ports::PortBit;
 use crate::source::{bit_name, source_of};
+use name_numbers::TextKey;
 use sdc_forms::Statement;
 use sdc_words::Word;
 use std::alloc::{AllocError, Global};
@@ -35,7 +36,7 @@ pub struct Progress {
     time: i32,
     cap: i32,
     clock: Option<Clock>,
-    said: Vec<Mention>,
+    said: Mentions,
 }
 
 impl Model for Progress {
@@ -45,7 +46,7 @@ impl Model for Progress {
 
     ghost Value = { Kept };
 
-    ghost view = { λ p. record { time = p.time; cap = p.cap; clock = p.clock; said = p.said.items } };
+    ghost view = { λ p. record { time = p.time; cap = p.cap; clock = p.clock; said = p.said } };
 
     ghost invariant = { λ p. IsScale p.time × IsScale p.cap × IfSome p.clock IsClock };
 }
@@ -102,7 +103,7 @@ impl Progress {
             time,
             cap,
             clock: None,
-            said: Vec::new(alloc),
+            said: Mentions::new(alloc),
         }
     }
 
@@ -228,10 +229,11 @@ impl Progress {
         }
     }
 
-    /// The constraints.
+    /// The constraints, with the key of their text.
     pub fn into_constraints(
         self,
         alloc: Global,
+        key: TextKey,
         netlist: &ListedNetlist<'_>,
     ) -> Result<Constraints, AllocError>
         requires { IsKept netlist.now self }
@@ -245,7 +247,7 @@ impl Progress {
             clock,
             said,
         } = self;
-        let ports = PortTable::new(alloc, netlist.whole(), bit_of(&clock), said)?;
+        let ports = PortTable::new(alloc, key, netlist.whole(), bit_of(&clock), said)?;
         Ok(Constraints { clock, ports })
     }
 }

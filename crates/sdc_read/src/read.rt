@@ -10,6 +10,7 @@ ghost use Rattle.text_forms.specs.Stops.{Changes, Gives};
 use crate::constraints::Constraints;
 use crate::listed::ListedNetlist;
 use crate::progress::Progress;
+use name_numbers::TextKey;
 use sdc_forms::statement_of_words;
 use sdc_words::{Command, Commands};
 use std::alloc::Global;
@@ -89,5 +90,5 @@ pub fn read_sdc(
     let netlist = ListedNetlist::new(alloc, netlist)?;
     let mut state = Progress::new(alloc, time_scale, cap_scale);
     read_all(alloc, &netlist, &mut Commands::new(bytes), &mut state)?;
-    Ok(state.into_constraints(alloc, &netlist)?)
+    Ok(state.into_constraints(alloc, TextKey::of(bytes), &netlist)?)
 }

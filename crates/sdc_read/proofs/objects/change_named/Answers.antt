@@ -11,16 +11,16 @@ use Rattle.sdc_read.proofs.objects.change_named.Goals as goal
 pub returns-clause-value : goal.returns-clause-value
 returns-clause-value c =
     let found : named_bits (role_for c.args.change) c.args.netlist.now c.args.name.now ≡ Some (bits_text c.in-Some.bits) = search rules in
-    ap (λ o. change_found c.args.clock c.args.change o (told (nets_of c.args.netlist.now) c.args.said.now.items)) found
-    ∙ ap Ok (sym (ap (told (nets_of c.args.netlist.now)) c.in_ok-push.ensures.items
-    ∙ told_push (nets_of c.args.netlist.now) c.args.said.now.items _))
+    ap (λ o. change_found c.args.clock c.args.change o (told (nets_of c.args.netlist.now) c.args.said.now)) found
+    ∙ ap Ok (sym (ap (told (nets_of c.args.netlist.now)) c.in_ok-push.ensures
+    ∙ told_push (nets_of c.args.netlist.now) c.args.said.now _))
 
 pub returns-clause-fits : goal.returns-clause-fits
 returns-clause-fits c = λ all.
     let found : named_bits (role_for c.args.change) c.args.netlist.now c.args.name.now ≡ Some (bits_text c.in-Some.bits) = search rules in
     let m : Mention = record { change = c.args.change; clock = c.args.clock; bits = Some c.in-Some.bits } in
-    subst (AllFit (nets_of c.args.netlist.now) c.args.clock) (sym c.in_ok-push.ensures.items)
-    (fits_push (nets_of c.args.netlist.now) c.args.clock c.args.said.now.items m
+    subst (AllFit (nets_of c.args.netlist.now) c.args.clock) (sym c.in_ok-push.ensures)
+    (fits_push (nets_of c.args.netlist.now) c.args.clock c.args.said.now m
     (record {
       change = c.requires;
       clock = same_clock c.args.clock;
