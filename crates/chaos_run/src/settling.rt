@@ -113,8 +113,9 @@ pub fn settle_in<'a, R: Threads + Sync, G: Gate>(
 /// threads of their own. The windows that then are in the words are the least fixpoint in widening and the greatest
 /// in narrowing, whatever the workers do when, and in narrowing all transitions that explain one another lie within
 /// them. No run makes more rounds than the design's bound, and none publishes more than the words of all nets once a
-/// round. The count of rounds is that of the rounds made: each began at words that were not closed. All memory is taken
-/// before the first look: where there is none, nothing was done.
+/// round. Its count is one of steps from the words at the call to those at the end, each from words that are not closed
+/// and as far as the operator carries them at least, as each round is: fewer of these would have left the words open.
+/// All memory is taken before the first look: where there is none, nothing was done.
 pub fn settle<R: Threads + Sync, G: Gate>(
     rt: &R,
     alloc: Global,

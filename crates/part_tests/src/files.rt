@@ -390,6 +390,8 @@ impl Files for Zeros {
 
     ghost faults = { λ s _. s.faults };
 
+    ghost opened = { λ _. None };
+
     fn open(&mut self, name: &str) -> Result<(), Failed> {
         if name == "zeros" {
             self.read = Some(0);

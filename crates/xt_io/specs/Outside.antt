@@ -1,6 +1,6 @@
 -- What the outside looks like from the program: open files, sinks, and counts of their faults.
-use Rattle.std.specs.Prelude.{◌≡◌, ℕ, ◌+◌, ◌<◌, ◌≤◌, ◌⊎◌, List, ◌++◌, length, take, drop, Option, option_map, IfSome}
-use Rattle.std.specs.Prelude.{IsSomeAnd}
+use Rattle.std.specs.Prelude.{◌≡◌, ℕ, ◌+◌, ◌<◌, ◌≤◌, ◌⊎◌, List, ◌++◌, length, take, drop, Option, Some, None, option_map, IfSome}
+use Rattle.std.specs.Prelude.{IsSomeAnd, Bool, true, false}
 
 -- a count rose: it is greater after than before, or it stands at the last value of a 64-bit counter
 abbrev pub Rose : ℕ → ℕ → Type 0
@@ -23,6 +23,16 @@ pub record Place : Type 0 where
 -- the place after `count` more bytes of the open name
 abbrev pub moved_by : ℕ → Option Place → Option Place
 moved_by count place = option_map (λ p. record { name = p.name; read = p.read + count }) place
+
+-- a record of names, where it is whole
+abbrev pub recorded : Bool → List (List ℕ) → Option (List (List ℕ))
+recorded true names = Some names
+recorded false names = None
+
+-- these names were opened, in this order, since the names before were; where there is a record of all that were opened
+abbrev pub AreOpened : List (List ℕ) → Option (List (List ℕ)) → Option (List (List ℕ)) → Type 0
+AreOpened names before after =
+    IfSome after (λ all. (first : List (List ℕ)) × (before ≡ Some first) × (all ≡ first ++ names))
 
 -- `bytes` are the next bytes of the content at the place, where a file is open and its content is known
 abbrev pub AreNext : Option Place → (List ℕ → Option (List ℕ)) → List ℕ → Type 0

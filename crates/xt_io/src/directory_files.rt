@@ -62,6 +62,8 @@ impl<D: Directory> Files for DirectoryFiles<D> {
 
     ghost faults = { λ s _. s.faults };
 
+    ghost opened = { λ _. None };
+
     fn open(&mut self, name: &str) -> Result<(), Failed>
         ensures directory { self.new.directory ≡ self.old.directory }
         ensures counts { self.old.faults ≤ self.new.faults }

@@ -1,13 +1,14 @@
-ghost use Rattle.std.specs.Prelude.{◌≡◌, ℕ, ◌<◌, ◌≤◌, List, length, take, Option, IsSome, IfOk, OnOk, OnErr};
+ghost use Rattle.std.specs.Prelude.{◌≡◌, ℕ, ◌<◌, ◌≤◌, List, [], ◌∷◌, length, take, Option, IsSome, IfOk, OnOk, OnErr};
 ghost use Rattle.xt_io.specs.Outside.{Rose, KeepsCounts, ChangesOnly, Place, moved_by, AreNext, IsAtEnd, OpenRose};
-ghost use Rattle.xt_io.specs.Outside.{OpenChangesOnly};
+ghost use Rattle.xt_io.specs.Outside.{AreOpened, OpenChangesOnly};
 
 use crate::failed::Failed;
 
 /// Files that are opened and read by name, one at a time.
 ///
-/// An implementation says what each name holds, where that is known; where its reader is; and how many faults
-/// each name had, a count that stays at the last value of a `u64` once that is reached.
+/// An implementation says what each name holds, where that is known; where its reader is; how many faults
+/// each name had, a count that stays at the last value of a `u64` once that is reached; and which names were opened, in
+/// order, where it has a record of all of them.
 pub trait Files {
     ghost content: { Self → List ℕ → Option (List ℕ) };
 
@@ -15,10 +16,13 @@ pub trait Files {
 
     ghost faults: { Self → List ℕ → ℕ };
 
+    ghost opened: { Self → Option (List (List ℕ)) };
+
     /// Opens a file at its first byte. After a failure no file is open. Only a failure raises a count of faults, and
     /// no count but that of the name.
     fn open(&mut self, name: &str) -> Result<(), Failed>
         ensures content { (m : List ℕ) → content self.new m ≡ content self.old m }
+        ensures recorded { AreOpened (name.now ∷ []) (opened self.old) (opened self.new) }
         ensures counts { (m : List ℕ) → faults self.old m ≤ faults self.new m }
         ensures opened { OnOk result (place self.new ≡ Some (record { name = name.now; read = 0 })) }
         ensures closed { OnErr result (place self.new ≡ None) }
@@ -32,6 +36,7 @@ pub trait Files {
     fn read(&mut self, buffer: &mut [u8]) -> Result<usize, Failed>
         requires { IsSome (place self.old) }
         ensures content { (m : List ℕ) → content self.new m ≡ content self.old m }
+        ensures record { opened self.new ≡ opened self.old }
         ensures counts { (m : List ℕ) → faults self.old m ≤ faults self.new m }
         ensures count { IfOk result (λ n. n ≤ length buffer.old) }
         ensures moved { IfOk result (λ n. place self.new ≡ moved_by n (place self.old)) }

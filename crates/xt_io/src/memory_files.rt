@@ -89,6 +89,8 @@ impl Files for MemoryFiles {
 
     ghost faults = { λ s. faults_of s };
 
+    ghost opened = { λ _. None };
+
     fn open(&mut self, name: &str) -> Result<(), Failed>
         ensures content { (m : List ℕ) → content_of self.new.files m ≡ content_of self.old.files m }
         ensures counts { (m : List ℕ) → faults_of self.old m ≤ faults_of self.new m }

@@ -1,5 +1,5 @@
-ghost use Rattle.std.specs.Prelude.{◌≡◌, ◌≢◌, ℕ, ◌<◌, ◌≤◌, ◌↔◌, List, length, IfSome, IfOk, vec_len};
-ghost use Rattle.xt_io.specs.Outside.{Rose, KeepsCounts, ChangesOnly, IsPast};
+ghost use Rattle.std.specs.Prelude.{◌≡◌, ◌≢◌, ℕ, ◌<◌, ◌≤◌, ◌↔◌, List, [], ◌∷◌, length, IfSome, IfOk, vec_len};
+ghost use Rattle.xt_io.specs.Outside.{Rose, AreOpened, KeepsCounts, ChangesOnly, IsPast};
 
 use crate::files::Files;
 use crate::read_fail::ReadFail;
@@ -11,7 +11,8 @@ pub const MOST_BYTES: usize = 268_435_456;
 // How many bytes are asked of the file at a time.
 const PIECE_BYTES: usize = 65_536;
 
-/// Reads the whole file of a name. It is refused as soon as more than [`MOST_BYTES`] bytes of it were read.
+/// Reads the whole file of a name, which it opens once. It is refused as soon as more than [`MOST_BYTES`] bytes of it
+/// were read.
 pub fn read_whole<F: Files>(alloc: Global, files: &mut F, name: &str) -> Result<Vec<u8>, ReadFail>
     ensures content { (m : List ℕ) → F.content files.new m ≡ F.content files.old m }
     ensures read { IfOk result (λ bytes. F.place files.new ≡ Some (record { name = name.now; read = vec_len bytes })) }
@@ -20,6 +21,9 @@ pub fn read_whole<F: Files>(alloc: Global, files: &mut F, name: &str) -> Result<
     ensures too_long { (result ≡ Err ReadFail.TooLong) ↔ IsPast (F.place files.new) name.now 268435456 }
     ensures longer { result ≡ Err ReadFail.TooLong → IfSome (F.content files.old name.now)
         (λ whole. 268435456 < length whole) }
+
+    // The file is opened once, and no other.
+    ensures opened { AreOpened (name.now ∷ []) (F.opened files.old) (F.opened files.new) }
 
     // The counts of faults: only a fault raises one, that of the name.
     ensures counts { (m : List ℕ) → F.faults files.old m ≤ F.faults files.new m }

@@ -1,5 +1,5 @@
-use Rattle.std.proofs.Common.{◌≡◌, ◌∙◌, sym, ap, arith}
-use Rattle.chaos_core.specs.Tasks.{publishing, task_at, task_of}
+use Rattle.std.proofs.Common.{◌∙◌, sym, ap, arith}
+use Rattle.chaos_core.specs.Tasks.{task_at, task_of}
 use Rattle.chaos_core.proofs.Stages.{room_stays}
 use Rattle.chaos_core.proofs.steps.worker_step.Goals as goal
 

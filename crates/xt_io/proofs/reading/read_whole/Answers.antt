@@ -90,6 +90,7 @@ pieces-preserved g c =
     c.pieces.invariant.place (c.pieces.invariant.same c.args.name.now) c.in-Ok-read.ensures.next in
     record {
       same = λ m. c.in-Ok-read.ensures.content m ∙ c.pieces.invariant.same m;
+      opened = rw c.in-Ok-read.ensures.record c.pieces.invariant.opened;
       counts = λ m. c.in-Ok-read.ensures.kept m ∙ c.pieces.invariant.counts m;
       place =
           c.in-Ok-read.ensures.moved ∙ (ap (moved_by c.in-Ok-read.count) c.pieces.invariant.place
