@@ -1,6 +1,6 @@
 -- What the outside looks like from the program: open files, sinks, and counts of their faults.
-use Rattle.std.specs.Prelude.{◌≡◌, ℕ, ◌+◌, ◌<◌, ◌≤◌, ◌⊎◌, List, ◌++◌, length, take, drop, Option, Some, None, option_map, IfSome}
-use Rattle.std.specs.Prelude.{IsSomeAnd, Bool, true, false}
+use Rattle.std.specs.Prelude.{◌≡◌, ℕ, ◌+◌, ◌<◌, ◌≤◌, ◌⊎◌, List, ◌++◌, length, take, drop, Option, option_map, IfSome}
+use Rattle.std.specs.Prelude.{IsSomeAnd, Some, None, Bool, true, false}
 
 -- a count rose: it is greater after than before, or it stands at the last value of a 64-bit counter
 abbrev pub Rose : ℕ → ℕ → Type 0
