@@ -23,3 +23,4 @@ pub mod NoNets
 pub mod Settling
 mod OnlyWorker
 mod LookLaws
+mod PassLaws

@@ -1,11 +1,10 @@
 -- Marks of nets whose windows a round did not move.
-use Rattle.std.proofs.Common.{◌≡◌, ℕ, zero, suc, ◌+◌, ◌<◌, ◌≤◌, inl, inr, sym, ap, subst, ◌∙◌, List, [], ◌∷◌, ◌++◌, length, take, drop, get_or, set, Bool, false, arith}
+use Rattle.std.proofs.Common.{◌≡◌, ℕ, zero, suc, ◌<◌, ◌≤◌, inl, inr, sym, ap, subst, ◌∙◌, List, [], ◌∷◌, length, get_or, set, Bool, false, arith}
 use Rattle.std.specs.Prelude.{IsTrue, Some, Option, slice_index}
 use Rattle.std.specs.List.{All, Contains, slice_get}
 use Rattle.std.proofs.lemmas.Bool.{cases_lt}
 use Rattle.std.proofs.lemmas.List.{get_or_default, get_or_past}
 use Rattle.std.proofs.lemmas.List.Elements.{Contains-get_or}
-use Rattle.std.proofs.Math.Seq.{take-append_seam}
 use Rattle.xt_model.specs.declared.direction.Direction.{Direction}
 use Rattle.xt_model.specs.declared.direction.Direction.TheVariants.{Widen, Narrow}
 use Rattle.xt_model.specs.declared.edge.Edge.{Edge}
@@ -45,12 +44,6 @@ marks_all P marks k all h n true = elim (cases_lt n k) [
   | inl below ↦ h n below true
   | inr past ↦ absurd (no_lie (subst IsTrue (get_or_past marks n false (omega (arith, all, past))) true))
 ]
-
--- marks that were handed out as a slice
-pub marks_back : (n : ℕ) (xs ys : List Bool) → n ≡ length xs → length ys ≡ length xs → length (take n (ys ++ drop (length ys) xs)) ≡ length xs
-marks_back n xs ys is same =
-    let P : ℕ → Type 0 = λ k. take k (ys ++ drop (length ys) xs) ≡ ys in
-    ap length (subst P (same ∙ sym is) (take-append_seam ys (drop (length ys) xs))) ∙ same
 
 pub same_pairs : (v w : List Pair) (n : ℕ) (p q : Pair) → slice_get v n ≡ Some p → slice_get w n ≡ Some q → p ≡ q → (e : Edge) → assigned v n e ≡ assigned w n e
 same_pairs v w n p q h k r e = ap (λ (o : Option Pair). quad_of_pair o e) (h ∙ (ap Some r ∙ sym k))

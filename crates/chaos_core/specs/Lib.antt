@@ -8,3 +8,4 @@ pub mod Machine
 pub mod Rounds
 pub mod OnlyWorker
 pub mod Looks
+pub mod Passes

@@ -35,7 +35,7 @@ fn is_marked(marks: &[bool], reads: &[NetId], place: usize) -> bool
 }
 
 /// Whether all nets of a read list are marked.
-fn are_marked(marks: &[bool], reads: &[NetId]) -> bool
+pub(crate) fn are_marked(marks: &[bool], reads: &[NetId]) -> bool
     requires { All (λ net. net.0 < length marks.now) reads.now }
     ensures { IsTrue result ↔ AreMarked marks.now (ids reads.now) }
 {
@@ -72,7 +72,8 @@ fn is_steady(
 }
 
 /// Whether the operator gives the windows after a round back at every net, where it does so at each net whose reads
-/// have the same windows before and after. There is a mark for each net, whatever it is at first. Takes no memory.
+/// have the same windows before and after. There is a mark for each net, whatever it is at first; after the look a net
+/// that is marked has the same windows before and after. Takes no memory.
 pub(crate) fn closed_after(
     design: &Design,
     lists: &ReadLists,
@@ -89,7 +90,7 @@ pub(crate) fn closed_after(
         → AreSameAt before.now after.now (list_of lists.now net) → IsSteadyAt design.now after.now net }
     ensures closed { IsTrue result
         ↔ ((net : ℕ) (e : Edge) → step design.now after.now net e ≡ assigned after.now net e) }
-    ensures marks { length marks.new ≡ length marks.old }
+    ensures unmoved { AreUnmoved before.now after.now marks.new }
 {
     mark_unmoved(marks, before, after);
     for net in 0..design.nets().len() as u32 {

@@ -14,6 +14,7 @@ ghost use Rattle.run_laws.specs.Transitions.{Transition, AreConsistent};
 ghost use Rattle.run_laws.specs.Laws.{LieWithin};
 ghost use Rattle.net_eval.specs.ReadLists.{AreReadLists};
 ghost use Rattle.chaos_core.specs.Looks.{IsLookRoom};
+ghost use Rattle.chaos_core.specs.Passes.{AreCalm};
 ghost use Rattle.chaos_core.specs.Memories.{IsKept};
 ghost use Rattle.chaos_core.specs.Rounds.{HasRoom, Settles};
 
@@ -33,29 +34,22 @@ pub struct Settled {
     pub rounds: u64,
 }
 
-/// The windows of a board before and after a round, and a mark for each net: what a look at its words takes.
+/// The windows of a board before and after a round: what a look at its words takes.
 #[derive(Drop)]
 struct LookRoom {
     before: Windows,
     after: Windows,
-    marks: Vec<bool>,
 }
 
 impl LookRoom {
     /// With the windows of a board twice.
-    fn new(alloc: Global, board: &MemoryBoard, design: &Design) -> Result<LookRoom, NoMemory>
-        requires { board.now.setting.design ≡ design.now }
-        ensures room { IfOk result (λ room. IsLookRoom board.now room.before room.after room.marks.items) }
+    fn new(alloc: Global, board: &MemoryBoard) -> Result<LookRoom, NoMemory>
+        ensures room { IfOk result (λ room. IsLookRoom board.now room.before room.after) }
         ensures kept { IfOk result (λ _. IsKept board.now) }
     {
         let before = board.windows(alloc)?;
         let after = board.windows(alloc)?;
-        let marks = vec![in alloc; false; design.nets().len()]?;
-        Ok(LookRoom {
-            before,
-            after,
-            marks,
-        })
+        Ok(LookRoom { before, after })
     }
 }
 
@@ -64,6 +58,7 @@ fn settle_on(
     board: &mut MemoryBoard,
     workers: &mut [Worker],
     room: LookRoom,
+    marks: &mut [bool],
     design: &Design,
     lists: &ReadLists,
     direction: Direction,
@@ -73,7 +68,8 @@ fn settle_on(
     requires direction { board.old.setting.way ≡ direction }
     requires start { board.old.words ≡ numbers_of board.old.setting.start }
     requires kept { IsKept board.old }
-    requires room { IsLookRoom board.old room.before room.after room.marks.items }
+    requires room { IsLookRoom board.old room.before room.after }
+    requires calm { AreCalm design.now lists.now board.old.words marks.old }
     requires lists { AreReadLists design.now lists.now }
     requires some { 0 < length workers.old }
     requires few { length workers.old ≤ most_workers }
@@ -83,21 +79,16 @@ fn settle_on(
         → Settles board.old.setting lists.now order (length workers.old) number result.windows result.rounds }
     ensures few { (bound : ℕ) → IsRoundBound design.now.nets bound → result.rounds ≤ bound }
 {
-    let LookRoom {
-        before,
-        after,
-        marks,
-    } = room;
+    let LookRoom { before, after } = room;
     let mut windows = before;
     let mut later = after;
-    let mut marks = marks;
     let mut source = Source::new(number);
     let mut done = closed(design, &windows);
     let mut rounds: u64 = 0;
     'rounds: while !done {
-        round(board, workers, design, lists, direction, &mut source);
+        round(board, workers, design, lists, direction, &mut source, marks);
         board.load_into(&mut later);
-        done = closed_after(design, lists, marks.as_mut_slice(), &windows, &later);
+        done = closed_after(design, lists, marks, &windows, &later);
         let spare = windows;
         windows = later;
         later = spare;
@@ -135,11 +126,13 @@ pub fn settle_picked(
 {
     let mut board = MemoryBoard::new(alloc, design, direction, start)?;
     let mut workers = new_workers(alloc, lists, workers)?;
-    let room = LookRoom::new(alloc, &board, design)?;
+    let room = LookRoom::new(alloc, &board)?;
+    let mut marks = vec![in alloc; false; design.nets().len()]?;
     Ok(settle_on(
         &mut board,
         workers.as_mut_slice(),
         room,
+        marks.as_mut_slice(),
         design,
         lists,
         direction,

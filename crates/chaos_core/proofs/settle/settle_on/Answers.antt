@@ -1,11 +1,13 @@
-use Rattle.std.proofs.Common.{◌≡◌, ℕ, ◌+◌, ap, arith, refl, subst, ◌∙◌, List, length}
+use Rattle.std.proofs.Common.{◌≡◌, ℕ, ◌+◌, arith, refl, subst, ◌∙◌, List, length}
 use Rattle.std.proofs.lemmas.Bool.{both_ways}
 use Rattle.xt_meaning.proofs.Extremes.{extreme_from_fixpoint}
 use Rattle.xt_model.specs.declared.net.NetId.{NetId}
 use Rattle.chaos_core.specs.declared.setting.Setting.{Setting}
 use Rattle.chaos_core.specs.Rounds.{Pause, IsRound, pause_at}
 use Rattle.chaos_core.proofs.Chained.{few_here}
-use Rattle.chaos_core.proofs.LookLaws.{marks_back, steady_kept}
+use Rattle.chaos_core.proofs.LookLaws.{steady_kept}
+use Rattle.chaos_core.proofs.PassLaws.{calm_from_unmoved}
+use Rattle.chaos_core.proofs.Sight.{seen_range}
 use Rattle.chaos_core.proofs.Settling.{carried, run_nearer, fits_under, one_more, settles_there}
 use Rattle.chaos_core.proofs.settle.settle_on.Goals as goal
 
@@ -88,15 +90,20 @@ rounds-preserved c =
     let o = c.requires.lists.ordered.1 in
     let first = rounds_here a b lists mine m n p q inv.setting inv.count (c.round.ensures.round mine o) in
     let carry = carried a d lists mine n p q c.requires.design c.requires.some c.requires.lists o inv.kept first in
+    let after = fits_under a c.round.new.board.setting d c.args.direction c.load_into.new.windows own c.requires.design c.requires.direction c.load_into.ensures.fits in
     record {
       setting = own;
       count = c.round.ensures.count ∙ inv.count;
       rooms = c.round.ensures.rooms;
-      fits = fits_under a c.round.new.board.setting d c.args.direction c.load_into.new.windows own c.requires.design c.requires.direction c.load_into.ensures.fits;
+      fits = after;
       numbers = c.load_into.ensures.numbers;
       steady = c.closed_after-done.ensures.closed;
       later = inv.fits.windows.count;
-      marks = marks_back c.rounds.marks.len c.rounds.marks.items c.closed_after-done.new.marks c.rounds.marks.ok.0 (c.closed_after-done.ensures.marks ∙ ap length c.as_mut_slice.ensures.value) ∙ inv.marks;
+      calm = calm_from_unmoved d lists q.words c.rounds.windows c.load_into.new.windows c.closed_after-done.new.marks inv.fits.windows.count after.windows.in_range c.load_into.ensures.numbers
+          (λ word. seen_range a q.words word carry.kept.seen) c.closed_after-done.ensures.unmoved
+          (λ net there alike.
+          steady_kept a d c.args.direction lists c.rounds.windows c.load_into.new.windows p.words q.words c.requires.design c.requires.direction c.requires.lists inv.fits after inv.numbers c.load_into.ensures.numbers carry net
+          there alike);
       kept = carry.kept;
       path = λ order oo.
           let round = rounds_here a b lists order m n p q inv.setting inv.count (c.round.ensures.round order oo) in
@@ -144,3 +151,6 @@ prove-unreachable-requires c =
 
 pub overflow_add-rounds : goal.overflow_add-rounds
 overflow_add-rounds c = let most = c.bound.type_inv in omega (arith, c.if-prove.false, most)
+
+pub closed_after-done-requires-clause-marks : goal.closed_after-done-requires-clause-marks
+closed_after-done-requires-clause-marks c = c.round.ensures.marks ∙ c.rounds.invariant.calm.count

@@ -7,6 +7,7 @@ use Rattle.xt_meaning.specs.Measure.{room}
 use Rattle.xt_meaning.specs.Words.{numbers_of}
 use Rattle.chaos_core.specs.Memories.{AreKept}
 use Rattle.chaos_core.specs.Rounds.{HasRoom, AreRounds, pause_at}
+use Rattle.chaos_core.specs.Passes.{AreCalm}
 use Rattle.chaos_core.proofs.Settling.{IsSteady}
 use Rattle.chaos_core.proofs.settle.settle_on.Given as goal
 
@@ -18,7 +19,7 @@ invariant-rounds l = record {
   fits : IsFittingStart l.direction l.design l.windows;
   numbers : numbers_of l.windows ≡ l.board.words;
   later : length l.later ≡ length l.design.nets;
-  marks : length l.marks.items ≡ length l.design.nets;
+  calm : AreCalm l.design l.lists l.board.words l.marks;
   steady : IsTrue l.done ↔ IsSteady l.design l.windows;
   kept : AreKept l.fn.board.setting l.board.words;
   path : (order : List ℕ) → IsOrder l.design.nets order
