@@ -1,5 +1,6 @@
 mod Against
 mod Kept
+pub mod OneWorst
 mod Placed
 mod Points
 mod Turns

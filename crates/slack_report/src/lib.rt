@@ -3,11 +3,13 @@
 
 mod check;
 mod kinds;
+mod laws;
 mod margin;
 mod point;
 mod sinks;
 mod slack;
 
 pub use kinds::worst;
+pub use laws::a_worst_check_is_unique;
 pub use point::{DataSink, data_sink, is_hold, point_name};
 pub use slack::{Slack, slacks};
