@@ -1,5 +1,6 @@
 mod Attained
 mod Backs
+pub mod OnePath
 mod Picked
 mod Spending
 mod Spent

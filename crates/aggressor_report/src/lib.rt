@@ -4,6 +4,7 @@
 
 mod entries;
 mod guilt;
+mod laws;
 mod mark;
 mod passage;
 mod path;
@@ -13,6 +14,7 @@ mod window;
 
 pub use entries::guilty;
 pub use guilt::Guilt;
+pub use laws::a_path_is_unique;
 pub use mark::Mark;
 pub use path::{Path, PathStep};
 pub use walk::worst_path;
