@@ -7,4 +7,4 @@ mod Spans
 mod Steady
 mod Parts
 mod Heights
-mod Lists
+pub mod Lists

@@ -1,4 +1,5 @@
 mod Lines
+pub mod OneReport
 mod Pieces
 mod Bound
 mod CheckLines

@@ -6,6 +6,7 @@ mod checks;
 mod edge_windows;
 mod fields;
 mod guilty;
+mod laws;
 mod noise;
 mod paths;
 mod points;
@@ -17,6 +18,9 @@ mod unconstrained;
 mod windows;
 mod worst;
 
+pub use laws::{
+    a_depth_is_unique, a_report_is_unique, a_summary_is_unique, what_is_checked_is_unique,
+};
 pub use report::write_report;
 pub use report_kind::ReportKind;
 pub use summary::write_summary;
