@@ -7,3 +7,4 @@ mod Within
 mod Lifts
 mod Agreement
 mod Given
+mod Openings

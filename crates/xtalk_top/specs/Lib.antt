@@ -6,4 +6,5 @@ pub mod Replay
 pub mod Link
 pub mod Gen
 pub mod FailureWords
+pub mod Opened
 pub mod Call

@@ -1,12 +1,14 @@
 //! The files of a block, each read and then its text, in their order; and their linking.
 
-ghost use Rattle.std.specs.Prelude.{◌≡◌, IfOk, IfErr};
+ghost use Rattle.std.specs.Prelude.{◌≡◌, [], ◌∷◌, IfOk, IfErr};
 ghost use Rattle.xt_model.specs.Sound.{IsSound};
 ghost use Rattle.sdc_read.specs.Meaning.{IsScale};
 ghost use Rattle.link_rules.specs.Bare.{Inputs};
 ghost use Rattle.link_rules.specs.Link.{IsLinked};
 ghost use Rattle.link_rules.specs.Sound.{AreSoundConstraints, AreSoundParasitics, IsSoundLibrary, IsSoundNetlist};
+ghost use Rattle.xt_io.specs.Outside.{AreOpened};
 ghost use Rattle.xtalk_top.specs.Call.{Answers, IsStop};
+ghost use Rattle.xtalk_top.specs.Opened.{HasValue, OpensFirst, block_files};
 ghost use Rattle.xtalk_top.specs.Linking.{BlockMeans, FileAndText, HoldsText, LinkingMeans, MakeDesign};
 ghost use Rattle.xtalk_top.specs.Linking.{FinishDesign, LastFilesMean};
 ghost use Rattle.xtalk_top.specs.Linking.{constraints_in, library_in, netlist_in, parasitics_in};
@@ -49,6 +51,7 @@ fn library<F: Files>(alloc: Global, files: &mut F, file: FileName) -> Result<Lib
     ensures sound { IfOk result IsSoundLibrary }
     ensures scales { IfOk result (λ v. IsScale v.time_scale × IsScale v.cap_scale) }
     ensures content { (m : Text) → F.content files.new m ≡ F.content files.old m }
+    ensures opened { AreOpened (file ∷ []) (F.opened files.old) (F.opened files.new) }
 {
     let (file, bytes) = read_file(alloc, files, file)?;
     match read_library(alloc, &bytes) {
@@ -65,6 +68,7 @@ fn netlist<F: Files>(alloc: Global, files: &mut F, file: FileName) -> Result<Net
         Answers result IsValue Meant (F.faults files.old) (F.faults files.new) }
     ensures sound { IfOk result IsSoundNetlist }
     ensures content { (m : Text) → F.content files.new m ≡ F.content files.old m }
+    ensures opened { AreOpened (file ∷ []) (F.opened files.old) (F.opened files.new) }
 {
     let (file, bytes) = read_file(alloc, files, file)?;
     match read_netlist(alloc, &bytes) {
@@ -81,6 +85,7 @@ fn parasitics<F: Files>(alloc: Global, files: &mut F, file: FileName) -> Result<
         Answers result IsValue Meant (F.faults files.old) (F.faults files.new) }
     ensures sound { IfOk result AreSoundParasitics }
     ensures content { (m : Text) → F.content files.new m ≡ F.content files.old m }
+    ensures opened { AreOpened (file ∷ []) (F.opened files.old) (F.opened files.new) }
 {
     let (file, bytes) = read_file(alloc, files, file)?;
     match read_spef(alloc, &bytes) {
@@ -106,6 +111,7 @@ fn constraints<F: Files>(
         Answers result IsValue Meant (F.faults files.old) (F.faults files.new) }
     ensures sound { IfOk result AreSoundConstraints }
     ensures content { (m : Text) → F.content files.new m ≡ F.content files.old m }
+    ensures opened { AreOpened (file ∷ []) (F.opened files.old) (F.opened files.new) }
 {
     let (file, bytes) = read_file(alloc, files, file)?;
     match read_sdc(
@@ -174,12 +180,13 @@ fn finish_block<F: Files>(
     requires time { IsScale library.now.time_scale }
     requires cap { IsScale library.now.cap_scale }
     requires netlist { IsSoundNetlist netlist.now }
-    ensures { Answers
+    ensures means { Answers
         result
         (FinishDesign spef sdc (F.content files.old) library.now netlist.now)
         (λ o. LastFilesMean spef sdc (F.content files.old) library.now netlist.now (λ x. LinkingMeans x (λ _. ⊥) o) o)
         (F.faults files.old)
         (F.faults files.new) }
+    ensures opened { OpensFirst (spef ∷ sdc ∷ []) (HasValue result) (F.opened files.old) (F.opened files.new) }
 {
     let parasitics = parasitics(alloc, files, spef)?;
     let constraints = constraints(alloc, files, sdc, library, netlist)?;
@@ -188,9 +195,10 @@ fn finish_block<F: Files>(
 
 /// The design that the four files of a block make.
 pub fn read_block<F: Files>(alloc: Global, files: &mut F, block: BlockFiles) -> Result<Design, Stop>
-    ensures { let Meant = BlockMeans block (F.content files.old) (λ _. ⊥) in
+    ensures means { let Meant = BlockMeans block (F.content files.old) (λ _. ⊥) in
         let IsValue = MakeDesign block (F.content files.old) in
         Answers result IsValue Meant (F.faults files.old) (F.faults files.new) }
+    ensures opened { OpensFirst (block_files block) (HasValue result) (F.opened files.old) (F.opened files.new) }
 {
     let BlockFiles {
         lib,

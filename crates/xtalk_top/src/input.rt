@@ -1,6 +1,7 @@
 //! The files of a command: their bytes, and the designs that they hold.
 
-ghost use Rattle.std.specs.Prelude.{◌≡◌, ◌≤◌, length, IfOk, IfErr, IfSome};
+ghost use Rattle.std.specs.Prelude.{◌≡◌, ◌≤◌, [], ◌∷◌, length, IfOk, IfErr, IfSome};
+ghost use Rattle.xt_io.specs.Outside.{AreOpened};
 ghost use Rattle.command_line.specs.Words.{Text};
 ghost use Rattle.xtalk_top.specs.Outcome.{FileMeans, LinkedMeans, IsDesignText, most_bytes};
 ghost use Rattle.xtalk_top.specs.Call.{Answers, IsStop};
@@ -12,7 +13,7 @@ use std::alloc::Global;
 use xt_io::{Files, ReadFail, read_whole};
 use xt_model::Design;
 
-/// The bytes of a file, after its name.
+/// The bytes of a file, after its name. The file is opened once.
 pub fn read_file<F: Files>(
     alloc: Global,
     files: &mut F,
@@ -21,6 +22,7 @@ pub fn read_file<F: Files>(
     ensures content { (m : Text) → F.content files.new m ≡ F.content files.old m }
     ensures whole { IfOk result (λ r. IfSome (F.content files.old file) (λ whole. r.1.items ≡ whole)) }
     ensures fits { IfOk result (λ r. length r.1.items ≤ most_bytes) }
+    ensures opened { AreOpened (file ∷ []) (F.opened files.old) (F.opened files.new) }
     ensures answer { let Meant = FileMeans file (F.content files.old) (λ _. ⊥) in
         Answers result (λ r. r.0 ≡ file) Meant (F.faults files.old) (F.faults files.new) }
 {

@@ -4,6 +4,7 @@ ghost use Rattle.std.specs.Prelude.{◌≡◌, IfOk, IfErr};
 ghost use Rattle.text_lines.specs.Lines.{text_of};
 ghost use Rattle.linked_text.specs.Linked.{linked};
 ghost use Rattle.xtalk_top.specs.Outcome.{prints};
+ghost use Rattle.xtalk_top.specs.Opened.{HasValue, OpensFirst, block_files};
 ghost use Rattle.xtalk_top.specs.Call.{Answers, IsStop};
 ghost use Rattle.xtalk_top.specs.Link.{LinkMeans};
 
@@ -30,8 +31,9 @@ fn text_of_design(alloc: Global, design: &Design) -> Result<Vec<u8>, Stop>
 /// The linked text of the design that the four files of the job's block make, by the job's Miller numbers where it
 /// has any.
 pub fn text_of_block<F: Files>(alloc: Global, files: &mut F, job: LinkJob) -> Result<Vec<u8>, Stop>
-    ensures { let Meant = LinkMeans job (F.content files.old) in
+    ensures means { let Meant = LinkMeans job (F.content files.old) in
         Answers result (λ text. Meant (prints text.items)) Meant (F.faults files.old) (F.faults files.new) }
+    ensures opened { OpensFirst (block_files job.files) (HasValue result) (F.opened files.old) (F.opened files.new) }
 {
     let LinkJob {
         files: block,

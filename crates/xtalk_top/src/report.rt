@@ -2,6 +2,7 @@
 
 ghost use Rattle.command_line.specs.Words.{IsWorkerCount};
 ghost use Rattle.xtalk_top.specs.Outcome.{prints};
+ghost use Rattle.xtalk_top.specs.Opened.{HasValue, OpensFirst, block_files};
 ghost use Rattle.xtalk_top.specs.Call.{Answers};
 ghost use Rattle.xtalk_top.specs.Report.{ReportMeans};
 
@@ -26,8 +27,9 @@ pub fn report_of_block<R: Threads + Sync, F: Files, G: Gate>(
     job: ReportJob,
 ) -> Result<Vec<u8>, Stop>
     requires { IsWorkerCount job.workers }
-    ensures { let Meant = ReportMeans job (F.content files.old) in
+    ensures means { let Meant = ReportMeans job (F.content files.old) in
         Answers result (λ text. Meant (prints text.items)) Meant (F.faults files.old) (F.faults files.new) }
+    ensures opened { OpensFirst (block_files job.files) (HasValue result) (F.opened files.old) (F.opened files.new) }
 {
     let ReportJob {
         files: block,

@@ -1,5 +1,7 @@
 //! The command `solve`.
 
+ghost use Rattle.std.specs.Prelude.{[], ◌∷◌};
+ghost use Rattle.xt_io.specs.Outside.{AreOpened};
 ghost use Rattle.command_line.specs.Words.{IsWorkerCount};
 ghost use Rattle.xtalk_top.specs.Outcome.{prints};
 ghost use Rattle.xtalk_top.specs.Call.{Answers};
@@ -24,8 +26,9 @@ pub fn solve<R: Threads + Sync, F: Files, G: Gate>(
     job: SolveJob,
 ) -> Result<Vec<u8>, Stop>
     requires { IsWorkerCount job.workers }
-    ensures { let Meant = SolveMeans job (F.content files.old) in
+    ensures means { let Meant = SolveMeans job (F.content files.old) in
         Answers result (λ text. Meant (prints text.items)) Meant (F.faults files.old) (F.faults files.new) }
+    ensures opened { AreOpened (job.file ∷ []) (F.opened files.old) (F.opened files.new) }
 {
     let SolveJob {
         file,

@@ -1,5 +1,7 @@
 //! The report of the design in a linked text.
 
+ghost use Rattle.std.specs.Prelude.{[], ◌∷◌};
+ghost use Rattle.xt_io.specs.Outside.{AreOpened};
 ghost use Rattle.command_line.specs.Words.{IsWorkerCount};
 ghost use Rattle.xtalk_top.specs.Outcome.{TextReportMeans, prints};
 ghost use Rattle.xtalk_top.specs.Call.{Answers};
@@ -29,8 +31,9 @@ pub fn report_of_text<R: Threads + Sync, F: Files, G: Gate>(
     runs: Runs,
 ) -> Result<Vec<u8>, Stop>
     requires { IsWorkerCount runs.workers }
-    ensures { let Meant = TextReportMeans file miller kind (F.content files.old) in
+    ensures means { let Meant = TextReportMeans file miller kind (F.content files.old) in
         Answers result (λ text. Meant (prints text.items)) Meant (F.faults files.old) (F.faults files.new) }
+    ensures opened { AreOpened (file ∷ []) (F.opened files.old) (F.opened files.new) }
 {
     let (file, bytes) = read_file(alloc, files, file)?;
     let design = read_design(alloc, file, bytes)?;

@@ -1,9 +1,10 @@
 ghost use Rattle.std.specs.Prelude.{◌≡◌, ◌≢◌, ◌⊎◌};
 ghost use Rattle.xt_io.specs.Outside.{Rose, KeepsCounts, appended};
-ghost use Rattle.command_line.specs.Words.{Text, HasCount, bytes_of};
+ghost use Rattle.command_line.specs.Words.{Text, HasCount, bytes_of, job_of};
 ghost use Rattle.xtalk_top.specs.Outcome.{prints, refuses, unread};
 ghost use Rattle.xtalk_top.specs.Call.{JobMeans, Means, AreKnown, Answers, IsCall, IsFailure, HasFault, IsCutOff};
 ghost use Rattle.xtalk_top.specs.Call.{WritesLine, line_of, status_of};
+ghost use Rattle.xtalk_top.specs.Opened.{HasValue, OpensFirst, files_named, files_of};
 ghost use Rattle.xtalk_top.specs.declared.refusal.Refusal.{Refusal};
 ghost use Rattle.xtalk_top.specs.declared.refusal.Failure.{Failure};
 ghost use Rattle.xtalk_top.specs.declared.refusal.Failure.TheVariants.{NoText, Unwritten};
@@ -62,6 +63,10 @@ pub fn xtalk<R: Threads + Sync, F: Files, O: Sink, E: Sink>(
         → ((file : Text) → Means (bytes_of words.now) (F.content files.old) (unread file)
         → HasFault (F.faults files.old) (F.faults files.new) file → ⊥)
         → (Rose (O.faults out.old) (O.faults out.new) → ⊥) → (result ≡ 0) ⊎ (result ≡ 8) }
+
+    // A first part of the files that the words name was opened, each once, in their order; all of them for 0.
+    ensures opened { OpensFirst (files_named (job_of (bytes_of words.now))) (result ≡ 0)
+        (F.opened files.old) (F.opened files.new) }
 {
     xtalk_gated(rt, alloc, &OpenGate, words, files, out, err)
 }
@@ -77,9 +82,11 @@ pub fn xtalk_gated<R: Threads + Sync, F: Files, O: Sink, E: Sink, G: Gate>(
     out: &mut O,
     err: &mut E,
 ) -> u8
-    ensures { IsCall O.written O.faults E.written E.faults (Means (bytes_of words.now) (F.content files.old))
+    ensures call { IsCall O.written O.faults E.written E.faults (Means (bytes_of words.now) (F.content files.old))
         (AreKnown (bytes_of words.now) (F.content files.old)) (F.faults files.old) (F.faults files.new)
         out.old out.new err.old err.new result }
+    ensures opened { OpensFirst (files_named (job_of (bytes_of words.now))) (result ≡ 0)
+        (F.opened files.old) (F.opened files.new) }
 {
     match text_of(rt, alloc, gate, words, files) {
         Ok(text) => write_text(out, err, &text),
@@ -110,8 +117,10 @@ fn text_of<R: Threads + Sync, F: Files, G: Gate>(
     words: &[String],
     files: &mut F,
 ) -> Result<Vec<u8>, Stop>
-    ensures { let Meant = Means (bytes_of words.now) (F.content files.old) in
+    ensures means { let Meant = Means (bytes_of words.now) (F.content files.old) in
         Answers result (λ text. Meant (prints text.items)) Meant (F.faults files.old) (F.faults files.new) }
+    ensures opened { OpensFirst (files_named (job_of (bytes_of words.now))) (HasValue result)
+        (F.opened files.old) (F.opened files.new) }
 {
     match parse_words(alloc, words) {
         Ok(job) => job_text(rt, alloc, gate, files, job),
@@ -129,8 +138,9 @@ fn job_text<R: Threads + Sync, F: Files, G: Gate>(
     job: Job,
 ) -> Result<Vec<u8>, Stop>
     requires count { HasCount job }
-    ensures { let Meant = JobMeans job (F.content files.old) in
+    ensures means { let Meant = JobMeans job (F.content files.old) in
         Answers result (λ text. Meant (prints text.items)) Meant (F.faults files.old) (F.faults files.new) }
+    ensures opened { OpensFirst (files_of job) (HasValue result) (F.opened files.old) (F.opened files.new) }
 {
     match job {
         Job::Report(job) => report_of_block(rt, alloc, gate, files, job),

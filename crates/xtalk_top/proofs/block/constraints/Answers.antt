@@ -54,3 +54,15 @@ returns-in-Err-Refused-clause-content g c = c.read_file.ensures.content
 
 pub returns-in-Err-NoMemory-clause-content : goal.returns-in-Err-NoMemory-clause-content
 returns-in-Err-NoMemory-clause-content g c = c.read_file.ensures.content
+
+pub returns-in-Ok-clause-opened : goal.returns-in-Ok-clause-opened
+returns-in-Ok-clause-opened g c = c.read_file.ensures.opened
+
+pub returns-in-Err-Refused-clause-opened : goal.returns-in-Err-Refused-clause-opened
+returns-in-Err-Refused-clause-opened g c = c.read_file.ensures.opened
+
+pub returns-in-Err-NoMemory-clause-opened : goal.returns-in-Err-NoMemory-clause-opened
+returns-in-Err-NoMemory-clause-opened g c = c.read_file.ensures.opened
+
+pub returns-in_err-file-clause-opened : goal.returns-in_err-file-clause-opened
+returns-in_err-file-clause-opened g c = c.read_file.ensures.opened

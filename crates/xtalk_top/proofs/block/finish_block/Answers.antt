@@ -3,10 +3,12 @@ use Rattle.link_rules.specs.Bare.{Inputs}
 use Rattle.xtalk_top.specs.Linking.{FileAndText, FinishDesign, LastFilesMean, LinkingMeans, constraints_in, parasitics_in}
 use Rattle.xtalk_top.proofs.Blocks.{holds_as, text_as, text_leads, text_stops}
 use Rattle.xtalk_top.proofs.Lifts.{answers_unread, kept_trans, stops_first, stops_later}
+use Rattle.std.proofs.Common.{[], ◌∷◌}
+use Rattle.xtalk_top.proofs.Openings.{opened_then, opens_all, opens_part}
 use Rattle.xtalk_top.proofs.block.finish_block.Goals as goal
 
-pub returns-in_err-parasitics : goal.returns-in_err-parasitics
-returns-in_err-parasitics g c =
+pub returns-in_err-parasitics-clause-means : goal.returns-in_err-parasitics-clause-means
+returns-in_err-parasitics-clause-means g c =
     let content = g.F.Files.content c.args.files.now in
     let faults = g.F.Files.faults in
     let failed = err_from_is_err_and c.from_residual.result c.from_residual.ensures.1 in
@@ -15,8 +17,8 @@ returns-in_err-parasitics g c =
     (λ o h. text_stops c.args.spef content parasitics_in _ o h)
     (faults c.args.files.now) (faults c.parasitics.new.files) c.in_err-parasitics.field-0.0 c.in_err-parasitics.ensures.answer))
 
-pub returns-in_err-constraints : goal.returns-in_err-constraints
-returns-in_err-constraints g c =
+pub returns-in_err-constraints-clause-means : goal.returns-in_err-constraints-clause-means
+returns-in_err-constraints-clause-means g c =
     let content = g.F.Files.content c.args.files.now in
     let faults = g.F.Files.faults in
     let first = g.F.Files.content c.parasitics.new.files in
@@ -29,8 +31,8 @@ returns-in_err-constraints g c =
     (faults c.args.files.now) (faults c.parasitics.new.files) (faults c.constraints.new.files) c.in_err-constraints.field-0.0
     c.in_ok-parasitics.ensures.answer.1 c.in_err-constraints.ensures.answer))
 
-pub returns : goal.returns
-returns g c =
+pub returns-clause-means : goal.returns-clause-means
+returns-clause-means g c =
     let content = g.F.Files.content c.args.files.now in
     let faults = g.F.Files.faults in
     let first = g.F.Files.content c.parasitics.new.files in
@@ -52,3 +54,21 @@ returns g c =
     (faults c.args.files.now) (faults c.constraints.new.files) c.linked.result
     (kept_trans (faults c.args.files.now) (faults c.parasitics.new.files) (faults c.constraints.new.files) c.in_ok-parasitics.ensures.answer.1 c.in_ok-constraints.ensures.answer.1)
     c.linked.ensures.ok c.linked.ensures.stop
+
+pub returns-in_err-parasitics-clause-opened : goal.returns-in_err-parasitics-clause-opened
+returns-in_err-parasitics-clause-opened g c =
+    let opened = g.F.Files.opened in
+    let failed = err_from_is_err_and c.from_residual.result c.from_residual.ensures.1 in
+    rw failed.1 (opens_part (c.args.spef ∷ []) (c.args.sdc ∷ []) ⊥ (opened c.args.files.now) (opened c.parasitics.new.files) c.parasitics.ensures.opened (λ w. w))
+
+pub returns-in_err-constraints-clause-opened : goal.returns-in_err-constraints-clause-opened
+returns-in_err-constraints-clause-opened g c =
+    let opened = g.F.Files.opened in
+    opens_all (c.args.spef ∷ c.args.sdc ∷ []) _ (opened c.args.files.now) (opened c.constraints.new.files)
+    (opened_then (c.args.spef ∷ []) (c.args.sdc ∷ []) (opened c.args.files.now) (opened c.parasitics.new.files) (opened c.constraints.new.files) c.parasitics.ensures.opened c.constraints.ensures.opened)
+
+pub returns-clause-opened : goal.returns-clause-opened
+returns-clause-opened g c =
+    let opened = g.F.Files.opened in
+    opens_all (c.args.spef ∷ c.args.sdc ∷ []) _ (opened c.args.files.now) (opened c.constraints.new.files)
+    (opened_then (c.args.spef ∷ []) (c.args.sdc ∷ []) (opened c.args.files.now) (opened c.parasitics.new.files) (opened c.constraints.new.files) c.parasitics.ensures.opened c.constraints.ensures.opened)

@@ -10,10 +10,12 @@ use Rattle.xtalk_top.specs.Linking.{BlockMeans, FileAndText, FinishDesign, Holds
 use Rattle.xtalk_top.specs.Linking.{constraints_in, library_in, netlist_in, parasitics_in}
 use Rattle.xtalk_top.proofs.Blocks.{holds_as, last_as, text_as, text_leads, text_stops}
 use Rattle.xtalk_top.proofs.Lifts.{answers_later, kept_trans, stops_first, stops_later}
+use Rattle.std.proofs.Common.{[], ◌∷◌}
+use Rattle.xtalk_top.proofs.Openings.{opened_then, opens_more, opens_part}
 use Rattle.xtalk_top.proofs.block.read_block.Goals as goal
 
-pub returns-in_err-library : goal.returns-in_err-library
-returns-in_err-library g c =
+pub returns-in_err-library-clause-means : goal.returns-in_err-library-clause-means
+returns-in_err-library-clause-means g c =
     let content = g.F.Files.content c.args.files.now in
     let faults = g.F.Files.faults in
     let failed = err_from_is_err_and c.from_residual.result c.from_residual.ensures.1 in
@@ -21,8 +23,8 @@ returns-in_err-library g c =
     (λ o h. text_stops c.args.block.lib content library_in _ o h)
     (faults c.args.files.now) (faults c.library.new.files) c.in_err-library.field-0.0 c.in_err-library.ensures.answer))
 
-pub returns-in_err-netlist : goal.returns-in_err-netlist
-returns-in_err-netlist g c =
+pub returns-in_err-netlist-clause-means : goal.returns-in_err-netlist-clause-means
+returns-in_err-netlist-clause-means g c =
     let content = g.F.Files.content c.args.files.now in
     let faults = g.F.Files.faults in
     let first = g.F.Files.content c.library.new.files in
@@ -55,8 +57,8 @@ module _ (files : BlockFiles) (content first second : Contents) (library : Libra
       (text_leads files.netlist content netlist_in _ o netlist (holds_as files.netlist content first netlist_in netlist (one files.netlist) b)
       (last_as files.spef files.sdc content second library netlist (λ x. LinkingMeans x (λ _. ⊥) o) o (two files.spef ∙ one files.spef) (two files.sdc ∙ one files.sdc) h))
 
-pub returns : goal.returns
-returns g c =
+pub returns-clause-means : goal.returns-clause-means
+returns-clause-means g c =
     let content = g.F.Files.content in
     let faults = g.F.Files.faults in
     let kept = kept_trans (faults c.args.files.now) (faults c.library.new.files) (faults c.netlist.new.files) c.in_ok-library.ensures.answer.1 c.in_ok-netlist.ensures.answer.1 in
@@ -66,4 +68,26 @@ returns g c =
     c.library.ensures.content c.netlist.ensures.content c.in_ok-library.ensures.answer.0 c.in_ok-netlist.ensures.answer.0 in
     answers_later _ (BlockMeans c.args.block (content c.args.files.now) (λ _. ⊥)) stops
     _ (MakeDesign c.args.block (content c.args.files.now)) makes
-    (faults c.args.files.now) (faults c.netlist.new.files) (faults c.finish_block.new.files) c.finish_block.result kept c.finish_block.ensures
+    (faults c.args.files.now) (faults c.netlist.new.files) (faults c.finish_block.new.files) c.finish_block.result kept c.finish_block.ensures.means
+
+pub returns-in_err-library-clause-opened : goal.returns-in_err-library-clause-opened
+returns-in_err-library-clause-opened g c =
+    let opened = g.F.Files.opened in
+    let block = c.args.block in
+    let failed = err_from_is_err_and c.from_residual.result c.from_residual.ensures.1 in
+    rw failed.1 (opens_part (block.lib ∷ []) (block.netlist ∷ block.spef ∷ block.sdc ∷ []) ⊥ (opened c.args.files.now) (opened c.library.new.files) c.library.ensures.opened (λ w. w))
+
+pub returns-in_err-netlist-clause-opened : goal.returns-in_err-netlist-clause-opened
+returns-in_err-netlist-clause-opened g c =
+    let opened = g.F.Files.opened in
+    let block = c.args.block in
+    let failed = err_from_is_err_and c.from_residual-in_err-netlist.result c.from_residual-in_err-netlist.ensures.1 in
+    rw failed.1 (opens_part (block.lib ∷ block.netlist ∷ []) (block.spef ∷ block.sdc ∷ []) ⊥ (opened c.args.files.now) (opened c.netlist.new.files)
+    (opened_then (block.lib ∷ []) (block.netlist ∷ []) (opened c.args.files.now) (opened c.library.new.files) (opened c.netlist.new.files) c.library.ensures.opened c.netlist.ensures.opened) (λ w. w))
+
+pub returns-clause-opened : goal.returns-clause-opened
+returns-clause-opened g c =
+    let opened = g.F.Files.opened in
+    let block = c.args.block in
+    opens_more (block.lib ∷ block.netlist ∷ []) (block.spef ∷ block.sdc ∷ []) _ (opened c.args.files.now) (opened c.netlist.new.files) (opened c.finish_block.new.files)
+    (opened_then (block.lib ∷ []) (block.netlist ∷ []) (opened c.args.files.now) (opened c.library.new.files) (opened c.netlist.new.files) c.library.ensures.opened c.netlist.ensures.opened) c.finish_block.ensures.opened

@@ -21,3 +21,15 @@ returns-in-Err-TooLong-clause-answer g c = (
 
 pub returns-in-Err-NoMemory-clause-answer : goal.returns-in-Err-NoMemory-clause-answer
 returns-in-Err-NoMemory-clause-answer g c = (tt, λ _. c.in-Err-NoMemory.ensures.kept (λ e. absurd cc))
+
+pub returns-in-Ok-clause-opened : goal.returns-in-Ok-clause-opened
+returns-in-Ok-clause-opened g c = rw c.as_str.ensures at c.read_whole.ensures.opened
+
+pub returns-in-Err-Fault-clause-opened : goal.returns-in-Err-Fault-clause-opened
+returns-in-Err-Fault-clause-opened g c = rw c.as_str.ensures at c.read_whole.ensures.opened
+
+pub returns-in-Err-TooLong-clause-opened : goal.returns-in-Err-TooLong-clause-opened
+returns-in-Err-TooLong-clause-opened g c = rw c.as_str.ensures at c.read_whole.ensures.opened
+
+pub returns-in-Err-NoMemory-clause-opened : goal.returns-in-Err-NoMemory-clause-opened
+returns-in-Err-NoMemory-clause-opened g c = rw c.as_str.ensures at c.read_whole.ensures.opened

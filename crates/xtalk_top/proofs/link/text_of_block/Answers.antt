@@ -7,23 +7,36 @@ use Rattle.xtalk_top.specs.Link.{LinkMeans}
 use Rattle.xtalk_top.specs.Linking.{BlockMeans}
 use Rattle.xtalk_top.proofs.Blocks.{block_leads, block_stops}
 use Rattle.xtalk_top.proofs.Lifts.{answers_unread, stops_first}
+use Rattle.xtalk_top.specs.Opened.{block_files}
+use Rattle.xtalk_top.proofs.Openings.{opens_same}
 use Rattle.xtalk_top.proofs.link.text_of_block.Goals as goal
 
-pub returns-in_err-design : goal.returns-in_err-design
-returns-in_err-design g c =
+pub returns-in_err-design-clause-means : goal.returns-in_err-design-clause-means
+returns-in_err-design-clause-means g c =
     let content = g.F.Files.content c.args.files.now in
     let faults = g.F.Files.faults in
     let failed = err_from_is_err_and c.from_residual.result c.from_residual.ensures.1 in
     rw failed.1 (rw failed.2 (stops_first (BlockMeans c.args.job.files content (λ _. ⊥)) (LinkMeans c.args.job content)
     (λ o h. block_stops c.args.job.files content (λ d. o ≡ prints (text_of (linked (counted_by c.args.job.miller d)))) o h)
-    (faults c.args.files.now) (faults c.read_block.new.files) c.in_err-design.field-0.0 c.in_err-design.ensures))
+    (faults c.args.files.now) (faults c.read_block.new.files) c.in_err-design.field-0.0 c.in_err-design.ensures.means))
 
-pub returns : goal.returns
-returns g c =
+pub returns-clause-means : goal.returns-clause-means
+returns-clause-means g c =
     let content = g.F.Files.content c.args.files.now in
     let faults = g.F.Files.faults in
     answers_unread (λ _. ⊥) (LinkMeans c.args.job content) (λ o m. absurd m)
     _ (λ text. LinkMeans c.args.job content (prints text.items))
     (λ text h. block_leads c.args.job.files content (λ d. prints text.items ≡ prints (text_of (linked (counted_by c.args.job.miller d)))) (prints text.items)
-    c.in_ok-design.design c.in_ok-design.ensures.0 (ap prints (h ∙ ap (λ d. text_of (linked d)) c.counted_by-design.ensures.value)))
-    (faults c.args.files.now) (faults c.read_block.new.files) c.text_of_design.result c.in_ok-design.ensures.1 c.text_of_design.ensures.ok c.text_of_design.ensures.stop
+    c.in_ok-design.design c.in_ok-design.ensures.means.0 (ap prints (h ∙ ap (λ d. text_of (linked d)) c.counted_by-design.ensures.value)))
+    (faults c.args.files.now) (faults c.read_block.new.files) c.text_of_design.result c.in_ok-design.ensures.means.1 c.text_of_design.ensures.ok c.text_of_design.ensures.stop
+
+pub returns-in_err-design-clause-opened : goal.returns-in_err-design-clause-opened
+returns-in_err-design-clause-opened g c =
+    let opened = g.F.Files.opened in
+    let failed = err_from_is_err_and c.from_residual.result c.from_residual.ensures.1 in
+    rw failed.1 (opens_same (block_files c.args.job.files) _ ⊥ (opened c.args.files.now) (opened c.read_block.new.files) (λ w. absurd w) c.in_err-design.ensures.opened)
+
+pub returns-clause-opened : goal.returns-clause-opened
+returns-clause-opened g c =
+    let opened = g.F.Files.opened in
+    opens_same (block_files c.args.job.files) _ _ (opened c.args.files.now) (opened c.read_block.new.files) (λ _. tt) c.in_ok-design.ensures.opened

@@ -1,4 +1,7 @@
 use Rattle.xtalk_top.proofs.replay.replay.Goals as goal
 
-pub returns : goal.returns
-returns g c = c.report_of_text.ensures
+pub returns-clause-means : goal.returns-clause-means
+returns-clause-means g c = c.report_of_text.ensures.means
+
+pub returns-clause-opened : goal.returns-clause-opened
+returns-clause-opened g c = c.report_of_text.ensures.opened

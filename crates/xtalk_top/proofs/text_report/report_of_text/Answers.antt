@@ -4,16 +4,16 @@ use Rattle.xtalk_top.proofs.Given.{design_leads}
 use Rattle.xtalk_top.proofs.Lifts.{answers_unread, file_leads, file_stops, linked_stops, stops_first, stops_unread}
 use Rattle.xtalk_top.proofs.text_report.report_of_text.Goals as goal
 
-pub returns-in_err-file : goal.returns-in_err-file
-returns-in_err-file g c =
+pub returns-in_err-file-clause-means : goal.returns-in_err-file-clause-means
+returns-in_err-file-clause-means g c =
     let content = g.F.Files.content c.args.files.now in
     let faults = g.F.Files.faults in
     let failed = err_from_is_err_and c.from_residual.result c.from_residual.ensures.1 in
     rw failed.1 (rw failed.2 (stops_first (FileMeans c.args.file content (λ _. ⊥)) (TextReportMeans c.args.file c.args.miller c.args.kind content)
     (λ o h. file_stops c.args.file content _ o h) (faults c.args.files.now) (faults c.read_file.new.files) c.in_err-file.field-0.0 c.in_err-file.ensures.answer))
 
-pub returns-in_err-design : goal.returns-in_err-design
-returns-in_err-design g c =
+pub returns-in_err-design-clause-means : goal.returns-in_err-design-clause-means
+returns-in_err-design-clause-means g c =
     let file = c.args.file in
     let miller = c.args.miller in
     let kind = c.args.kind in
@@ -27,8 +27,8 @@ returns-in_err-design g c =
     (faults c.args.files.now) (faults c.read_file.new.files) c.in_err-design.field-0.0 c.in_ok-file.ensures.answer.1
     (rw c.in_ok-file.ensures.answer.0 at c.in_err-design.ensures.stop)))
 
-pub returns : goal.returns
-returns g c =
+pub returns-clause-means : goal.returns-clause-means
+returns-clause-means g c =
     let text = c.in_ok-design.ensures.ok in
     let content = g.F.Files.content c.args.files.now in
     let faults = g.F.Files.faults in
@@ -37,3 +37,12 @@ returns g c =
     answers_unread (DesignMeans c.args.kind c.counted_by-design.result) (TextReportMeans c.args.file c.args.miller c.args.kind content) leads
     _ (λ text. TextReportMeans c.args.file c.args.miller c.args.kind content (prints text.items)) (λ text h. leads (prints text.items) h)
     (faults c.args.files.now) (faults c.read_file.new.files) c.report.result c.in_ok-file.ensures.answer.1 c.report.ensures.ok c.report.ensures.stop
+
+pub returns-in_err-file-clause-opened : goal.returns-in_err-file-clause-opened
+returns-in_err-file-clause-opened g c = c.read_file.ensures.opened
+
+pub returns-in_err-design-clause-opened : goal.returns-in_err-design-clause-opened
+returns-in_err-design-clause-opened g c = c.read_file.ensures.opened
+
+pub returns-clause-opened : goal.returns-clause-opened
+returns-clause-opened g c = c.read_file.ensures.opened

@@ -11,6 +11,9 @@ use Rattle.xtalk_top.specs.declared.refusal.Failure.TheVariants.{NoText, Unwritt
 use Rattle.command_line.specs.Words.{bytes_of}
 use Rattle.xtalk_top.specs.Call.{Means, HasFault, status_of}
 use Rattle.xtalk_top.proofs.Agreement.{one_outcome, refused, not_both, completed}
+use Rattle.command_line.specs.Words.{job_of}
+use Rattle.xtalk_top.specs.Opened.{files_named}
+use Rattle.xtalk_top.proofs.Openings.{opens_same}
 use Rattle.xtalk_top.proofs.top.xtalk_gated.Goals as goal
 
 -- a status of 0, or of 7
@@ -35,32 +38,32 @@ not_zero (Refused (Design (Limit limit))) status e z = omega (arith, e, z)
 not_zero (Unread file) status e z = omega (arith, e, z)
 not_zero NoMemory status e z = omega (arith, e, z)
 
-pub returns-in-Ok : goal.returns-in-Ok
-returns-in-Ok g c =
+pub returns-in-Ok-clause-call : goal.returns-in-Ok-clause-call
+returns-in-Ok-clause-call g c =
     let words = bytes_of c.args.words.now in
     let content = g.F.Files.content c.args.files.now in
     let text = c.in-Ok.text.items in
     record {
       printed = λ whole.
           let written = c.write_text.ensures.whole whole in
-          (text, c.in-Ok.ensures.0, rw c.deref.ensures.value at written.0, written.2);
+          (text, c.in-Ok.ensures.means.0, rw c.deref.ensures.value at written.0, written.2);
       failed = λ bad.
           let cut = c.write_text.ensures.cut_off bad in
-          (Unwritten, cut.0, (text, c.in-Ok.ensures.0, rw c.deref.ensures.value at cut.1), cut.2);
+          (Unwritten, cut.0, (text, c.in-Ok.ensures.means.0, rw c.deref.ensures.value at cut.1), cut.2);
       kept = (
         λ bad other. absurd (other (c.write_text.ensures.cut_off bad).0),
         unless_seven c.write_text.result (g.O.Sink.faults c.write_text.new.out ≡ g.O.Sink.faults c.args.out.now)
             (λ whole. (c.write_text.ensures.whole whole).1) (λ bad. (c.write_text.ensures.cut_off bad).0),
-        λ _. c.in-Ok.ensures.1,
+        λ _. c.in-Ok.ensures.means.1,
       );
-      refused = λ why meant known. absurd (not_both (Means words content) (one_outcome words content known) text why c.in-Ok.ensures.0 meant);
+      refused = λ why meant known. absurd (not_both (Means words content) (one_outcome words content known) text why c.in-Ok.ensures.means.0 meant);
       complete = λ accepted calm quiet.
           zero_or_eight c.write_text.result (Rose (g.O.Sink.faults c.args.out.now) (g.O.Sink.faults c.write_text.new.out))
           (λ bad. (c.write_text.ensures.cut_off bad).1.1) quiet;
     }
 
-pub returns-in-Err : goal.returns-in-Err
-returns-in-Err g c =
+pub returns-in-Err-clause-call : goal.returns-in-Err-clause-call
+returns-in-Err-clause-call g c =
     let words = bytes_of c.args.words.now in
     let content = g.F.Files.content c.args.files.now in
     let Fault = HasFault (g.F.Files.faults c.args.files.now) (g.F.Files.faults c.text_of.new.files) in
@@ -68,9 +71,20 @@ returns-in-Err g c =
     let status = c.refuse.ensures.status in
     record {
       printed = λ whole. absurd (not_zero stop c.refuse.result status whole);
-      failed = λ _. (NoText stop, status, c.in-Err.ensures.0, c.refuse.ensures.line);
-      kept = (λ _ _. refl, λ _. refl, λ other. c.in-Err.ensures.1 (λ six. other (status ∙ six)));
+      failed = λ _. (NoText stop, status, c.in-Err.ensures.means.0, c.refuse.ensures.line);
+      kept = (λ _ _. refl, λ _. refl, λ other. c.in-Err.ensures.means.1 (λ six. other (status ∙ six)));
       refused = λ why meant known.
-          refused (Means words content) Fault (one_outcome words content known) why stop c.refuse.result meant c.in-Err.ensures.0 status;
-      complete = λ accepted calm quiet. completed (Means words content) Fault stop c.refuse.result accepted calm c.in-Err.ensures.0 status;
+          refused (Means words content) Fault (one_outcome words content known) why stop c.refuse.result meant c.in-Err.ensures.means.0 status;
+      complete = λ accepted calm quiet. completed (Means words content) Fault stop c.refuse.result accepted calm c.in-Err.ensures.means.0 status;
     }
+
+pub returns-in-Ok-clause-opened : goal.returns-in-Ok-clause-opened
+returns-in-Ok-clause-opened g c =
+    let opened = g.F.Files.opened in
+    opens_same (files_named (job_of (bytes_of c.args.words.now))) _ _ (opened c.args.files.now) (opened c.text_of.new.files) (λ _. tt) c.in-Ok.ensures.opened
+
+pub returns-in-Err-clause-opened : goal.returns-in-Err-clause-opened
+returns-in-Err-clause-opened g c =
+    let opened = g.F.Files.opened in
+    opens_same (files_named (job_of (bytes_of c.args.words.now))) _ _ (opened c.args.files.now) (opened c.text_of.new.files)
+    (λ whole. absurd (not_zero c.in-Err.stop c.refuse.result c.refuse.ensures.status whole)) c.in-Err.ensures.opened
