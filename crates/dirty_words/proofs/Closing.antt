@@ -23,7 +23,7 @@ use Rattle.dirty_words.proofs.Marks.{not_both}
 use Rattle.dirty_words.proofs.Below.{others_out, words_kept, seen_here}
 
 -- bounds of which each is no further than the other are one
-one_bound : (way : Direction) (side : ℕ) (a b : ℤ) → IsBoundNoFurther way side a b → IsBoundNoFurther way side b a → a ≡ b
+pub one_bound : (way : Direction) (side : ℕ) (a b : ℤ) → IsBoundNoFurther way side a b → IsBoundNoFurther way side b a → a ≡ b
 one_bound Widen zero a b h k = omega (arith, ints, h, k)
 one_bound Widen (suc s) a b h k = omega (arith, ints, h, k)
 one_bound Narrow zero a b h k = omega (arith, ints, h, k)

@@ -21,9 +21,9 @@ use Rattle.dirty_words.specs.declared.view.DirtyView.{DirtyView}
 use Rattle.dirty_words.specs.Views.{run_of, bases, readers_of, with_loaded, flight_after, owed_after, with_published}
 use Rattle.dirty_words.specs.Rule.{IsThere, IsLive, KeptBelow, Agrees, HasInFlight, IsCovered, marked, owing, flying, past, IsFlown, FliesWell, KnowsClear, KeptAt}
 use Rattle.dirty_words.specs.Steps.{IsNextToLoad, IsNextToPublish, Loaded, Published}
-use Rattle.dirty_words.proofs.Nets.{reads_there, cases_there}
+use Rattle.dirty_words.proofs.Nets.{reader_inside, reads_there, cases_there}
 use Rattle.dirty_words.proofs.Live.{each_live, some_here, some_map, here}
-use Rattle.dirty_words.proofs.Below.{words_kept, base_behind, number_found, below_moved, below_seen}
+use Rattle.dirty_words.proofs.Below.{words_kept, base_behind, number_found, whole_here, below_moved, below_seen}
 use Rattle.dirty_words.proofs.Covering.{AreSameFor, same_unread, covered_on, covered_here, past_on, flight_past, agrees_on}
 use Rattle.dirty_words.proofs.Turning.{IsQuiet, quiet_tracked, quiet_clear}
 
@@ -109,7 +109,12 @@ module _ (v : DirtyView) (now marks : List ℕ) (next : ℕ) (views : List Dirty
       }
 
   pub load_told : Loaded v f word n' w'
-  load_told = record { found = number_found v.base.setting now next views k.below id v there live word; after = refl; seen = load_seen }
+  load_told = record {
+    found = number_found v.base.setting now next views k.below id v there live word;
+    whole = λ alone. whole_here v.base.setting now next views k.below id v there alone.0 alone.1 word refl;
+    after = refl;
+    seen = load_seen;
+  }
 
 -- ---- a publication
 still_flies : (f : Flight) → f.published + 1 < 8 → flight_after f ≡ Some (record f { published = f.published + 1 })
@@ -334,4 +339,8 @@ module _ (v : DirtyView) (now marks : List ℕ) (next : ℕ) (views : List Dirty
     found = number_found v.base.setting now next views k.below id v there live word;
     after = refl;
     seen = subst (IsSeen v.base.setting) (sym seen_at) (below_seen v.base.setting now next views k.below id v there live word in_words left (v.base.made + 1) left_kept left_on);
+    readers = λ reader c.
+        let own = reader_inside v.lists f.net reader c in
+        let count = k.whole.count in
+        omega (arith, own, count);
   }

@@ -1,10 +1,10 @@
-mod Nets
+pub mod Nets
 mod Live
 mod Marks
 mod Below
 mod Covering
-mod Tracking
-mod Closing
+pub mod Tracking
+pub mod Closing
 mod Taking
 mod Noting
 mod Looking

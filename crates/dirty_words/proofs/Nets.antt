@@ -122,6 +122,18 @@ range_there n m h =
     let len = length-range_with_len 0 n in
     (m, omega (arith, len, h), (let e = get_or-range_with_len 0 n m m h in omega (arith, e)))
 
+range_inside : (n m : ℕ) → Contains (range_with_len 0 n) m → m < n
+range_inside n m h =
+    let len = length-range_with_len 0 n in
+    let lt = h.1 in
+    let e = get_or-range_with_len 0 n h.0 m (omega (arith, len, lt)) in
+    let at = h.2 in
+    omega (arith, e, at, lt, len)
+
+-- readers are among those that have a read list
+pub reader_inside : (lists : List (List NetId)) (net reader : ℕ) → Contains (readers_of lists net) reader → reader < length lists
+reader_inside lists net reader h = range_inside (length lists) reader (filter_has (λ m. has (list_of lists m) net) (range_with_len 0 (length lists)) reader h).0
+
 pub reads_there : (lists : List (List NetId)) (net reader : ℕ) → reader < length lists → Contains (list_of lists reader) net → Contains (readers_of lists net) reader
 reads_there lists net reader inside h =
     filter_keeps (λ m. has (list_of lists m) net) (range_with_len 0 (length lists)) reader (range_there (length lists) reader inside) (there_has (list_of lists reader) net h)

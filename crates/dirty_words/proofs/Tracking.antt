@@ -1,5 +1,5 @@
 -- Who took and who set the marks, while views and marks change.
-use Rattle.std.proofs.Common.{◌≡◌, ◌≢◌, ◌⊎◌, ℕ, ◌<◌, ◌≤◌, ◌==◌, Bool, inl, inr, sym, ap, subst, ◌∙◌, List, length, set, Contains, arith}
+use Rattle.std.proofs.Common.{◌≡◌, ◌≢◌, ◌⊎◌, ℕ, ◌<◌, inl, inr, sym, ap, subst, ◌∙◌, List, length, set, Contains, arith}
 use Rattle.std.specs.Prelude.{slice_index}
 use Rattle.std.proofs.lemmas.Bool.{cases_lt}
 use Rattle.xt_model.specs.declared.net.Net.{Net}
@@ -8,7 +8,7 @@ use Rattle.chaos_core.specs.declared.setting.Setting.{Setting}
 use Rattle.chaos_core.specs.Boards.{nets_of}
 use Rattle.window_words.specs.declared.view.View.{View}
 use Rattle.window_words.specs.Views.{times}
-use Rattle.window_words.specs.Rule.{once_below, AreDrawn}
+use Rattle.window_words.specs.Rule.{AreDrawn}
 use Rattle.window_words.specs.Rule.{IsThere as IsThereBelow}
 use Rattle.window_words.proofs.Totals.{total_part, total_rest}
 use Rattle.window_words.proofs.Drawn.{some_times, once_most}

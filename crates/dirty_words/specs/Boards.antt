@@ -1,5 +1,6 @@
 -- What a board with marks and a pass over it are to their callers.
-use Rattle.std.specs.Prelude.{◌≡◌, ◌+◌, ◌*◌, [], None}
+use Rattle.std.specs.Prelude.{◌≡◌, ℕ, ◌+◌, ◌*◌, ◌<◌, [], None}
+use Rattle.std.specs.List.{Contains}
 use Rattle.atomic_table.specs.Table.{Me}
 use Rattle.atomic_table.specs.Seated.{TableId}
 use Rattle.chaos_core.specs.declared.setting.Setting.{Setting}
@@ -52,9 +53,11 @@ abbrev pub HasWords : TableId → Setting → Type 0
 HasWords t a = t.words ≡ 9 * nets_of a + 1
 
 -- what a pass always keeps: it has no slot of the table, was not joined, its table has eight words and a mark for each
--- net and the draw word, and what it has seen crosses no barrier and is at or past the start, which fits
+-- net and the draw word, what it has seen crosses no barrier and is at or past the start, which fits, and what it owes
+-- is owed to nets
 pub record IsHeld (t : TableId) (me : Me (Unit {0}) DirtyView) : Type 0 where
   pub bare : me.1 ≡ []
   pub live : IsLive me.0
   pub sized : HasWords t me.0.base.setting
   pub seen : IsSeen me.0.base.setting me.0.base.seen
+  pub owing : (net : ℕ) → Contains me.0.owed net → net < nets_of me.0.base.setting

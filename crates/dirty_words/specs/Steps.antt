@@ -12,8 +12,8 @@ use Rattle.window_words.specs.Rule.{once_below}
 use Rattle.window_words.specs.Steps.{IsFound, IsWhole}
 use Rattle.dirty_words.specs.declared.view.Flight.{Flight}
 use Rattle.dirty_words.specs.declared.view.DirtyView.{DirtyView}
-use Rattle.dirty_words.specs.Views.{with_taken, with_missed, with_loaded, with_published, with_noted, with_found}
-use Rattle.dirty_words.specs.Views.{with_clear, with_drawn, with_anew}
+use Rattle.dirty_words.specs.Views.{readers_of, with_taken, with_missed, with_loaded, with_published, with_noted}
+use Rattle.dirty_words.specs.Views.{with_found, with_clear, with_drawn, with_anew}
 use Rattle.dirty_words.specs.Rule.{IsPast, HasDrawn}
 use Rattle.dirty_words.specs.Boards.{IsAlone, IsFree}
 
@@ -47,6 +47,7 @@ pub record IsNextToLoad (v : DirtyView) (word : ℕ) (f : Flight) : Type 0 where
 -- from v to w: a number is found in a word, and is then loaded and seen there
 pub record Loaded (v : DirtyView) (f : Flight) (word number : ℕ) (w : DirtyView) : Type 0 where
   pub found : IsFound v.base word number
+  pub whole : IsAlone v → IsWhole v.base word number
   pub after : w ≡ with_loaded v f word number
   pub seen : IsSeen w.base.setting w.base.seen
 
@@ -64,11 +65,13 @@ pub record IsNextToPublish (v : DirtyView) (word value : ℕ) (f : Flight) : Typ
   pub number : bound_in value
       ≡ bound_at (evaluated v.base.setting.design (list_of v.lists f.net) f.numbers f.net) f.published
 
--- from v to w: a number is found in a word and another is left there; where it moved, all readers of the net are owed
+-- from v to w: a number is found in a word and another is left there; where it moved, all readers of the net are owed,
+-- which are nets
 pub record Published (v : DirtyView) (f : Flight) (word number left : ℕ) (w : DirtyView) : Type 0 where
   pub found : IsFound v.base word number
   pub after : w ≡ with_published v f number left
   pub seen : IsSeen w.base.setting w.base.seen
+  pub readers : (reader : ℕ) → Contains (readers_of v.lists f.net) reader → reader < nets_of v.base.setting
 
 -- ---- looking at a mark
 -- from v to w, the first pass finds a mark while none is out

@@ -1,6 +1,6 @@
 //! Words and marks that threads share, and the passes by which they work on them.
 
-ghost use Rattle.std.specs.Prelude.{◌≡◌, ◌+◌, ◌*◌, ◌%◌, ◌<◌, ◌^◌, min, max, IfOk, Some};
+ghost use Rattle.std.specs.Prelude.{◌≡◌, ◌+◌, ◌*◌, ◌%◌, ◌<◌, ◌≤◌, ◌^◌, min, max, IfOk, Some, vec_capacity};
 ghost use Rattle.std.specs.List.{Contains};
 ghost use Rattle.xt_model.specs.Limits.{most_workers, most_nets};
 ghost use Rattle.xt_meaning.specs.Barrier.{IsFittingStart};
@@ -8,6 +8,7 @@ ghost use Rattle.xt_meaning.specs.Words.{MovesDown, MovesUp};
 ghost use Rattle.net_eval.specs.ReadLists.{AreReadLists};
 ghost use Rattle.chaos_core.specs.Boards.{nets_of, IsSeen};
 ghost use Rattle.window_words.specs.Boards.{late_of};
+ghost use Rattle.window_words.specs.Steps.{IsRested};
 ghost use Rattle.dirty_words.specs.declared.view.Flight.{Flight};
 ghost use Rattle.dirty_words.specs.Views.{first_dirty, with_noted, with_anew, with_pass_out, pass_sent, with_joined};
 ghost use Rattle.dirty_words.specs.Boards.{IsAlone, IsFirst, IsFree, IsOf, IsSplitOff};
@@ -198,13 +199,13 @@ impl DirtyBoard {
     /// Marks a net to which the pass owes it.
     pub fn mark(&self, pass: &mut DirtyPass, net: NetId)
         requires own { IsOf self.now pass.old }
-        requires there { net.0 < nets_of pass.old.view.base.setting }
         requires owed { Contains pass.old.view.owed net.0 }
         ensures own { IsOf self.now pass.new }
         ensures view { pass.new.view ≡ with_noted pass.old.view net.0 }
     {
+        let seat = &mut pass.seat;
         let word = self.mark_word(net);
-        self.table.shared.fetch_or::<Note>(&mut pass.seat, word, 1);
+        self.table.shared.fetch_or::<Note>(seat, word, 1);
     }
 
     /// Whether a net is marked: the first pass finds that while none is out. An unmarked net is at or past what the
@@ -277,19 +278,36 @@ impl DirtyBoard {
             .join_seat::<JoinAgain>(&mut first.seat, seat);
     }
 
+    /// Writes the words of the bounds, which are what the first pass has seen, into `words`, which has room for them.
+    /// Takes no memory.
+    pub fn load_words(&self, first: &mut DirtyPass, words: &mut Vec<u64>)
+        requires own { IsOf self.now first.old }
+        requires alone { IsAlone first.old.view }
+        requires room { 8 * nets_of first.old.view.base.setting ≤ vec_capacity words.old }
+        ensures own { IsOf self.now first.new }
+        ensures view { first.new.view ≡ first.old.view }
+        ensures words { words.new.items ≡ first.old.view.base.seen }
+        ensures rested { 0 < nets_of first.old.view.base.setting → IsRested first.old.view.base }
+    {
+        // What the first has seen, where there is no word to load.
+        first.respects();
+        words.clear();
+        for word in 0..8 * self.nets {
+            words.push_reserved(self.word(first, word));
+        }
+    }
+
     /// The words of the bounds, which are what the first pass has seen. Where there is no memory, the board and the
     /// pass are gone.
     pub fn close(self, first: DirtyPass) -> Result<Vec<u64>, NoMemory>
         requires own { IsOf self first }
         requires alone { IsAlone first.view }
-        ensures { IfOk result (λ words. words.items ≡ first.view.base.seen) }
+        ensures words { IfOk result (λ words. words.items ≡ first.view.base.seen) }
+        ensures rested { IfOk result (λ _. 0 < nets_of first.view.base.setting → IsRested first.view.base) }
     {
         let mut first = first;
-        let count = 8 * self.nets;
-        let mut words = Vec::with_capacity(self.alloc, count)?;
-        for word in 0..count {
-            words.push(self.word(&mut first, word))?;
-        }
+        let mut words = Vec::with_capacity(self.alloc, 8 * self.nets)?;
+        self.load_words(&mut first, &mut words);
         Ok(words)
     }
 }

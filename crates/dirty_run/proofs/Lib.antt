@@ -1,0 +1,10 @@
+mod Visiting
+mod Paying
+mod Turned
+mod Gathered
+mod LookTurns
+mod Carrying
+mod Parts
+mod Rounds
+mod Still
+mod Ended

@@ -1,0 +1,65 @@
+use Rattle.std.proofs.Common.{◌≡◌, sym, ap, subst, ◌∙◌, List, ℕ, length, Contains, arith}
+use Rattle.xt_model.specs.declared.direction.Direction.{Direction}
+use Rattle.xt_model.specs.Parts.{Parts}
+use Rattle.xt_meaning.specs.Laws.{IsExtremeFixpoint}
+use Rattle.run_laws.proofs.Hulls.{within_greatest}
+use Rattle.chaos_core.specs.Boards.{nets_of}
+use Rattle.dirty_words.specs.Views.{Run}
+use Rattle.dirty_words.specs.declared.view.DirtyView.{DirtyView}
+use Rattle.dirty_run.specs.Rounds.{AreMarkedTurns}
+use Rattle.dirty_run.proofs.Ended.{range_found, ends_extreme, ends_fit}
+use Rattle.dirty_run.proofs.settling.settle_dirty_in.Goals as goal
+
+pub load_words-requires-clause-room : goal.load_words-requires-clause-room
+load_words-requires-clause-room g c =
+    let w = c.run_rounds-rounds.new.first.view in
+    let nets : nets_of w.base.setting ≡ length c.args.design.now.nets = ap (λ (r : Run). nets_of r.setting) c.run_rounds-rounds.ensures.own.run ∙ ap (λ (x : Parts). length x.nets) c.requires.design in
+    let room = c.requires.room.words in
+    omega (arith, room, nets)
+
+pub set_pairs-requires-clause-count : goal.set_pairs-requires-clause-count
+set_pairs-requires-clause-count g c =
+    let words = c.as_slice.ensures.value ∙ c.load_words.ensures.words in
+    let long = ap length words in
+    let many = c.run_rounds-rounds.ensures.kept.seen.count in
+    let nets : nets_of c.args.board.now.run.setting ≡ length c.args.design.now.nets = ap (λ (x : Parts). length x.nets) c.requires.design in
+    let count = c.requires.room.count in
+    omega (arith, long, many, nets, count)
+
+pub set_pairs-requires-clause-range : goal.set_pairs-requires-clause-range
+set_pairs-requires-clause-range g c =
+    let w = c.run_rounds-rounds.new.first.view in
+    range_found c.args.board.now.run.setting w.base.seen c.as_slice.result.now c.run_rounds-rounds.ensures.kept (c.as_slice.ensures.value ∙ c.load_words.ensures.words)
+
+pub returns-clause-clear : goal.returns-clause-clear
+returns-clause-clear g c = λ net lt. subst (λ (v : DirtyView). Contains v.clear net) (sym c.load_words.ensures.view) (c.run_rounds-rounds.ensures.clear net lt)
+
+pub returns-clause-extreme : goal.returns-clause-extreme
+returns-clause-extreme g c =
+    let w = c.run_rounds-rounds.new.first.view in
+    let is = c.set_pairs.ensures.numbers ∙ (c.as_slice.ensures.value ∙ c.load_words.ensures.words) in
+    ends_extreme c.args.board.now.run.setting c.args.design.now c.args.direction w.base.seen c.set_pairs.new.windows c.requires.design c.requires.direction c.run_rounds-rounds.ensures.kept is c.set_pairs.ensures.range
+    c.run_rounds-rounds.ensures.closed
+
+pub returns-clause-seen : goal.returns-clause-seen
+returns-clause-seen g c =
+    let is = c.set_pairs.ensures.numbers ∙ (c.as_slice.ensures.value ∙ c.load_words.ensures.words) in
+    ap (λ (v : DirtyView). v.base.seen) c.load_words.ensures.view ∙ sym is
+
+pub returns-clause-turns : goal.returns-clause-turns
+returns-clause-turns g c =
+    let is = c.set_pairs.ensures.numbers ∙ (c.as_slice.ensures.value ∙ c.load_words.ensures.words) in
+    subst (λ (words : List ℕ). AreMarkedTurns c.args.board.now.run.setting c.run_rounds-rounds.result c.args.first.now.view.base.seen words) (sym is) c.run_rounds-rounds.ensures.turns
+
+pub returns-clause-consistent : goal.returns-clause-consistent
+returns-clause-consistent g c = λ narrow xs are.
+    let d = c.args.design.now in
+    let a = c.args.board.now.run.setting in
+    let w = c.run_rounds-rounds.new.first.view in
+    let v = c.set_pairs.new.windows in
+    let is = c.set_pairs.ensures.numbers ∙ (c.as_slice.ensures.value ∙ c.load_words.ensures.words) in
+    let fits = ends_fit a d c.args.direction w.base.seen v c.requires.design c.requires.direction c.run_rounds-rounds.ensures.kept is c.set_pairs.ensures.range in
+    let extreme = ends_extreme a d c.args.direction w.base.seen v c.requires.design c.requires.direction c.run_rounds-rounds.ensures.kept is c.set_pairs.ensures.range c.run_rounds-rounds.ensures.closed in
+    let within = fits.within in
+    let o = c.requires.lists.ordered.1 in
+    within_greatest d o.0 within.top v xs c.requires.lists.sound o.1 within.envelope (subst (λ (way : Direction). IsExtremeFixpoint way d v) narrow extreme) are

@@ -1,0 +1,143 @@
+//! A visit to a net: its mark is taken, and where it was set, the net is evaluated and published, and where a word
+//! moved, its readers are marked.
+
+ghost use Rattle.std.specs.Prelude.{◌≡◌, ℕ, ◌*◌, ◌%◌, ◌<◌, ◌≤◌, ◌↔◌, List, [], length, vec_capacity, Some};
+ghost use Rattle.std.specs.List.{Contains};
+ghost use Rattle.std.specs.List.Sorted.{IsStrictlyIncreasing};
+ghost use Rattle.xt_model.specs.Quads.{IsPairInRange};
+ghost use Rattle.xt_meaning.specs.Words.{bound_in};
+ghost use Rattle.net_eval.specs.ReadLists.{AreReadLists, ids};
+ghost use Rattle.chaos_core.specs.Boards.{nets_of};
+ghost use Rattle.chaos_core.specs.Tasks.{list_of};
+ghost use Rattle.dirty_words.specs.declared.view.Flight.{Flight};
+ghost use Rattle.dirty_words.specs.Boards.{IsOf};
+ghost use Rattle.dirty_words.specs.Steps.{CanTake, IsNextToPublish};
+ghost use Rattle.dirty_run.specs.Visits.{fresh_flight, HasLoaded, HasPaid, HasPublished, HasRoom, HasVisited};
+ghost use Rattle.dirty_run.specs.Visits.{IsPublishing, IsReady, IsRun};
+
+use crate::worker::{Run, Worker};
+use chaos_core::{evaluate, moves_down, number_in};
+use dirty_words::{DirtyBoard, DirtyPass};
+use net_eval::ReadLists;
+use xt_model::{Direction, NetId, Pair};
+
+/// Loads all words of the read list of the net in flight.
+fn load_all(
+    board: &DirtyBoard,
+    pass: &mut DirtyPass,
+    lists: &ReadLists,
+    net: NetId,
+    loaded: &mut Vec<u64>,
+)
+    requires own { IsOf board.now pass.old }
+    requires fresh { pass.old.view.flight ≡ Some (fresh_flight net.0) }
+    requires there { net.0 < nets_of pass.old.view.base.setting }
+    requires lists { pass.old.view.lists ≡ lists.now }
+    requires whole { AreReadLists pass.old.view.base.setting.design lists.now }
+    requires room { 8 * length (list_of lists.now net.0) ≤ vec_capacity loaded.old }
+    ensures own { IsOf board.now pass.new }
+    ensures loaded { HasLoaded pass.old.view net.0 loaded.new.items pass.new.view }
+    ensures room { vec_capacity loaded.new ≡ vec_capacity loaded.old }
+{
+    // What the pass has seen, where there is no word to load.
+    pass.respects();
+    let reads = lists.of(net);
+    loaded.clear();
+    'words: while loaded.as_slice().len() < 8 * reads.len() {
+        let place = loaded.as_slice().len();
+        let number = board.load(pass, 8 * reads[place / 8].0 as usize + place % 8);
+        loaded.push_reserved(number);
+    }
+}
+
+/// Publishes the next word of the net in flight: whether that moved the word.
+fn publish(
+    board: &DirtyBoard,
+    pass: &mut DirtyPass,
+    way: Direction,
+    word: usize,
+    value: u64,
+) -> bool
+    requires own { IsOf board.now pass.old }
+    requires way { pass.old.view.base.setting.way ≡ way }
+    requires word { word < 8 * nets_of pass.old.view.base.setting }
+    requires next { (f : Flight) × IsNextToPublish pass.old.view word value f }
+    ensures own { IsOf board.now pass.new }
+    ensures published { (f : Flight) → pass.old.view.flight ≡ Some f
+        → HasPublished pass.old.view f word value result pass.new.view }
+{
+    if moves_down(way, word) {
+        return value < board.lower(pass, word, value);
+    }
+    board.raise(pass, word, value) < value
+}
+
+/// Publishes the eight words of the net in flight: whether one of them moved.
+fn publish_all(
+    board: &DirtyBoard,
+    pass: &mut DirtyPass,
+    way: Direction,
+    net: NetId,
+    pair: &Pair,
+) -> bool
+    requires own { IsOf board.now pass.old }
+    requires way { pass.old.view.base.setting.way ≡ way }
+    requires there { net.0 < nets_of pass.old.view.base.setting }
+    requires free { pass.old.view.owed ≡ [] }
+    requires range { IsPairInRange pair.now }
+    requires ready { (f : Flight) × IsReady pass.old.view net.0 pair.now f }
+    ensures own { IsOf board.now pass.new }
+    ensures published { (f : Flight) → pass.old.view.flight ≡ Some f
+        → IsPublishing pass.old.view net.0 pair.now f 8 result pass.new.view }
+{
+    pass.respects();
+    let mut moved = false;
+    for place in 0..8 {
+        let word = 8 * net.0 as usize + place as usize;
+        if publish(board, pass, way, word, number_in(pair, place)) {
+            moved = true;
+        }
+    }
+    moved
+}
+
+/// Marks each of several nets, all that are owed.
+fn pay(board: &DirtyBoard, pass: &mut DirtyPass, readers: &[NetId])
+    requires own { IsOf board.now pass.old }
+    requires once { IsStrictlyIncreasing (ids readers.now) }
+    requires owed { (m : ℕ) → Contains pass.old.view.owed m ↔ Contains (ids readers.now) m }
+    ensures own { IsOf board.now pass.new }
+    ensures paid { HasPaid pass.old.view pass.new.view }
+{
+    for reader in readers {
+        board.mark(pass, *reader);
+    }
+}
+
+/// Visits a net of which the pass drew the number.
+pub(crate) fn visit<G>(run: &Run<'_, G>, pass: &mut DirtyPass, worker: &mut Worker, net: NetId)
+    requires run { IsRun run.now.board.now run.now.design.now run.now.lists.now run.now.readers.now run.now.direction }
+    requires own { IsOf run.now.board.now pass.old }
+    requires take { CanTake pass.old.view net.0 }
+    requires room { HasRoom run.now.lists.now worker.old }
+    ensures own { IsOf run.now.board.now pass.new }
+    ensures visited { HasVisited pass.old.view net.0 pass.new.view }
+    ensures room { HasRoom run.now.lists.now worker.new }
+{
+    // What the pass has seen, where the mark was not set.
+    pass.respects();
+    if !run.board.take(pass, net) {
+        return;
+    }
+    load_all(run.board, pass, run.lists, net, &mut worker.loaded);
+    let pair = evaluate(
+        run.design,
+        run.lists.of(net),
+        net,
+        worker.loaded.as_slice(),
+        worker.places.as_mut_slice(),
+    );
+    if publish_all(run.board, pass, run.direction, net, &pair) {
+        pay(run.board, pass, run.readers.of(net));
+    }
+}
