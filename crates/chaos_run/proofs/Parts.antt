@@ -7,6 +7,7 @@ use Rattle.std.proofs.lemmas.List.{length-append}
 use Rattle.xt_model.specs.declared.net.NetId.{NetId}
 use Rattle.xt_model.specs.Parts.{Parts}
 use Rattle.chaos_core.specs.declared.worker.Worker.{Worker}
+use Rattle.chaos_core.specs.Tasks.{room_of, places_of}
 use Rattle.chaos_core.specs.Runs.{Ran}
 use Rattle.chaos_core.specs.Rounds.{HasRoom}
 use Rattle.window_words.specs.Views.{begun_anew, sent_out}
@@ -20,7 +21,7 @@ use Rattle.chaos_run.specs.Rounds.{AreRoomy, with_out, sent_of, IsSent, HasRun, 
 pub comes_back : (board : BoardId) (pass later : Holding) (order : List ℕ) → IsOf board pass → Ran order (knowledge_of pass) (knowledge_of later) → IsOf board later
 comes_back board pass later order own ran = record { table = home_is later.table pass.table ran.home ∙ own.table; setting = ran.setting ∙ own.setting }
 
-pub room_for : (lists : List (List NetId)) (before after : Worker) → vec_capacity after.loaded ≡ vec_capacity before.loaded → length after.places.items ≡ length before.places.items → HasRoom lists before
+pub room_for : (lists : List (List NetId)) (before after : Worker) → room_of after ≡ room_of before → places_of after ≡ places_of before → HasRoom lists before
     → HasRoom lists after
 room_for lists before after same long has = record {
   room = λ net. let r = has.room net in omega (arith, same, r);
