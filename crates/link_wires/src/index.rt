@@ -25,7 +25,10 @@ pub fn text_of<'a>(parasitics: &'a Parasitics, name: Name) -> NameParts<'a>
 }
 
 /// Where the first wire of each name is.
-fn places_of<'a>(alloc: Global, parasitics: &'a Parasitics) -> Result<ByParts<'a, usize>, AllocError>
+fn places_of<'a>(
+    alloc: Global,
+    parasitics: &'a Parasitics,
+) -> Result<ByParts<'a, usize>, AllocError>
     ensures { IfOk result (HavePlaces parasitics.entry.now) }
 {
     let mut places = ByParts::new(alloc, parasitics.names.key());
@@ -104,7 +107,10 @@ impl<'a> WireIndex<'a> {
     {
         room.clear();
         node.push_to(room)?;
-        Ok(self.nets.node_net(self.parasitics.delimiter, room.as_slice()))
+        Ok(
+            self.nets
+                .node_net(self.parasitics.delimiter, room.as_slice()),
+        )
     }
 
     /// The wire that is listed for a net; none for one without a driver.

@@ -9,7 +9,7 @@ use Rattle.link_wires.proofs.nodes.Nodes.name.Goals as goal
 pub returns-clause-sound : goal.returns-clause-sound
 returns-clause-sound c =
     let names = c.self.inside.names.items in
-    let here : slice_get names c.args.number ≡ Some c.index.result =
-    slice_get_read names _ c.args.number c.index.result refl
+    let here : slice_get names c.args.number ≡ Some c.index.result.now =
+    slice_get_read names _ c.args.number c.index.result.now refl
     (omega (arith, c.requires, ap length c.self.view_is, length-map names whole)) c.index.ensures in
-    named_at whole names c.args.number c.index.result c.self.invariant.names here
+    named_at whole names c.args.number c.index.result.now c.self.invariant.names here
