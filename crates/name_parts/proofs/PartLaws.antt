@@ -1,27 +1,30 @@
--- Names cut at different places, and digests of bytes in two writes.
+-- Names cut at different places, and what is hashed of names in two parts.
 use Rattle.std.specs.Prelude.{◌≡◌, refl, ℕ, Bool, true, false, ◌&&◌, ◌==◌, ◌≢◌, List, [], ◌∷◌, ◌++◌, length}
-use Rattle.std.specs.Hash.DefaultHasher as sip
-use Rattle.std.specs.declared.hash.DefaultHasher.{DefaultHasher}
+use Rattle.std.specs.Hash as fed
+use Rattle.std.specs.List.{flat_map, fold}
 use Rattle.std.specs.Str.{bytes_eq}
 use Rattle.std.proofs.Common.{sym, ap, ◌∙◌, arith, append_assoc}
 use Rattle.std.specs.Bool.{one_answer}
 use Rattle.std.proofs.lemmas.Bool.{false≢true}
 use Rattle.std.proofs.lemmas.Slice.Eq.{bytes_eq-Decides}
 use Rattle.std.proofs.lemmas.List.Sums.{fold-append}
+use Rattle.std.proofs.lemmas.Grind.{flat_map-append}
 use Rattle.name_numbers.specs.Names.{Text}
-use Rattle.name_parts.specs.Parts.{digest}
+use Rattle.name_parts.specs.Parts.{writes_of}
 
--- two writes are one of all bytes
-pub written_twice : (s : DefaultHasher) (a b : Text) → sip.write (sip.write s a) b ≡ sip.write s (a ++ b)
-unfolding sip.write
-written_twice s a b = sym (fold-append sip.write_byte s a b)
-
--- what is hashed of bytes in two writes
-pub digest_of : (none first both : DefaultHasher) (a b : Text) (d : ℕ) → none ≡ sip.initial → first ≡ sip.write none a
-    → both ≡ sip.write first b → d ≡ sip.finish both → d ≡ digest (a ++ b)
-unfolding digest
-digest_of none first both a b d begun one two whole_is =
-    whole_is ∙ ap sip.finish (two ∙ ap (λ s. sip.write s b) (one ∙ ap (λ s. sip.write s a) begun) ∙ written_twice sip.initial a b)
+-- what is written of a name in two parts, after how many bytes it has, is what is written of all its bytes
+pub written_twice : {S : Type 0} (write : S → List ℕ → S) (old counted first both : S) (a b : Text) (n : ℕ)
+    → n ≡ length (a ++ b) → counted ≡ fold write old (fed.usize n)
+    → first ≡ fold write counted (flat_map fed.u8 a) → both ≡ fold write first (flat_map fed.u8 b)
+    → both ≡ fold write old (writes_of (a ++ b))
+written_twice write old counted first both a b n count one two three =
+    let begun = one ∙ ap (λ k. fold write old (fed.usize k)) count in
+    let start = fold write old (fed.usize (length (a ++ b))) in
+    three
+    ∙ ap (λ s. fold write s (flat_map fed.u8 b)) (two ∙ ap (λ s. fold write s (flat_map fed.u8 a)) begun)
+    ∙ sym (fold-append write start (flat_map fed.u8 a) (flat_map fed.u8 b))
+    ∙ ap (fold write start) (sym (flat_map-append fed.u8 a b))
+    ∙ sym (fold-append write old (fed.usize (length (a ++ b))) (flat_map fed.u8 (a ++ b)))
 
 both_tests : (a b c : Bool) → (a && (b && c)) ≡ ((a && b) && c)
 both_tests true b c = refl

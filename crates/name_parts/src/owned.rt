@@ -3,9 +3,8 @@
 ghost use Rattle.std.specs.Prelude.{◌≡◌};
 ghost use Rattle.std.specs.Cmp.Lexicographic.{nat_list_eq_equiv};
 ghost use Rattle.std.specs.Cmp.{partial_equiv_from_equiv};
-ghost use Rattle.std.specs.Hash as fed;
 ghost use Rattle.std.specs.Str.{bytes_eq};
-ghost use Rattle.name_parts.specs.Parts.{digest, same_digest};
+ghost use Rattle.name_parts.specs.Parts.{writes_of, same_writes};
 
 use crate::parts::NameParts;
 use crate::prefix::Prefix;
@@ -116,9 +115,9 @@ impl Eq for PrefixedName {
 }
 
 impl Hash for PrefixedName {
-    ghost hash_input = { λ x. fed.u64 (digest x) };
+    ghost hash_input = { writes_of };
 
-    ghost respects_eq = { same_digest };
+    ghost respects_eq = { same_writes };
 
     fn hash<H: Hasher>(&self, state: &mut H) {
         self.parts().hash(state);

@@ -3,12 +3,11 @@
 ghost use Rattle.std.specs.Prelude.{◌≡◌, ◌≤◌, ◌++◌, OnOk, IfOk, length};
 ghost use Rattle.std.specs.Cmp.Lexicographic.{nat_list_eq_equiv};
 ghost use Rattle.std.specs.Cmp.{partial_equiv_from_equiv, on_per, on_equiv};
-ghost use Rattle.std.specs.Hash as fed;
 ghost use Rattle.std.specs.Str.{bytes_eq};
-ghost use Rattle.name_parts.specs.Parts.{whole, digest, same_digest};
+ghost use Rattle.name_parts.specs.Parts.{whole, writes_of, same_writes};
 
 use std::alloc::{AllocError, Global};
-use std::hash::{DefaultHasher, Hash, Hasher};
+use std::hash::{Hash, Hasher};
 
 /// A name in two slices, of which the second goes on where the first ends. Names are equal by their bytes, wherever
 /// they are cut.
@@ -91,14 +90,13 @@ impl<'a> Eq for NameParts<'a> {
 }
 
 impl<'a> Hash for NameParts<'a> {
-    ghost hash_input = { λ x. fed.u64 (digest (whole x)) };
+    ghost hash_input = { λ x. writes_of (whole x) };
 
-    ghost respects_eq = { λ x y. same_digest (whole x) (whole y) };
+    ghost respects_eq = { λ x y. same_writes (whole x) (whole y) };
 
     fn hash<H: Hasher>(&self, state: &mut H) {
-        let mut bytes = DefaultHasher::new();
-        bytes.write(self.prefix);
-        bytes.write(self.rest);
-        state.write_u64(bytes.finish());
+        state.write_usize(self.prefix.len() + self.rest.len());
+        Hash::hash_slice(self.prefix, state);
+        Hash::hash_slice(self.rest, state);
     }
 }

@@ -1,10 +1,9 @@
-use Rattle.std.proofs.Common.{◌∙◌, ap}
-use Rattle.std.specs.Hash as fed
-use Rattle.name_parts.proofs.PartLaws.{digest_of}
+use Rattle.std.proofs.Common.{sym, ◌∙◌}
+use Rattle.std.proofs.lemmas.List.{length-append}
+use Rattle.name_parts.proofs.PartLaws.{written_twice}
 use Rattle.name_parts.proofs.parts.NamePartsHash.hash.Goals as goal
 
 pub returns : goal.returns
-returns g c =
-    let whole_is = digest_of c.new-bytes.result c.write.new.self c.write-2.new.self c.args.self.now.prefix.now c.args.self.now.rest.now c.finish.result
-    c.new-bytes.ensures c.write.ensures c.write-2.ensures c.finish.ensures in
-    c.write_u64.ensures ∙ ap (λ d. g.H.Hasher.write c.args.state.now (fed.le_bytes 8 d)) whole_is
+returns g c = written_twice g.H.Hasher.write c.args.state.now c.write_usize.new.self c.hash_slice.new.state c.hash_slice-2.new.state
+    c.args.self.now.prefix.now c.args.self.now.rest.now _ (sym (length-append c.args.self.now.prefix.now c.args.self.now.rest.now))
+    c.write_usize.ensures c.hash_slice.ensures c.hash_slice-2.ensures
