@@ -119,6 +119,16 @@ def long_mapped_name(size):
     return block(spef=f"{SPEF}*NAME_MAP\n*1 {'a' * 2040}\n*D_NET y 0\n*CAP\n{nodes}*END\n")
 
 
+def long_mapped_couplings(size):
+    nodes = many(size, lambda i: f"{i + 1} *1:{i:x} *1:y 0\n")
+    return block(spef=f"{SPEF}*NAME_MAP\n*1 {'a' * 1000}\n*D_NET y 0\n*CAP\n{nodes}*END\n")
+
+
+def one_name_in_two_ways(size):
+    lines = many(size, lambda i: f"{i + 1} *{i % 2 + 1}:{i // 2:x} 0\n")
+    return block(spef=f"{SPEF}*NAME_MAP\n*1 {'a' * 2040}\n*2 {'a' * 2040}\n*D_NET y 0\n*CAP\n{lines}*END\n")
+
+
 def many_mapped_names(size):
     return block(spef=f"{SPEF}*NAME_MAP\n{many(size, lambda i: f'*{i + 1} n{i:x}' + chr(10))}*D_NET y 0\n*END\n")
 
@@ -145,6 +155,14 @@ def related_names_that_are_no_pins(size):
 
 def groups_in_groups(size):
     return block(lib=LIB + many(size, lambda i: "g(){" * 60 + "}" * 60) + "}\n")
+
+
+def groups_side_by_side(size):
+    return block(lib=LIB + many(size, lambda i: "g(){}") + "}\n")
+
+
+def many_attributes(size):
+    return block(lib=LIB + many(size, lambda i: "a:b;") + "}\n")
 
 
 def many_cells(size):
@@ -176,8 +194,8 @@ def long_names(size):
 TEXTS = [
     bus_named_often, two_buses_in_turn, all_inputs_often, bits_one_by_one, commands_for_bits, clock_among_its_bus, many_ports,
     long_cell_name, wide_buses, many_wires, many_pins, one_long_comment,
-    long_mapped_name, many_mapped_names, many_nodes, many_empty_nets,
-    related_names_that_are_no_pins, groups_in_groups, many_cells, many_values,
+    long_mapped_name, long_mapped_couplings, one_name_in_two_ways, many_mapped_names, many_nodes, many_empty_nets,
+    related_names_that_are_no_pins, groups_in_groups, groups_side_by_side, many_attributes, many_cells, many_values,
     nets_of_nothing, long_names,
 ]  # fmt: skip
 

@@ -2,6 +2,7 @@
 
 ghost use Rattle.std.specs.Prelude.{◌≡◌, ◌+◌, ◌*◌, ◌<◌, ◌≤◌, ◌^◌, ◌++◌, length, map, filter_map, true, IfOk, OnOk};
 ghost use Rattle.std.specs.Prelude.{option_to_list};
+ghost use Rattle.name_parts.specs.Parts.{whole};
 ghost use Rattle.elmore_tree.specs.Trees.{tap_sum};
 ghost use Rattle.link_rules.specs.Bits.{rising};
 ghost use Rattle.link_rules.specs.Wires.{charges_of, sum_at, has_resistors, node_at, sink_node, couplings_of, tap_of};
@@ -12,6 +13,7 @@ use crate::nodes::Nodes;
 use crate::parts::{CapAt, WireParts};
 use elmore_tree::Tap;
 use link_rules::Sink;
+use name_parts::NameParts;
 use std::alloc::{AllocError, Global};
 use xt_model::{Coupling, NetId};
 
@@ -26,8 +28,8 @@ pub fn are_apart<'a>(wire: &WireParts<'a>) -> bool
 }
 
 /// The number in the tree of the node of a name.
-pub fn node_at<'a>(nodes: &Nodes<'a>, wire: &WireParts<'a>, node: &'a [u8]) -> u32
-    ensures { result ≡ node_at nodes.now wire.now node.entry.now }
+pub fn node_at<'a>(nodes: &Nodes<'a>, wire: &WireParts<'a>, node: NameParts<'a>) -> u32
+    ensures { result ≡ node_at nodes.now wire.now (whole node.entry) }
 {
     if are_apart(wire) {
         nodes.number(node)

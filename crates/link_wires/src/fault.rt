@@ -72,7 +72,7 @@ pub fn refusal_of<'a>(
             net: Name::from_slice(alloc, net.bytes())?,
         })),
         TreeFault::NotReached(node) => {
-            let node = Name::from_slice(alloc, nodes.name(node))?;
+            let node = Name::new(nodes.name(node).to_vec(alloc)?);
             Ok(LinkFault::Refused(LinkRefusal::K6 {
                 net: Name::from_slice(alloc, net.bytes())?,
                 node,

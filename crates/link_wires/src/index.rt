@@ -1,31 +1,37 @@
 //! What parasitics list, by the names of nets and nodes.
 
 ghost use Rattle.std.specs.Prelude.{◌≡◌, IfOk, option_map};
+ghost use Rattle.name_parts.specs.Parts.{whole};
 ghost use Rattle.link_rules.specs.Nodes.{text_of};
 ghost use Rattle.link_wires.specs.Places.{HavePlaces};
 
-use link_index::{NetIndex, set_first};
+use crate::first::set_first;
+use link_index::NetIndex;
 use link_rules::NetPins;
-use name_numbers::{Named, TextKey};
+use name_numbers::TextKey;
+use name_parts::{ByParts, NameParts};
 use spef_read::{Name, Parasitics, WireText};
 use std::alloc::{AllocError, Global};
 use std::marker::Model;
 
-/// The bytes of a name; none for one that is not there.
-pub fn text_of<'a>(parasitics: &'a Parasitics, name: Name) -> &'a [u8]
-    ensures { result.now ≡ text_of parasitics.entry.now name }
+/// The name of a number; one of no byte for a number that is not there.
+pub fn text_of<'a>(parasitics: &'a Parasitics, name: Name) -> NameParts<'a>
+    ensures { whole result ≡ text_of parasitics.entry.now name }
 {
-    match parasitics.bytes(name) {
-        Some(bytes) => bytes,
-        None => b"",
+    match parasitics.parts(name) {
+        Some(parts) => parts,
+        None => NameParts::of(b""),
     }
 }
 
 /// Where the first wire of each name is.
-fn places_of<'a>(alloc: Global, parasitics: &'a Parasitics) -> Result<Named<'a, usize>, AllocError>
+fn places_of<'a>(
+    alloc: Global,
+    parasitics: &'a Parasitics,
+) -> Result<ByParts<'a, usize>, AllocError>
     ensures { IfOk result (HavePlaces parasitics.entry.now) }
 {
-    let mut places = Named::new(alloc, parasitics.names.key());
+    let mut places = ByParts::new(alloc, parasitics.names.key());
     let mut place = 0;
     let mut rest = parasitics.nets.as_slice();
     'wires: while let [wire, more @ ..] = rest {
@@ -42,7 +48,7 @@ fn places_of<'a>(alloc: Global, parasitics: &'a Parasitics) -> Result<Named<'a, 
 pub struct WireIndex<'a> {
     nets: &'a NetIndex<'a>,
     parasitics: &'a Parasitics,
-    places: Named<'a, usize>,
+    places: ByParts<'a, usize>,
 }
 
 impl<'a> Model for WireIndex<'a> {
@@ -56,6 +62,7 @@ impl<'a> Model for WireIndex<'a> {
 }
 
 impl<'a> WireIndex<'a> {
+    ghost use Rattle.name_parts.specs.Parts.{whole};
     ghost use Rattle.link_rules.specs.Nodes.{node_net};
     ghost use Rattle.link_rules.specs.Wires.{listed};
 
@@ -89,11 +96,21 @@ impl<'a> WireIndex<'a> {
             .joined(self.nets.netlist().nets.key())
     }
 
-    /// The net of a node.
-    pub fn node_net(&self, node: &'a [u8]) -> Option<u32>
-        ensures { result ≡ node_net self.now.netlist self.now.parasitics.delimiter node.entry.now }
+    /// The net of a node, whose name is put together in `room`.
+    pub fn node_net(
+        &self,
+        node: NameParts<'a>,
+        room: &mut Vec<u8>,
+    ) -> Result<Option<u32>, AllocError>
+        ensures { IfOk result
+            (λ net. net ≡ node_net self.now.netlist self.now.parasitics.delimiter (whole node.entry)) }
     {
-        self.nets.node_net(self.parasitics.delimiter, node)
+        room.clear();
+        node.push_to(room)?;
+        Ok(
+            self.nets
+                .node_net(self.parasitics.delimiter, room.as_slice()),
+        )
     }
 
     /// The wire that is listed for a net; none for one without a driver.
@@ -102,7 +119,7 @@ impl<'a> WireIndex<'a> {
     {
         match &pins.driver {
             None => None,
-            Some(_) => match self.places.get(pins.name.bytes()) {
+            Some(_) => match self.places.get(NameParts::of(pins.name.bytes())) {
                 None => None,
                 Some(place) => Some(&self.parasitics.nets.as_slice()[*place]),
             },

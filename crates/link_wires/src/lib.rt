@@ -3,6 +3,7 @@
 
 mod charges;
 mod fault;
+mod first;
 mod index;
 mod nodes;
 mod parts;

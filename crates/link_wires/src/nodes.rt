@@ -2,15 +2,17 @@
 
 ghost use Rattle.std.specs.Prelude.{◌≡◌, [], ◌∷◌, ◌++◌, ◌<◌, length, fold, IfOk, OnOk};
 ghost use Rattle.name_numbers.specs.Names.{number_of, with_name};
+ghost use Rattle.name_parts.specs.Parts.{whole};
 ghost use Rattle.xt_model.specs.Names.{IsName};
 ghost use Rattle.link_rules.specs.Ends.{end_name};
 ghost use Rattle.link_rules.specs.Wires.{end_nodes, names_on};
 ghost use Rattle.link_wires.specs.Wires.{HasNames};
 
+use crate::first::set_first;
 use crate::parts::WireParts;
-use link_index::set_first;
 use link_rules::{End, NetPins};
-use name_numbers::{Named, TextKey};
+use name_numbers::TextKey;
+use name_parts::{ByParts, NameParts};
 use std::alloc::{AllocError, Global};
 use std::marker::Model;
 use xt_model::Name;
@@ -23,24 +25,26 @@ const MOST_KEPT: usize = 4_294_967_295;
 /// memory for a further one.
 #[derive(Drop)]
 pub struct Nodes<'a> {
-    names: Vec<&'a [u8]>,
-    numbers: Named<'a, u32>,
+    names: Vec<NameParts<'a>>,
+    numbers: ByParts<'a, u32>,
 }
 
 impl<'a> Model for Nodes<'a> {
     ghost use Rattle.std.specs.Prelude.{ℕ, List, map};
+    ghost use Rattle.name_parts.specs.Parts.{whole};
     ghost use Rattle.link_wires.specs.Places.{AreNodes};
 
     ghost Value = { List (List ℕ) };
 
-    ghost view = { λ n. map (λ k. k.now) n.names.items };
+    ghost view = { λ n. map whole n.names.items };
 
-    ghost invariant = { λ n. AreNodes (map (λ k. k.now) n.names.items) n.numbers };
+    ghost invariant = { λ n. AreNodes (map whole n.names.items) n.numbers };
 }
 
 impl<'a> Nodes<'a> {
     ghost use Rattle.std.specs.Prelude.{Some};
     ghost use Rattle.std.specs.List.{slice_get};
+    ghost use Rattle.name_parts.specs.Parts.{whole};
 
     /// No node, with the key of the texts that the names come from.
     pub fn new(alloc: Global, key: TextKey) -> Nodes<'a>
@@ -48,7 +52,7 @@ impl<'a> Nodes<'a> {
     {
         Nodes {
             names: Vec::new(alloc),
-            numbers: Named::new(alloc, key),
+            numbers: ByParts::new(alloc, key),
         }
     }
 
@@ -60,8 +64,8 @@ impl<'a> Nodes<'a> {
     }
 
     /// The number of the first node of this name, and that of the next node where there is none.
-    pub fn number(&self, name: &'a [u8]) -> u32
-        ensures { result ≡ number_of name.entry.now self.now }
+    pub fn number(&self, name: NameParts<'a>) -> u32
+        ensures { result ≡ number_of (whole name.entry) self.now }
     {
         match self.numbers.get(name) {
             Some(number) => *number,
@@ -70,18 +74,18 @@ impl<'a> Nodes<'a> {
     }
 
     /// The name of a node.
-    pub fn name(&self, number: u32) -> &'a [u8]
+    pub fn name(&self, number: u32) -> NameParts<'a>
         requires { number < length self.now }
-        ensures value { slice_get self.now number ≡ Some result.now }
-        ensures sound { IsName result.now }
+        ensures value { slice_get self.now number ≡ Some (whole result) }
+        ensures sound { IsName (whole result) }
     {
         self.names[number as usize]
     }
 
     /// Adds a node, whether there is one of this name or not.
-    pub fn push(&mut self, name: &'a [u8]) -> Result<(), AllocError>
-        requires { IsName name.now }
-        ensures { OnOk result (self.new ≡ self.old ++ name.entry.now ∷ []) }
+    pub fn push(&mut self, name: NameParts<'a>) -> Result<(), AllocError>
+        requires { IsName (whole name) }
+        ensures { OnOk result (self.new ≡ self.old ++ whole name.entry ∷ []) }
     {
         let number = self.names.len();
         if number >= MOST_KEPT {
@@ -94,9 +98,9 @@ impl<'a> Nodes<'a> {
     }
 
     /// Adds the node of this name, where there is none.
-    pub fn enter(&mut self, name: &'a [u8]) -> Result<(), AllocError>
-        requires { IsName name.now }
-        ensures { OnOk result (self.new ≡ with_name name.entry.now self.old) }
+    pub fn enter(&mut self, name: NameParts<'a>) -> Result<(), AllocError>
+        requires { IsName (whole name) }
+        ensures { OnOk result (self.new ≡ with_name (whole name.entry) self.old) }
     {
         if self.numbers.get(name).is_none() {
             self.push(name)?;
@@ -146,7 +150,7 @@ pub fn nodes_of<'a>(
     let mut nodes = Nodes::new(alloc, key);
     let mut left = ends;
     'ends: while let [end, more @ ..] = left {
-        nodes.push(end.bytes())?;
+        nodes.push(NameParts::of(end.bytes()))?;
         left = more;
     }
     let mut caps = wire.caps();

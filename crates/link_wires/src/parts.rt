@@ -4,40 +4,43 @@ ghost use Rattle.std.specs.Prelude.{◌≡◌, IfOk, option_map};
 ghost use Rattle.link_rules.specs.Wires.{coupled, capacitor_of, named_resistor_of, wire_in};
 
 use crate::index::{WireIndex, text_of};
+use name_parts::NameParts;
 use spef_read::{CapText, ResText, WireText};
 use std::alloc::{AllocError, Global};
 use std::marker::Model;
 
 /// A capacitor of a net: its own node, the net to which it couples, if any, and its value in aF.
-#[derive(Debug, Drop)]
+#[derive(Drop)]
 pub struct CapAt<'a> {
-    pub node: &'a [u8],
+    pub node: NameParts<'a>,
     pub to: Option<u32>,
     pub value: i64,
 }
 
 impl<'a> Model for CapAt<'a> {
+    ghost use Rattle.name_parts.specs.Parts.{whole};
     ghost use Rattle.link_rules.specs.Wires.{Capacitor};
 
     ghost Value = { Capacitor };
 
-    ghost view = { λ c. record { node = c.node.now; to = c.to; value = c.value } };
+    ghost view = { λ c. record { node = whole c.node; to = c.to; value = c.value } };
 }
 
 /// A resistor of a net between two nodes, in milliohms.
-#[derive(Debug, Drop)]
+#[derive(Drop)]
 pub struct ResAt<'a> {
-    pub a: &'a [u8],
-    pub b: &'a [u8],
+    pub a: NameParts<'a>,
+    pub b: NameParts<'a>,
     pub value: i64,
 }
 
 impl<'a> Model for ResAt<'a> {
+    ghost use Rattle.name_parts.specs.Parts.{whole};
     ghost use Rattle.link_rules.specs.Wires.{NamedResistor};
 
     ghost Value = { NamedResistor };
 
-    ghost view = { λ r. record { a = r.a.now; b = r.b.now; value = r.value } };
+    ghost view = { λ r. record { a = whole r.a; b = whole r.b; value = r.value } };
 }
 
 /// The wire of a net: its total in aF, its capacitors and its resistors.
@@ -66,35 +69,41 @@ fn coupled(net: u32, found: Option<u32>) -> Option<u32>
     }
 }
 
-/// A capacitor of a net. Of two nodes the first that is on the net is its own, and the first where none is.
-fn capacitor_of<'a>(index: &WireIndex<'a>, net: u32, cap: CapText) -> CapAt<'a>
-    ensures { result ≡ capacitor_of index.now.netlist index.now.parasitics net cap }
+/// A capacitor of a net. Of two nodes the first that is on the net is its own, and the first where none is. Names are
+/// put together in `room`.
+fn capacitor_of<'a>(
+    index: &WireIndex<'a>,
+    net: u32,
+    cap: CapText,
+    room: &mut Vec<u8>,
+) -> Result<CapAt<'a>, AllocError>
+    ensures { IfOk result (λ c. c ≡ capacitor_of index.now.netlist index.now.parasitics net cap) }
 {
     let parasitics = index.parasitics();
     let a = text_of(parasitics, cap.a);
     let value = cap.value;
     let Some(b) = cap.b else {
-        return CapAt {
+        return Ok(CapAt {
             node: a,
             to: None,
             value,
-        };
+        });
     };
     let b = text_of(parasitics, b);
-    let net_a = index.node_net(a);
-    let net_b = index.node_net(b);
+    let net_a = index.node_net(a, room)?;
+    let net_b = index.node_net(b, room)?;
     if net_a == Some(net) || net_b != Some(net) {
-        CapAt {
+        Ok(CapAt {
             node: a,
             to: coupled(net, net_b),
             value,
-        }
+        })
     } else {
-        CapAt {
+        Ok(CapAt {
             node: b,
             to: coupled(net, net_a),
             value,
-        }
+        })
     }
 }
 
@@ -130,8 +139,9 @@ impl<'a> WireParts<'a> {
                 resistors,
             });
         };
+        let mut room = Vec::new(alloc);
         for cap in text.caps.as_slice() {
-            caps.push(capacitor_of(index, net, *cap))?;
+            caps.push(capacitor_of(index, net, *cap, &mut room)?)?;
         }
         for resistor in text.resistors.as_slice() {
             resistors.push(named_resistor_of(index, *resistor))?;

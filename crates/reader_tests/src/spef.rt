@@ -340,10 +340,10 @@ fn the_example_is_refused_at_a_changed_line(rt: HostRuntime) -> Result<(), Fail>
 
 /// Appends a name.
 fn push_name(parasitics: &Parasitics, name: Name, out: &mut Vec<u8>) -> Result<(), Fail> {
-    let Some(bytes) = parasitics.bytes(name) else {
+    let Some(parts) = parasitics.parts(name) else {
         return Err(Fail::from("no name"));
     };
-    out.extend_from_slice(bytes)?;
+    parts.push_to(out)?;
     out.push(b' ')?;
     Ok(())
 }

@@ -1,41 +1,17 @@
 //! Names as they are meant.
 
-ghost use Rattle.std.specs.Prelude.{◌≡◌, ℕ, List, false, ◌++◌, OnOk};
+ghost use Rattle.std.specs.Prelude.{◌≡◌, false, ◌++◌, OnOk};
 ghost use Rattle.spef_read.specs.Names.{meant, unescaped, has_size, sized, mapped_name, whole_name, pair_name};
 ghost use Rattle.text_forms.specs.Stops.{Changes, Computes};
 
 use crate::marks::Marks;
 use crate::words::{are_digits, split_at_mark, without_zeros};
 use name_numbers::Named;
+use name_parts::{Prefix, PrefixedName};
 use std::alloc::{AllocError, Global};
-use std::marker::Model;
 use text_forms::Stop;
 use xt_model::Code;
 use xt_model::limits::MOST_NAME;
-
-/// A name of the name map, as it is meant.
-#[derive(Debug, Drop)]
-pub struct MapName {
-    bytes: Vec<u8>,
-}
-
-impl Model for MapName {
-    ghost use Rattle.std.specs.Prelude.{ℕ, List};
-
-    ghost Value = { List ℕ };
-
-    ghost view = { λ n. n.bytes.items };
-}
-
-impl MapName {
-    /// The bytes of the name.
-    #[inline]
-    fn bytes(&self) -> &[u8]
-        ensures { result.now ≡ self.now }
-    {
-        self.bytes.as_slice()
-    }
-}
 
 /// What a byte of a name is that has no backslash before it.
 #[inline]
@@ -54,8 +30,8 @@ fn meant(marks: Marks, byte: u8) -> u8
 }
 
 /// Appends the bytes of a name as they are meant.
-fn push_unescaped(marks: Marks, word: &[u8], out: &mut Vec<u8>) -> Result<(), AllocError>
-    ensures { OnOk result (out.new.items ≡ out.old.items ++ unescaped marks false word.now) }
+fn push_unescaped(marks: Marks, word: &[u8], out: &mut PrefixedName) -> Result<(), AllocError>
+    ensures { OnOk result (out.new ≡ out.old ++ unescaped marks false word.now) }
 {
     let mut kept = false;
     let mut rest = word;
@@ -74,15 +50,15 @@ fn push_unescaped(marks: Marks, word: &[u8], out: &mut Vec<u8>) -> Result<(), Al
 
 /// Whether a name has as many bytes as a name may have.
 #[inline]
-fn has_size(name: &[u8]) -> bool
+fn has_size(name: &PrefixedName) -> bool
     ensures { result ≡ has_size name.now }
 {
-    !name.is_empty() && name.len() <= MOST_NAME
+    !(name.len() == 0) && name.len() <= MOST_NAME
 }
 
 /// Refuses a name of another size.
 #[inline]
-fn sized(name: &[u8]) -> Result<(), Stop>
+fn sized(name: &PrefixedName) -> Result<(), Stop>
     ensures { Changes result name.now (sized name.now) }
 {
     if has_size(name) {
@@ -93,22 +69,22 @@ fn sized(name: &[u8]) -> Result<(), Stop>
 }
 
 /// Makes `out` the name that a word without a `*` in front means.
-fn plain_name(marks: Marks, word: &[u8], out: &mut Vec<u8>) -> Result<(), Stop>
-    ensures { Changes result out.new.items (sized (unescaped marks false word.now)) }
+fn plain_name(marks: Marks, word: &[u8], out: &mut PrefixedName) -> Result<(), Stop>
+    ensures { Changes result out.new (sized (unescaped marks false word.now)) }
 {
-    out.clear();
+    out.start(None)?;
     push_unescaped(marks, word, out)?;
-    sized(out.as_slice())
+    sized(out)
 }
 
 /// Makes `out` the name that `*` means with these bytes after it.
 fn mapped_name<'a>(
     marks: Marks,
-    map: &Named<'a, MapName>,
+    map: &Named<'a, Prefix>,
     more: &'a [u8],
-    out: &mut Vec<u8>,
+    out: &mut PrefixedName,
 ) -> Result<(), Stop>
-    ensures { Changes result out.new.items (mapped_name marks map.now more.entry.now) }
+    ensures { Changes result out.new (mapped_name marks map.now more.entry.now) }
 {
     let (index, behind) = split_at_mark(marks.delimiter, more);
     if !are_digits(index) {
@@ -117,21 +93,20 @@ fn mapped_name<'a>(
     let Some((_, name)) = map.find(without_zeros(index)) else {
         return Err(Stop::Refused(Code::S5));
     };
-    out.clear();
-    out.extend_from_slice(name.bytes())?;
+    out.start(Some(name))?;
     push_unescaped(marks, behind, out)?;
-    sized(out.as_slice())
+    sized(out)
 }
 
 /// Makes `out` the whole name that a word means.
 #[tactic(auto, unfolding(crate::specs::Names::whole_name))]
 pub fn whole_name<'a>(
     marks: Marks,
-    map: &Named<'a, MapName>,
+    map: &Named<'a, Prefix>,
     word: &'a [u8],
-    out: &mut Vec<u8>,
+    out: &mut PrefixedName,
 ) -> Result<(), Stop>
-    ensures { Changes result out.new.items (whole_name marks map.now word.entry.now) }
+    ensures { Changes result out.new (whole_name marks map.now word.entry.now) }
 {
     match word {
         [] => Err(Stop::Refused(Code::S1)),
@@ -142,16 +117,17 @@ pub fn whole_name<'a>(
 
 /// The name of a pair of the name map.
 #[tactic(auto, unfolding(crate::specs::Names::pair_name))]
-pub fn pair_name(alloc: Global, marks: Marks, word: &[u8]) -> Result<MapName, Stop>
+pub fn pair_name(alloc: Global, marks: Marks, word: &[u8]) -> Result<Prefix, Stop>
     ensures { Computes (λ n. n) result (pair_name marks word.now) }
 {
     match word {
         [] => Err(Stop::Refused(Code::S1)),
         [b'*', ..] => Err(Stop::Refused(Code::S1)),
         [_, ..] => {
-            let mut bytes = Vec::new(alloc);
-            plain_name(marks, word, &mut bytes)?;
-            Ok(MapName { bytes })
+            let mut name = PrefixedName::new(alloc);
+            plain_name(marks, word, &mut name)?;
+            let bytes = name.parts().to_vec(alloc)?;
+            Ok(Prefix::new(alloc, bytes)?)
         }
     }
 }

@@ -2,8 +2,9 @@
 
 ghost use Rattle.std.specs.Prelude.{◌≡◌, map, option_map};
 ghost use Rattle.std.specs.List.{slice_get};
+ghost use Rattle.name_parts.specs.Parts.{whole};
 
-use name_numbers::NameTable;
+use name_parts::{NameParts, PrefixedTable};
 use xt_model::Row;
 
 /// A name, by its number among the names of its text.
@@ -40,21 +41,21 @@ pub struct WireText {
 /// The nets of a text in its order. `names` has the names of nets and nodes in the order of their first use, each with
 /// the number of the net that has it: whole, with the names of the name map in the place of their numbers, without
 /// backslashes, with `/` between their parts and `[` and `]` around a bit. In the name of a pin `delimiter` is
-/// before the pin.
+/// before the pin. A name of the name map is kept once for all names that begin with it.
 #[derive(Drop)]
 pub struct Parasitics {
     pub delimiter: u8,
-    pub names: NameTable<Option<u32>>,
+    pub names: PrefixedTable<Option<u32>>,
     pub nets: Row<WireText>,
 }
 
 impl Parasitics {
-    /// The bytes of a name.
-    pub fn bytes(&self, name: Name) -> Option<&[u8]>
-        ensures { option_map (λ b. b.now) result ≡ slice_get (map (λ e. e.0) self.now.names) name.number }
+    /// The bytes of a name, in two parts.
+    pub fn parts(&self, name: Name) -> Option<NameParts<'_>>
+        ensures { option_map whole result ≡ slice_get (map (λ e. e.0) self.now.names) name.number }
     {
         match self.names.get(name.number) {
-            Some((bytes, _)) => Some(bytes),
+            Some((parts, _)) => Some(parts),
             None => None,
         }
     }

@@ -11,11 +11,12 @@ ghost use Rattle.spef_read.specs.View.{item_text};
 
 use crate::item::{Item, Quantity, Separator};
 use crate::marks::Marks;
-use crate::names::{MapName, pair_name, whole_name};
+use crate::names::{pair_name, whole_name};
 use crate::parasitics::{CapText, Name, Parasitics, ResText, WireText};
 use crate::values::{unit_power, value_of};
 use crate::words::without_zeros;
-use name_numbers::{NameTable, Named, TextKey};
+use name_numbers::{Named, TextKey};
+use name_parts::{Prefix, PrefixedName, PrefixedTable};
 use std::alloc::Global;
 use std::marker::Model;
 use text_forms::Stop;
@@ -30,9 +31,9 @@ pub struct Progress<'a> {
     power: i32,
     cap_scale: Option<i32>,
     res_scale: Option<i32>,
-    map: Named<'a, MapName>,
+    map: Named<'a, Prefix>,
     index: &'a [u8],
-    names: NameTable<Option<u32>>,
+    names: PrefixedTable<Option<u32>>,
     nets: Vec<WireText>,
     net: Name,
     total: i64,
@@ -42,7 +43,7 @@ pub struct Progress<'a> {
     cap_second: Option<Name>,
     res_second: Name,
     /// The name that was made last.
-    made: Vec<u8>,
+    made: PrefixedName,
 }
 
 impl<'a> Model for Progress<'a> {
@@ -119,7 +120,7 @@ impl<'a> Progress<'a> {
             res_scale: None,
             map: Named::new(alloc, key),
             index: b"",
-            names: NameTable::new(alloc, key),
+            names: PrefixedTable::new(alloc, key),
             nets: Vec::new(alloc),
             net: first,
             total: 0,
@@ -128,7 +129,7 @@ impl<'a> Progress<'a> {
             first,
             cap_second: None,
             res_second: first,
-            made: Vec::new(alloc),
+            made: PrefixedName::new(alloc),
         }
     }
 
@@ -253,11 +254,11 @@ impl<'a> Progress<'a> {
         ensures { Answers result self.new (node word.entry.now self.old) }
     {
         whole_name(self.marks, &self.map, word, &mut self.made)?;
-        if let Some((number, _)) = self.names.find(self.made.as_slice()) {
+        if let Some((number, _)) = self.names.find(&self.made) {
             return Ok(Name { number });
         }
         let number = self.names.len();
-        self.names.set(alloc, self.made.as_slice(), None)?;
+        self.names.set(self.made.copied(alloc)?, None)?;
         Ok(Name { number })
     }
 
@@ -267,7 +268,7 @@ impl<'a> Progress<'a> {
         ensures { Changes result self.new (net_name word.entry.now self.old) }
     {
         whole_name(self.marks, &self.map, word, &mut self.made)?;
-        let number = match self.names.find(self.made.as_slice()) {
+        let number = match self.names.find(&self.made) {
             Some((number, net)) => {
                 if net.is_some() {
                     return Err(Stop::Refused(Code::S6));
@@ -279,7 +280,7 @@ impl<'a> Progress<'a> {
         let Ok(net) = u32::try_from(self.nets.len()) else {
             return Err(Stop::NoMemory);
         };
-        self.names.set(alloc, self.made.as_slice(), Some(net))?;
+        self.names.set(self.made.copied(alloc)?, Some(net))?;
         self.net = Name { number };
         Ok(())
     }

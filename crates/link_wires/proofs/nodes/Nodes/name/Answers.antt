@@ -2,6 +2,7 @@ use Rattle.std.proofs.Common.{◌≡◌, Some, length, refl, ap, arith}
 use Rattle.std.specs.List.{slice_get}
 use Rattle.std.proofs.lemmas.List.{length-map}
 use Rattle.std.proofs.lemmas.Option.{slice_get_read}
+use Rattle.name_parts.specs.Parts.{whole}
 use Rattle.link_wires.proofs.NodeLaws.{named_at}
 use Rattle.link_wires.proofs.nodes.Nodes.name.Goals as goal
 
@@ -10,5 +11,5 @@ returns-clause-sound c =
     let names = c.self.inside.names.items in
     let here : slice_get names c.args.number ≡ Some c.index.result.now =
     slice_get_read names _ c.args.number c.index.result.now refl
-    (omega (arith, c.requires, ap length c.self.view_is, length-map names (λ k. k.now))) c.index.ensures in
-    named_at (λ k. k.now) names c.args.number c.index.result.now c.self.invariant.names here
+    (omega (arith, c.requires, ap length c.self.view_is, length-map names whole)) c.index.ensures in
+    named_at whole names c.args.number c.index.result.now c.self.invariant.names here

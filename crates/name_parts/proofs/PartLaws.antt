@@ -1,0 +1,71 @@
+-- Names cut at different places, and what is hashed of names in two parts.
+use Rattle.std.specs.Prelude.{◌≡◌, refl, ℕ, Bool, true, false, ◌&&◌, ◌==◌, ◌≢◌, List, [], ◌∷◌, ◌++◌, length}
+use Rattle.std.specs.Hash as fed
+use Rattle.std.specs.List.{flat_map, fold}
+use Rattle.std.specs.Str.{bytes_eq}
+use Rattle.std.proofs.Common.{sym, ap, ◌∙◌, arith, append_assoc}
+use Rattle.std.specs.Bool.{one_answer}
+use Rattle.std.proofs.lemmas.Bool.{false≢true}
+use Rattle.std.proofs.lemmas.Slice.Eq.{bytes_eq-Decides}
+use Rattle.std.proofs.lemmas.List.Sums.{fold-append}
+use Rattle.std.proofs.lemmas.Grind.{flat_map-append}
+use Rattle.name_numbers.specs.Names.{Text}
+use Rattle.name_parts.specs.Parts.{writes_of}
+
+-- what is written of a name in two parts, after how many bytes it has, is what is written of all its bytes
+pub written_twice : {S : Type 0} (write : S → List ℕ → S) (old counted first both : S) (a b : Text) (n : ℕ)
+    → n ≡ length (a ++ b) → counted ≡ fold write old (fed.usize n)
+    → first ≡ fold write counted (flat_map fed.u8 a) → both ≡ fold write first (flat_map fed.u8 b)
+    → both ≡ fold write old (writes_of (a ++ b))
+written_twice write old counted first both a b n count one two three =
+    let begun = one ∙ ap (λ k. fold write old (fed.usize k)) count in
+    let start = fold write old (fed.usize (length (a ++ b))) in
+    three
+    ∙ ap (λ s. fold write s (flat_map fed.u8 b)) (two ∙ ap (λ s. fold write s (flat_map fed.u8 a)) begun)
+    ∙ sym (fold-append write start (flat_map fed.u8 a) (flat_map fed.u8 b))
+    ∙ ap (fold write start) (sym (flat_map-append fed.u8 a b))
+    ∙ sym (fold-append write old (fed.usize (length (a ++ b))) (flat_map fed.u8 (a ++ b)))
+
+both_tests : (a b c : Bool) → (a && (b && c)) ≡ ((a && b) && c)
+both_tests true b c = refl
+both_tests false b c = refl
+
+-- bytes in front that are as many are compared by themselves
+pub cut_alike : (a b c d : Text) → length a ≡ length c → bytes_eq (a ++ b) (c ++ d) ≡ (bytes_eq a c && bytes_eq b d)
+cut_alike [] b [] d h = refl
+cut_alike [] b (y ∷ c) d h = absurd (omega (arith, h))
+cut_alike (x ∷ a) b [] d h = absurd (omega (arith, h))
+cut_alike (x ∷ a) b (y ∷ c) d h =
+    rw (cut_alike a b c d (omega (arith, h))) (both_tests (x == y) (bytes_eq a c) (bytes_eq b d))
+
+-- the bytes of two slices and those of two others, where the first is no longer than the third: what the two have in
+-- front, then what lies in the second and the third, then the rest
+pub cut_thrice : (prefix rest longer last front behind middle end : Text)
+    → longer ≡ front ++ behind → rest ≡ middle ++ end → length prefix ≡ length front → length middle ≡ length behind
+    → bytes_eq (prefix ++ rest) (longer ++ last)
+    ≡ (bytes_eq prefix front && (bytes_eq middle behind && bytes_eq end last))
+cut_thrice prefix rest longer last front behind middle end long short one two =
+    ap (λ q. bytes_eq (prefix ++ rest) (q ++ last)) long
+    ∙ ap (bytes_eq (prefix ++ rest)) (append_assoc front behind last)
+    ∙ cut_alike prefix rest front (behind ++ last) one
+    ∙ ap (λ r. bytes_eq prefix front && bytes_eq r (behind ++ last)) short
+    ∙ ap (λ b. bytes_eq prefix front && b) (cut_alike middle end behind last two)
+
+-- three tests of which one fails, and three of which two hold
+pub first_differs : (a more : Bool) → a ≡ false → (a && more) ≡ false
+first_differs a more h = rw h refl
+
+pub middle_differs : (a b c : Bool) → b ≡ false → (a && (b && c)) ≡ false
+middle_differs true b c h = rw h refl
+middle_differs false b c h = refl
+
+pub last_counts : (a b c : Bool) → a ≡ true → b ≡ true → (a && (b && c)) ≡ c
+last_counts a b c h k = rw (h, k) refl
+
+-- names of other lengths differ
+pub lengths_differ : (a b : Text) → length a ≢ length b → false ≡ bytes_eq a b
+lengths_differ a b apart = one_answer false (bytes_eq a b) (λ f. absurd (false≢true f), λ e. absurd (apart (ap length e))) (bytes_eq-Decides a b)
+
+-- which of two names is compared with the other does not matter
+pub either_way : (a b : Text) → bytes_eq a b ≡ bytes_eq b a
+either_way a b = one_answer (bytes_eq a b) (bytes_eq b a) (λ h. sym ((bytes_eq-Decides a b).0 h), λ e. (bytes_eq-Decides a b).1 (sym e)) (bytes_eq-Decides b a)
