@@ -1,0 +1,15 @@
+pub mod Portions
+pub mod Moved
+pub mod Inward
+pub mod Nets
+pub mod Ordered
+pub mod Shrinking
+pub mod Fits
+pub mod Products
+pub mod Kept
+pub mod Totals
+pub mod Pushed
+pub mod Allowed
+pub mod Begun
+pub mod Made
+pub mod Refused

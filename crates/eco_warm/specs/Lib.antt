@@ -1,0 +1,3 @@
+pub mod Edits
+pub mod Possible
+pub mod Starts

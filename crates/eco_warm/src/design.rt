@@ -1,0 +1,175 @@
+//! A design after an edit.
+
+ghost use Rattle.std.specs.Prelude.{◌≡◌, ◌<◌, ◌≤◌, ◌≤ℤ◌, length, IfOk, IfErr, IfSome, OnOk};
+ghost use Rattle.std.specs.List.{slice_get};
+ghost use Rattle.xt_model.specs.Limits.{most_cap, most_couplings};
+ghost use Rattle.xt_model.specs.Sound.{greatest_load};
+ghost use Rattle.eco_warm.specs.Edits.{change_of, edited, first_of, move_of, net_left, second_of};
+ghost use Rattle.eco_warm.specs.Possible.{IsAllowed, IsEditOf, IsImpossible, IsLoadOf, IsMove, IsPossible, IsRefusalOf};
+ghost use Rattle.eco_warm.specs.Starts.{IsAfterEdit};
+
+use crate::copy::copied;
+use crate::edit::{Change, Edit, EditFault, Edited, Move};
+use crate::net::{greatest_load, net_left};
+use std::alloc::{AllocError, Global};
+use xt_model::limits::MOST_CAP;
+use xt_model::{Design, DesignParts, Miller, Net, NetId, Row};
+
+impl Edit {
+    /// The two nets.
+    fn nets(&self) -> (NetId, NetId)
+        ensures first { result.0.0 ≡ first_of self.now }
+        ensures second { result.1.0 ≡ second_of self.now }
+    {
+        match self {
+            Edit::Shield { a, b } => (*a, *b),
+            Edit::Apart { a, b, by: _ } => (*a, *b),
+            Edit::Near { a, b, by: _ } => (*a, *b),
+        }
+    }
+
+    /// What it moves.
+    fn moving(&self) -> Move
+        ensures { result ≡ move_of self.now }
+    {
+        match self {
+            Edit::Shield { a: _, b: _ } => Move::Whole,
+            Edit::Apart { a: _, b: _, by } => Move::ToGround(*by),
+            Edit::Near { a: _, b: _, by } => Move::FromGround(*by),
+        }
+    }
+
+    /// How it moves the windows of a design with these Miller numbers.
+    fn change(&self, miller: Miller) -> Change
+        ensures { result ≡ change_of miller self.now }
+    {
+        if miller.mid() != 4 {
+            return Change::Neither;
+        }
+        match self {
+            Edit::Near { .. } => Change::Grows,
+            _ => Change::Shrinks,
+        }
+    }
+}
+
+/// A net of a design after its couplings to the other net are moved.
+fn net_after(
+    alloc: Global,
+    design: &Design,
+    moving: Move,
+    net: NetId,
+    other: NetId,
+) -> Result<Net, EditFault>
+    requires moving { IsMove moving }
+    requires net { net.0 < length design.now.nets }
+    ensures ok { IfOk result (λ n. IfSome (slice_get design.now.nets net.0) (λ old. n ≡ net_left moving other.0 old)) }
+    ensures few { IfOk result (λ n. length n.couplings ≤ most_couplings) }
+    ensures possible { IfOk result (λ _. IfSome (slice_get design.now.nets net.0) (IsPossible moving other.0)) }
+    ensures impossible { IfErr result (IsImpossible
+        (IfSome (slice_get design.now.nets net.0) (IsPossible moving other.0) → ⊥)) }
+{
+    net_left(alloc, moving, other, design.net(net.0 as usize))
+}
+
+/// Refuses a net whose load is past 2^46 aF with every coupling counted twice.
+fn check_load(net: NetId, after: &Net) -> Result<(), EditFault>
+    requires { length after.now.couplings ≤ most_couplings }
+    ensures kept { OnOk result (greatest_load after.now ≤ℤ most_cap) }
+    ensures heavy { IfErr result (IsLoadOf net.0 after.now) }
+{
+    let load = greatest_load(after);
+    if load > i128::from(MOST_CAP) {
+        return Err(EditFault::Load {
+            net,
+            value: load as u128,
+        });
+    }
+    Ok(())
+}
+
+/// The two nets of an edit after it, or why the design does not allow it.
+fn nets_after(alloc: Global, design: &Design, edit: &Edit) -> Result<(Net, Net), EditFault>
+    requires { IsEditOf design.now.nets edit.now }
+    ensures first { IfOk result (λ p. IfSome (slice_get design.now.nets (first_of edit.now))
+        (λ old. p.0 ≡ net_left (move_of edit.now) (second_of edit.now) old)) }
+    ensures second { IfOk result (λ p. IfSome (slice_get design.now.nets (second_of edit.now))
+        (λ old. p.1 ≡ net_left (move_of edit.now) (first_of edit.now) old)) }
+    ensures allowed { IfOk result (λ _. IsAllowed edit.now design.now.nets) }
+    ensures refusal { IfErr result (IsRefusalOf edit.now design.now.nets) }
+{
+    let (a, b) = edit.nets();
+    let moving = edit.moving();
+    let first = net_after(alloc, design, moving, a, b)?;
+    let second = net_after(alloc, design, moving, b, a)?;
+    check_load(a, &first)?;
+    check_load(b, &second)?;
+    Ok((first, second))
+}
+
+/// The design with both nets of an edit as they are after it. Its levels stay as they are; the coupled pairs are
+/// counted anew.
+fn replaced(
+    alloc: Global,
+    design: Design,
+    edit: &Edit,
+    first: Net,
+    second: Net,
+) -> Result<Design, AllocError>
+    requires between { IsEditOf design.nets edit.now }
+    requires first { IfSome (slice_get design.nets (first_of edit.now))
+        (λ old. first ≡ net_left (move_of edit.now) (second_of edit.now) old) }
+    requires second { IfSome (slice_get design.nets (second_of edit.now))
+        (λ old. second ≡ net_left (move_of edit.now) (first_of edit.now) old) }
+    requires allowed { IsAllowed edit.now design.nets }
+    ensures { IfOk result (λ d. d ≡ edited edit.now design) }
+{
+    let (a, b) = edit.nets();
+    let (parts, order) = design.into_parts();
+    let DesignParts {
+        period,
+        tables,
+        nets,
+        checks,
+        miller,
+    } = parts;
+    let mut nets = nets.into_vec();
+    nets[a.0 as usize] = first;
+    nets[b.0 as usize] = second;
+    let parts = DesignParts {
+        period,
+        tables,
+        nets: Row::from_vec(nets),
+        checks,
+        miller,
+    };
+    Design::from_order(alloc, parts, order)
+}
+
+/// `apply`, of a design that is no longer wanted: its two nets are made anew, and all else stays in its place.
+pub fn edit_design(alloc: Global, design: Design, edit: &Edit) -> Result<Edited, EditFault>
+    requires { IsEditOf design.nets edit.now }
+    ensures design { IfOk result (λ x. x.design ≡ edited edit.now design) }
+    ensures change { IfOk result (λ x. x.change ≡ change_of design.miller edit.now) }
+    ensures after { IfOk result (λ x. IsAfterEdit design x.design x.change) }
+    ensures allowed { IfOk result (λ _. IsAllowed edit.now design.nets) }
+    ensures refusal { IfErr result (IsRefusalOf edit.now design.nets) }
+{
+    let change = edit.change(design.miller());
+    let (first, second) = nets_after(alloc, &design, edit)?;
+    let design = replaced(alloc, design, edit, first, second)?;
+    Ok(Edited { design, change })
+}
+
+/// The design after an edit, and how the edit moves its windows; or why the design does not allow it: first `E4` of
+/// both nets, then the load of the first net, then that of the second. The edit is made on a copy.
+pub fn apply(alloc: Global, design: &Design, edit: &Edit) -> Result<Edited, EditFault>
+    requires { IsEditOf design.now.nets edit.now }
+    ensures design { IfOk result (λ x. x.design ≡ edited edit.now design.now) }
+    ensures change { IfOk result (λ x. x.change ≡ change_of design.now.miller edit.now) }
+    ensures after { IfOk result (λ x. IsAfterEdit design.now x.design x.change) }
+    ensures allowed { IfOk result (λ _. IsAllowed edit.now design.now.nets) }
+    ensures refusal { IfErr result (IsRefusalOf edit.now design.now.nets) }
+{
+    edit_design(alloc, copied(alloc, design)?, edit)
+}
