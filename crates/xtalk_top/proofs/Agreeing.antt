@@ -3,17 +3,14 @@ use Rattle.std.proofs.Common.{◌≡◌, ◌<◌, ◌≤◌, length, Option, Som
 use Rattle.std.specs.Prelude.{IsSome}
 use Rattle.command_line.specs.Words.{Text}
 use Rattle.xtalk_top.specs.Outcome.{Contents, Outcome, prints, refuses, unread, FileMeans, most_bytes}
-use Rattle.xtalk_top.specs.Call.{status_of}
-use Rattle.xtalk_top.specs.declared.refusal.Stop.TheVariants.{Refused}
-use Rattle.xtalk_top.specs.declared.refusal.Failure.TheVariants.{NoText}
 
--- both print, or both refuse with one status; a file that cannot be read stands beside any outcome
+-- both print one text, or both refuse for one cause; that a file cannot be read agrees with any outcome
 abbrev pub Agree : Outcome → Outcome → Type 0
-Agree (prints a) (prints b) = Unit {0}
+Agree (prints a) (prints b) = a ≡ b
 Agree (prints a) (refuses b) = ⊥
 Agree (prints a) (unread f) = Unit {0}
 Agree (refuses a) (prints b) = ⊥
-Agree (refuses a) (refuses b) = status_of (NoText (Refused a)) ≡ status_of (NoText (Refused b))
+Agree (refuses a) (refuses b) = a ≡ b
 Agree (refuses a) (unread f) = Unit {0}
 Agree (unread f) o = Unit {0}
 

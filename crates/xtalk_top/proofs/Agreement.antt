@@ -1,6 +1,6 @@
 -- Where the contents of the files are known, the words and the files mean one outcome.
 use Rattle.std.proofs.Common.{◌≡◌, ◌⊎◌, ℕ, List, Option, Some, None, Result, Ok, Err, IfSome, refl, sym, ap, ◌∙◌, subst, inl, inr}
-use Rattle.std.specs.Prelude.{IsSome, MatchOption}
+use Rattle.std.specs.Prelude.{◌≢◌, IsSome, MatchOption}
 use Rattle.xt_model.specs.Miller.{MillerNumbers, IsMiller}
 use Rattle.xt_model.specs.Parts.{Parts}
 use Rattle.xt_model.specs.Sound.{IsSound}
@@ -9,38 +9,41 @@ use Rattle.linked_text.proofs.WholeLaws.{means_design, means_one, same_texts}
 use Rattle.design_gen.specs.Laws.{IsCount}
 use Rattle.design_gen.specs.Generated.{generated}
 use Rattle.design_gen.proofs.Soundness.{sound}
+use Rattle.report_text.proofs.OneReport.{one_report, one_summary}
 use Rattle.report_kind.specs.declared.kind.ReportKind.{ReportKind}
 use Rattle.report_kind.specs.declared.kind.ReportKind.TheVariants.{All}
 use Rattle.command_line.specs.Words.{Text, HasCount, job_of}
 use Rattle.xtalk_top.specs.Outcome.{Contents, Outcome, prints, refuses, unread, LinkedMeans, DesignMeans, SolvedMeans, IsSolution, IsDesignText, TextReportMeans, why_refused, counted_by}
 use Rattle.xtalk_top.specs.Gen.{GenMeans, IsSummed}
-use Rattle.xtalk_top.specs.Call.{JobMeans, Means, AreKnown, IsStop, status_of}
+use Rattle.xtalk_top.specs.Call.{JobMeans, Means, AreKnown, HadNoFault, IsStop, Shows, line_of, status_of}
 use Rattle.command_line.specs.declared.words.Job.{Job}
 use Rattle.command_line.specs.declared.words.Job.TheVariants.{Report, Solve, Replay, Link, Gen}
 use Rattle.command_line.specs.declared.words.GenJob.{GenJob}
 use Rattle.xtalk_top.specs.declared.refusal.Refusal.{Refusal}
 use Rattle.xtalk_top.specs.declared.refusal.FileRefusal.TheVariants.{Content}
-use Rattle.xtalk_top.specs.declared.refusal.Refusal.TheVariants.{Words, File}
+use Rattle.xtalk_top.specs.declared.refusal.Refusal.TheVariants.{Words, File, Design}
+use Rattle.xtalk_top.specs.declared.refusal.DesignRefusal.TheVariants.{Limit}
 use Rattle.xtalk_top.specs.declared.refusal.Stop.{Stop}
 use Rattle.xtalk_top.specs.declared.refusal.Stop.TheVariants.{Refused, Unread, NoMemory}
 use Rattle.xtalk_top.specs.declared.refusal.Failure.TheVariants.{NoText}
 use Rattle.command_line.proofs.Rising.{HasRising, job_rises}
 use Rattle.xtalk_top.proofs.Given.{counted_sound}
 use Rattle.xtalk_top.proofs.Within.{within_or_passed}
+use Rattle.xtalk_top.proofs.OnePassed.{one_passed}
 use Rattle.command_line.proofs.Counts.{job_counts}
 use Rattle.text_lines.specs.Lines.{text_of}
 use Rattle.linked_text.specs.Linked.{linked}
 pub use Rattle.xtalk_top.proofs.Agreeing.{Agree, LeavesOne, agree_as, unread_agrees, one_of_file}
 use Rattle.xtalk_top.proofs.OneBlock.{one_of_block}
 
-one_of_solved : (IsText : Text → Type 0) (d : Parts) → IsSound d → LeavesOne (SolvedMeans IsText d)
-one_of_solved IsText d s o p (inl a) (inl b) = agree_as o p _ _ a.2 b.2 refl
-one_of_solved IsText d s o p (inl a) (inr b) = absurd (within_or_passed d a.0 s b.0 a.1)
-one_of_solved IsText d s o p (inr a) (inl b) = absurd (within_or_passed d b.0 s a.0 b.1)
-one_of_solved IsText d s o p (inr a) (inr b) = agree_as o p _ _ a.3 b.3 tt
+one_of_solved : (IsText : Text → Type 0) (d : Parts) → ((a b : Text) → IsText a → IsText b → a ≡ b) → IsSound d → LeavesOne (SolvedMeans IsText d)
+one_of_solved IsText d one s o p (inl a) (inl b) = agree_as o p _ _ a.2 b.2 (ap (λ l. Design (Limit l)) (one_passed d a.0 b.0 s a.1 b.1))
+one_of_solved IsText d one s o p (inl a) (inr b) = absurd (within_or_passed d a.0 s b.0 a.1)
+one_of_solved IsText d one s o p (inr a) (inl b) = absurd (within_or_passed d b.0 s a.0 b.1)
+one_of_solved IsText d one s o p (inr a) (inr b) = agree_as o p _ _ a.3 b.3 (one a.1 b.1 a.2 b.2)
 
 pub one_of_design : (kind : ReportKind) (d : Parts) → IsSound d → LeavesOne (DesignMeans kind d)
-one_of_design kind d s = one_of_solved (IsSolution kind d) d s
+one_of_design kind d s = one_of_solved (IsSolution kind d) d (λ a b x y. one_report kind d a b x.report y.report) s
 
 -- a text is of one design
 pub one_design : (bytes : Text) (d e : Parts) → IsDesignText bytes d → IsDesignText bytes e → d ≡ e
@@ -69,7 +72,9 @@ one_of_text file miller kind content rising known =
     one_of_linked file bytes (λ d. DesignMeans kind (counted_by miller d)) (λ d t. one_of_design kind (counted_by miller d) (counted_sound miller d rising t.sound)))
 
 pub one_of_gen : (job : GenJob) → IsCount job.nets → LeavesOne (GenMeans job)
-one_of_gen job count = one_of_solved (IsSummed (generated job.number job.nets)) (generated job.number job.nets) (sound job.number job.nets count)
+one_of_gen job count =
+    let d = generated job.number job.nets in
+    one_of_solved (IsSummed d) d (λ a b x y. one_summary d a b x.summary y.summary) (sound job.number job.nets count)
 
 pub one_outcome : (words : List Text) (content : Contents) → AreKnown words content → LeavesOne (Means words content)
 one_outcome words content known = go (job_of words) (job_rises words) (job_counts words) known
@@ -84,14 +89,14 @@ one_outcome words content known = go (job_of words) (job_rises words) (job_count
     go (Some (Report job)) rising counts known o p a b =
         one_of_block job.files content (λ d. DesignMeans job.kind (counted_by job.miller d)) known (λ d s. one_of_design job.kind (counted_by job.miller d) (counted_sound job.miller d rising s)) o p a b
     go (Some (Link job)) rising counts known o p a b =
-        one_of_block job.files content (λ d o. o ≡ prints (text_of (linked (counted_by job.miller d)))) known (λ d s o p a b. agree_as o p _ _ a b tt) o p a b
+        one_of_block job.files content (λ d o. o ≡ prints (text_of (linked (counted_by job.miller d)))) known (λ d s o p a b. agree_as o p _ _ a b refl) o p a b
 
 -- ---- the status of a call without a text
 
 -- where a refusal is meant: its status, or that of want of memory or of a read fault
 pub refused : (Meant : Outcome → Type 0) (Fault : Text → Type 0) → LeavesOne Meant → (why : Refusal) (stop : Stop) (status : ℕ) → Meant (refuses why) → IsStop Meant Fault stop
     → status ≡ status_of (NoText stop) → (status ≡ status_of (NoText (Refused why))) ⊎ ((status ≡ 8) ⊎ ((status ≡ 6) × (file : Text) × Meant (unread file) × Fault file))
-refused Meant Fault one why (Refused other) status meant h e = inl (e ∙ one (refuses other) (refuses why) h meant)
+refused Meant Fault one why (Refused other) status meant h e = inl (e ∙ ap (λ r. status_of (NoText (Refused r))) (one (refuses other) (refuses why) h meant))
 refused Meant Fault one why (Unread file) status meant h e = inr (inr (e, file, h.0, h.1))
 refused Meant Fault one why NoMemory status meant h e = inr (inl e)
 
@@ -105,3 +110,28 @@ pub completed : (Meant : Outcome → Type 0) (Fault : Text → Type 0) (stop : S
 completed Meant Fault (Refused why) status accepted calm h e = absurd (accepted why h)
 completed Meant Fault (Unread file) status accepted calm h e = absurd (calm file h.0 h.1)
 completed Meant Fault NoMemory status accepted calm h e = inr e
+
+-- ---- the outcome that came is the only one
+
+module _ (Meant : Outcome → Type 0) (one : LeavesOne Meant) (status : ℕ) (IsWritten IsLine : Text → Type 0) where
+  -- where a text is meant and was written, each outcome that is meant is shown
+  pub text_is_only : (text : Text) → Meant (prints text) → status ≡ 0 → IsWritten text
+      → (outcome : Outcome) → Meant outcome → ((file : Text) → outcome ≢ unread file) → Shows status IsWritten IsLine outcome
+  text_is_only text t zero written (prints other) meant told = (zero, subst IsWritten (one (prints text) (prints other) t meant) written)
+  text_is_only text t zero written (refuses why) meant told = absurd (one (prints text) (refuses why) t meant)
+  text_is_only text t zero written (unread file) meant told = absurd (told file refl)
+
+  -- so it is where a refusal is meant and its line was written
+  refusal_is_only : (why : Refusal) → Meant (refuses why) → status ≡ status_of (NoText (Refused why)) → IsLine (line_of (NoText (Refused why)))
+      → (outcome : Outcome) → Meant outcome → ((file : Text) → outcome ≢ unread file) → Shows status IsWritten IsLine outcome
+  refusal_is_only why r is line (prints text) meant told = absurd (one (refuses why) (prints text) r meant)
+  refusal_is_only why r is line (refuses other) meant told =
+      let P : Refusal → Type 0 = λ w. (status ≡ status_of (NoText (Refused w))) × IsLine (line_of (NoText (Refused w))) in
+      subst P (one (refuses why) (refuses other) r meant) (is, line)
+  refusal_is_only why r is line (unread file) meant told = absurd (told file refl)
+
+  pub stop_is_only : (Fault : Text → Type 0) (stop : Stop) → IsStop Meant Fault stop → status ≡ status_of (NoText stop) → IsLine (line_of (NoText stop))
+      → HadNoFault status → (outcome : Outcome) → Meant outcome → ((file : Text) → outcome ≢ unread file) → Shows status IsWritten IsLine outcome
+  stop_is_only Fault (Refused why) h is line calm = refusal_is_only why h is line
+  stop_is_only Fault (Unread file) h is line calm = absurd (calm.0 is)
+  stop_is_only Fault NoMemory h is line calm = absurd (calm.2 is)

@@ -4,7 +4,9 @@ mod Blocks
 mod LinkedFaults
 mod Pieces
 mod Within
+mod OnePassed
 mod Lifts
 mod Agreement
 mod Given
 mod Openings
+mod Calls

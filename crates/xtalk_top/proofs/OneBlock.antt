@@ -1,34 +1,45 @@
 -- Where the contents of the files are known, the files of a block lead to one outcome.
-use Rattle.std.proofs.Common.{◌≡◌, ◌≤◌, length, Result, Ok, Err, IfSome, refl, subst, inl, inr}
+use Rattle.std.proofs.Common.{◌≡◌, ◌≤◌, ℕ, length, Option, Result, Ok, Err, IfSome, ap, refl, subst, inl, inr}
 use Rattle.std.specs.Prelude.{IsSome}
+use Rattle.xt_model.specs.declared.fault.LimitKind.{LimitKind}
 use Rattle.xt_model.specs.Parts.{Parts}
 use Rattle.xt_model.specs.Sound.{IsSound}
+use Rattle.link_rules.specs.declared.fault.LinkRefusal.{LinkRefusal}
 use Rattle.link_rules.specs.Bare.{Inputs}
 use Rattle.link_rules.proofs.OneOutcome.{design_is_one, fault_is_one, linked_is_accepted}
 use Rattle.command_line.specs.Words.{Text}
 use Rattle.xtalk_top.specs.Outcome.{Contents, Outcome, unread, most_bytes}
 use Rattle.xtalk_top.specs.Linking.{BlockMeans, FileAndText, HoldsText, LinkingMeans, SourceMeans, constraints_in, fault_of, library_in, netlist_in, parasitics_in}
-use Rattle.xtalk_top.specs.Call.{status_of}
 use Rattle.command_line.specs.declared.words.BlockFiles.{BlockFiles}
 use Rattle.xtalk_top.specs.declared.refusal.TextRefusal.{TextRefusal}
 use Rattle.xtalk_top.specs.declared.refusal.Unlinked.{Unlinked}
 use Rattle.xtalk_top.specs.declared.refusal.Unlinked.TheVariants as unlinked
 use Rattle.xtalk_top.specs.declared.refusal.Refusal.TheVariants.{Linking}
-use Rattle.xtalk_top.specs.declared.refusal.Stop.TheVariants.{Refused}
-use Rattle.xtalk_top.specs.declared.refusal.Failure.TheVariants.{NoText}
+use Rattle.xtalk_top.specs.declared.refusal.PassedLimit.{PassedLimit}
 use Rattle.xtalk_top.proofs.Agreeing.{LeavesOne, agree_as, one_of_file_at}
 use Rattle.xtalk_top.proofs.Blocks.{text_leads}
 
--- refusals of linking that are one fault have one status
-same_status : (v w : Unlinked) → fault_of v ≡ fault_of w → status_of (NoText (Refused (Linking v))) ≡ status_of (NoText (Refused (Linking w)))
-same_status (unlinked.Refused a) (unlinked.Refused b) e = refl
-same_status (unlinked.Refused a) (unlinked.Beyond limit) e = absurd cc
-same_status (unlinked.Beyond limit) (unlinked.Refused b) e = absurd cc
-same_status (unlinked.Beyond limit) (unlinked.Beyond other) e = refl
+-- limits of what is counted that have one name and one value are one
+same_limit : (l m : PassedLimit LimitKind ℕ) → l.what ≡ m.what → l.name ≡ m.name → l.value ≡ m.value → l ≡ m
+same_limit l m a b c =
+    let made : LimitKind → Option Text → ℕ → PassedLimit LimitKind ℕ = λ what name value. record { what = what; name = name; value = value } in
+    let e : made l.what l.name l.value ≡ made m.what m.name m.value = rw (a, b, c) refl in
+    e
+
+-- refusals of linking that are one fault are one
+same_refusal : (v w : Unlinked) → fault_of v ≡ fault_of w → v ≡ w
+same_refusal (unlinked.Refused a) (unlinked.Refused b) e = let is : a ≡ b = cc in ap (λ (r : LinkRefusal). unlinked.Refused r) is
+same_refusal (unlinked.Refused a) (unlinked.Beyond limit) e = absurd cc
+same_refusal (unlinked.Beyond limit) (unlinked.Refused b) e = absurd cc
+same_refusal (unlinked.Beyond limit) (unlinked.Beyond other) e =
+    let what : limit.what ≡ other.what = cc in
+    let name : limit.name ≡ other.name = cc in
+    let value : limit.value ≡ other.value = cc in
+    ap (λ (l : PassedLimit LimitKind ℕ). unlinked.Beyond l) (same_limit limit other what name value)
 
 -- linking has one outcome: its first fault, or else the one design
 one_of_linking : (x : Inputs) (Leads : Parts → Outcome → Type 0) → ((d : Parts) → IsSound d → LeavesOne (Leads d)) → LeavesOne (λ o. LinkingMeans x (λ d. Leads d o) o)
-one_of_linking x Leads one o p (inl a) (inl b) = agree_as o p _ _ a.2 b.2 (same_status a.0 b.0 (fault_is_one x (fault_of a.0) (fault_of b.0) a.1 b.1))
+one_of_linking x Leads one o p (inl a) (inl b) = agree_as o p _ _ a.2 b.2 (ap Linking (same_refusal a.0 b.0 (fault_is_one x (fault_of a.0) (fault_of b.0) a.1 b.1)))
 one_of_linking x Leads one o p (inl a) (inr b) = absurd (linked_is_accepted x (fault_of a.0) b.0 a.1 b.1)
 one_of_linking x Leads one o p (inr a) (inl b) = absurd (linked_is_accepted x (fault_of b.0) a.0 b.1 a.1)
 one_of_linking x Leads one o p (inr a) (inr b) = one a.0 a.2 o p a.3 (subst (λ d. Leads d p) (design_is_one x b.0 a.0 b.1 a.1) b.3)

@@ -98,6 +98,17 @@ pub record WritesLine (before after : Option Text) (faults_before faults_after :
   pub prefix : after ≡ appended before (take count line)
   pub whole : (count ≡ length line) ⊎ Rose faults_before faults_after
 
+-- neither a file (6) nor the output (7) had a fault, and memory was found (8)
+abbrev pub HadNoFault : ℕ → Type 0
+HadNoFault status = (status ≢ 6) × (status ≢ 7) × (status ≢ 8)
+
+-- a call with this status shows an outcome: its text was written; or it has the status and the line of the refusal
+abbrev pub Shows : ℕ → (Text → Type 0) → (Text → Type 0) → Outcome → Type 0
+Shows status IsWritten IsLine (prints text) = (status ≡ 0) × IsWritten text
+Shows status IsWritten IsLine (refuses why) =
+    (status ≡ status_of (NoText (Refused why))) × IsLine (line_of (NoText (Refused why)))
+Shows status IsWritten IsLine (unread file) = ⊥
+
 -- ---- what a step answers, and what the whole call does
 
 -- why a step has no value, by what its words and files mean; a count of faults changed only where a file could not be
@@ -135,3 +146,7 @@ pub record IsCall {O E : Type 0} (texts : O → Option Text) (text_faults : O �
   pub complete : ((why : Refusal) → Meant (refuses why) → ⊥)
       → ((file : Text) → Meant (unread file) → HasFault before after file → ⊥)
       → (Rose (text_faults out) (text_faults new_out) → ⊥) → (status ≡ 0) ⊎ (status ≡ 8)
+  -- no other text and no other refusal is meant than the one that came
+  pub only : Known → HadNoFault status → (outcome : Outcome) → Meant outcome → ((file : Text) → outcome ≢ unread file)
+      → Shows status (λ text. texts new_out ≡ appended (texts out) text)
+      (WritesLine (lines err) (lines new_err) (line_faults err) (line_faults new_err)) outcome

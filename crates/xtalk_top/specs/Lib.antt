@@ -8,3 +8,4 @@ pub mod Gen
 pub mod FailureWords
 pub mod Opened
 pub mod Call
+pub mod Laws

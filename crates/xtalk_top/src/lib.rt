@@ -6,6 +6,7 @@ mod counted;
 mod design_report;
 mod generated;
 mod input;
+mod laws;
 mod link;
 mod refusal;
 mod refuse;
@@ -21,4 +22,5 @@ pub use command_line::{
     BlockFiles, FileName, GenJob, Job, LinkJob, ReplayJob, ReportJob, SolveJob, WordsFault,
     parse_words,
 };
+pub use laws::{calls_agree, one_outcome_is_meant, workers_change_nothing};
 pub use top::{xtalk, xtalk_gated};

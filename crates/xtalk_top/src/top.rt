@@ -1,9 +1,9 @@
 ghost use Rattle.std.specs.Prelude.{◌≡◌, ◌≢◌, ◌⊎◌};
 ghost use Rattle.xt_io.specs.Outside.{Rose, KeepsCounts, appended};
 ghost use Rattle.command_line.specs.Words.{Text, HasCount, bytes_of, job_of};
-ghost use Rattle.xtalk_top.specs.Outcome.{prints, refuses, unread};
+ghost use Rattle.xtalk_top.specs.Outcome.{Outcome, prints, refuses, unread};
 ghost use Rattle.xtalk_top.specs.Call.{JobMeans, Means, AreKnown, Answers, IsCall, IsFailure, HasFault, IsCutOff};
-ghost use Rattle.xtalk_top.specs.Call.{WritesLine, line_of, status_of};
+ghost use Rattle.xtalk_top.specs.Call.{HadNoFault, Shows, WritesLine, line_of, status_of};
 ghost use Rattle.xtalk_top.specs.Opened.{HasValue, OpensFirst, files_named, files_of};
 ghost use Rattle.xtalk_top.specs.declared.refusal.Refusal.{Refusal};
 ghost use Rattle.xtalk_top.specs.declared.refusal.Failure.{Failure};
@@ -63,6 +63,13 @@ pub fn xtalk<R: Threads + Sync, F: Files, O: Sink, E: Sink>(
         → ((file : Text) → Means (bytes_of words.now) (F.content files.old) (unread file)
         → HasFault (F.faults files.old) (F.faults files.new) file → ⊥)
         → (Rose (O.faults out.old) (O.faults out.new) → ⊥) → (result ≡ 0) ⊎ (result ≡ 8) }
+
+    // Where the contents are known, no other text and no other refusal is meant than the one that came.
+    ensures only { AreKnown (bytes_of words.now) (F.content files.old) → HadNoFault result
+        → (outcome : Outcome) → Means (bytes_of words.now) (F.content files.old) outcome
+        → ((file : Text) → outcome ≢ unread file)
+        → Shows result (λ text. O.written out.new ≡ appended (O.written out.old) text)
+        (WritesLine (E.written err.old) (E.written err.new) (E.faults err.old) (E.faults err.new)) outcome }
 
     // A first part of the files that the words name was opened, each once, in their order; all of them for 0.
     ensures opened { OpensFirst (files_named (job_of (bytes_of words.now))) (result ≡ 0)

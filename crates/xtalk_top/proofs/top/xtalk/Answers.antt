@@ -17,3 +17,6 @@ returns-clause-complete g c = c.xtalk_gated.ensures.call.complete
 
 pub returns-clause-opened : goal.returns-clause-opened
 returns-clause-opened g c = c.xtalk_gated.ensures.opened
+
+pub returns-clause-only : goal.returns-clause-only
+returns-clause-only g c = c.xtalk_gated.ensures.call.only

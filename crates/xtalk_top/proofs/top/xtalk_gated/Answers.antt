@@ -1,5 +1,5 @@
 use Rattle.std.proofs.Common.{◌≡◌, ◌≢◌, ◌⊎◌, ◌∙◌, ℕ, zero, suc, inl, refl, arith}
-use Rattle.xt_io.specs.Outside.{Rose}
+use Rattle.xt_io.specs.Outside.{Rose, appended}
 use Rattle.xtalk_top.specs.declared.refusal.Refusal.TheVariants.{Words, File, Linking, Design}
 use Rattle.xtalk_top.specs.declared.refusal.Unlinked.TheVariants as unlinked
 use Rattle.xtalk_top.specs.declared.refusal.DesignRefusal.TheVariants.{Limit}
@@ -9,8 +9,8 @@ use Rattle.xtalk_top.specs.declared.refusal.Stop.{Stop}
 use Rattle.xtalk_top.specs.declared.refusal.Stop.TheVariants.{Refused, Unread, NoMemory}
 use Rattle.xtalk_top.specs.declared.refusal.Failure.TheVariants.{NoText, Unwritten}
 use Rattle.command_line.specs.Words.{bytes_of}
-use Rattle.xtalk_top.specs.Call.{Means, HasFault, status_of}
-use Rattle.xtalk_top.proofs.Agreement.{one_outcome, refused, not_both, completed}
+use Rattle.xtalk_top.specs.Call.{Means, HadNoFault, HasFault, WritesLine, status_of}
+use Rattle.xtalk_top.proofs.Agreement.{one_outcome, refused, not_both, completed, text_is_only, stop_is_only}
 use Rattle.command_line.specs.Words.{job_of}
 use Rattle.xtalk_top.specs.Opened.{files_named}
 use Rattle.xtalk_top.proofs.Openings.{opens_same}
@@ -25,6 +25,11 @@ unless_seven (suc n) P whole cut_off other = absurd (other (cut_off (λ e. omega
 zero_or_eight : (status : ℕ) (Fault : Type 0) → (status ≢ 0 → Fault) → (Fault → ⊥) → (status ≡ 0) ⊎ (status ≡ 8)
 zero_or_eight zero Fault cut_off quiet = inl refl
 zero_or_eight (suc n) Fault cut_off quiet = absurd (quiet (cut_off (λ e. omega (arith, e))))
+
+-- a status of 0, where no fault came
+zero_if_calm : (status : ℕ) → (status ≢ 0 → status ≡ 7) → HadNoFault status → status ≡ 0
+zero_if_calm zero cut_off calm = refl
+zero_if_calm (suc n) cut_off calm = absurd (calm.1 (cut_off (λ e. omega (arith, e))))
 
 -- no call without a text has the status 0
 not_zero : (stop : Stop) (status : ℕ) → status ≡ status_of (NoText stop) → status ≡ 0 → ⊥
@@ -60,6 +65,13 @@ returns-in-Ok-clause-call g c =
       complete = λ accepted calm quiet.
           zero_or_eight c.write_text.result (Rose (g.O.Sink.faults c.args.out.now) (g.O.Sink.faults c.write_text.new.out))
           (λ bad. (c.write_text.ensures.cut_off bad).1.1) quiet;
+      only = λ known calm.
+          let zero = zero_if_calm c.write_text.result (λ bad. (c.write_text.ensures.cut_off bad).0) calm in
+          let written = c.write_text.ensures.whole zero in
+          text_is_only (Means words content) (one_outcome words content known) c.write_text.result
+          (λ x. g.O.Sink.written c.write_text.new.out ≡ appended (g.O.Sink.written c.args.out.now) x)
+          (WritesLine (g.E.Sink.written c.args.err.now) (g.E.Sink.written c.write_text.new.err) (g.E.Sink.faults c.args.err.now) (g.E.Sink.faults c.write_text.new.err))
+          text c.in-Ok.ensures.means.0 zero (rw c.deref.ensures.value at written.0);
     }
 
 pub returns-in-Err-clause-call : goal.returns-in-Err-clause-call
@@ -76,6 +88,11 @@ returns-in-Err-clause-call g c =
       refused = λ why meant known.
           refused (Means words content) Fault (one_outcome words content known) why stop c.refuse.result meant c.in-Err.ensures.means.0 status;
       complete = λ accepted calm quiet. completed (Means words content) Fault stop c.refuse.result accepted calm c.in-Err.ensures.means.0 status;
+      only = λ known.
+          stop_is_only (Means words content) (one_outcome words content known) c.refuse.result
+          (λ text. g.O.Sink.written c.args.out.now ≡ appended (g.O.Sink.written c.args.out.now) text)
+          (WritesLine (g.E.Sink.written c.args.err.now) (g.E.Sink.written c.refuse.new.err) (g.E.Sink.faults c.args.err.now) (g.E.Sink.faults c.refuse.new.err))
+          Fault stop c.in-Err.ensures.means.0 status c.refuse.ensures.line;
     }
 
 pub returns-in-Ok-clause-opened : goal.returns-in-Ok-clause-opened
