@@ -1,7 +1,8 @@
 //! The arcs into nets and the check points of instances.
 
-ghost use Rattle.std.specs.Prelude.{◌≡◌, ◌<◌, ◌≤◌, ◌++◌, [], ◌∷◌, List, length, Some, IsSome, IfSome, IfOk, OnOk};
-ghost use Rattle.std.specs.List.{All};
+ghost use Rattle.std.specs.Prelude.{◌≡◌, ℕ, ◌<◌, ◌≤◌, ◌⊎◌, ◌++◌, [], ◌∷◌, List, length, Some, IsSome, IfSome, IfOk, OnOk};
+ghost use Rattle.std.specs.List.{All, slice_get};
+ghost use Rattle.std.specs.Option.{IsSomeAnd};
 ghost use Rattle.link_rules.specs.Bits.{bits};
 ghost use Rattle.link_rules.specs.Pins.{Connected, pins as pins_of};
 ghost use Rattle.link_rules.specs.Sound.{IsSoundNetlist};
@@ -44,9 +45,11 @@ pub fn same_instance(pins: &[PinOn], from: usize) -> usize
     to
 }
 
-/// The most pins that a cell has.
+/// The most pins that a cell has, 0 where there is no cell.
 pub fn most_pins<'a>(cells: &CellIndex<'a>) -> usize
-    ensures { All (λ c. length c.pins ≤ result) cells.now.cells }
+    ensures most { All (λ c. length c.pins ≤ result) cells.now.cells }
+    ensures one { (result ≡ 0)
+        ⊎ ((number : ℕ) × IsSomeAnd (slice_get cells.now.cells number) (λ c. length c.pins ≡ result)) }
 {
     let mut most = 0;
     for cell in cells.library().cells.as_slice() {
