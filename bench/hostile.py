@@ -153,6 +153,31 @@ def related_names_that_are_no_pins(size):
     return block(lib=LIB + cell + "}\n", net=net)
 
 
+TABLES = """timing_sense : positive_unate; cell_rise (scalar) { values ("0.1"); } cell_fall (scalar) { values ("0.1"); }
+rise_transition (scalar) { values ("0.1"); } fall_transition (scalar) { values ("0.1"); }"""
+
+
+def related(size, names, pins, connections):
+    """Instances of a cell with these pins, whose output has arcs from related pins of these names."""
+    cell = f"cell (C) {{ {pins} pin (Y) {{ direction : output; timing () {{ related_pin : \"{names}\"; {TABLES} }} }} }}\n"
+    count = min(size // 2 // 30, 262144)
+    net = "module m; wire a; " + "".join(f"C i{i:x}({connections}.Y(y{i:x}));" for i in range(count)) + " endmodule\n"
+    return block(lib=LIB + cell + "}\n", net=net)
+
+
+def related_pin_named_often(size):
+    return related(size, "A " * (size // 4), "pin (A) { direction : input; }", ".A(a),")
+
+
+def related_pins_on_no_net(size):
+    return related(size, "A " + "B D " * (size // 8), "pin (A, B, D) { direction : input; }", ".A(a),")
+
+
+def related_pins_of_a_wide_cell(size):
+    names = [f"p{i:x}" for i in range(size // 28)]
+    return related(size, " ".join(names), f"pin ({', '.join(names)}) {{ direction : input; }}", "")
+
+
 def groups_in_groups(size):
     return block(lib=LIB + many(size, lambda i: "g(){" * 60 + "}" * 60) + "}\n")
 
@@ -195,7 +220,8 @@ TEXTS = [
     bus_named_often, two_buses_in_turn, all_inputs_often, bits_one_by_one, commands_for_bits, clock_among_its_bus, many_ports,
     long_cell_name, wide_buses, many_wires, many_pins, one_long_comment,
     long_mapped_name, long_mapped_couplings, one_name_in_two_ways, many_mapped_names, many_nodes, many_empty_nets,
-    related_names_that_are_no_pins, groups_in_groups, groups_side_by_side, many_attributes, many_cells, many_values,
+    related_names_that_are_no_pins, related_pin_named_often, related_pins_on_no_net, related_pins_of_a_wide_cell,
+    groups_in_groups, groups_side_by_side, many_attributes, many_cells, many_values,
     nets_of_nothing, long_names,
 ]  # fmt: skip
 

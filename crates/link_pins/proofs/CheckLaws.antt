@@ -1,9 +1,7 @@
--- The check points of an input pin, one timing group and one related pin after another.
-use Rattle.std.proofs.Common.{◌≡◌, ℕ, ◌+◌, ◌<◌, ◌≤◌, Bool, true, false, cond, List, [], ◌∷◌, ◌++◌, length, take, get_or, Some, refl, ap, sym, ◌∙◌}
+-- The check points of an input pin.
+use Rattle.std.proofs.Common.{◌≡◌, Bool, true, false, cond, List, [], ◌∷◌, ◌++◌, Some, refl, ap, ◌∙◌}
 use Rattle.std.specs.Prelude.{Option, None, filter_map, flat_map, option_map, option_and_then}
 use Rattle.std.specs.List.{cons_option}
-use Rattle.std.specs.Option.{option_to_list}
-use Rattle.std.proofs.lemmas.List.{append-nil, take_all}
 use Rattle.std.proofs.lemmas.List.Concat.{flat_map-cons}
 use Rattle.name_numbers.specs.Names.{Text}
 use Rattle.xt_model.specs.declared.check.CheckPoint.{CheckPoint}
@@ -16,9 +14,9 @@ use Rattle.link_rules.specs.Checks.{side_of, flop_check, group_checks, pin_check
 use Rattle.link_rules.specs.Ends.{sink_name}
 use Rattle.link_rules.specs.Pins.{Connected, end_of, is_input}
 use Rattle.link_pins.specs.declared.arcs.SinkAt.{SinkAt}
-use Rattle.link_pins.specs.Places.{place_of, entered, AreEntered}
-use Rattle.link_pins.proofs.ArcLaws.{made_more}
-use Rattle.link_pins.proofs.TimingLaws.{flat_all}
+use Rattle.link_pins.specs.declared.related.RelatedPin.{RelatedPin}
+use Rattle.link_pins.specs.Places.{place_of}
+use Rattle.link_pins.specs.Related.{clock_of}
 
 module _ (library : Library) (netlist : Netlist) (c : Connected) where
   -- the point against a clock's sink
@@ -26,7 +24,7 @@ module _ (library : Library) (netlist : Netlist) (c : Connected) where
   point t hold datum clock =
       checks.Flop (sink_name (end_of c)) hold (record { 0 = datum.net }) datum.sink (record { 0 = clock.net }) clock.sink t.rise t.fall
 
-  flop_is : (t : Timing) (hold : Bool) (datum : SinkAt) (r : Option SinkAt) (related : Text) → sink_at library netlist c.instance c.pin.name ≡ Some (place_of datum)
+  pub flop_is : (t : Timing) (hold : Bool) (datum : SinkAt) (r : Option SinkAt) (related : Text) → sink_at library netlist c.instance c.pin.name ≡ Some (place_of datum)
       → sink_at library netlist c.instance related ≡ option_map place_of r → flop_check library netlist c t hold related ≡ option_map (point t hold datum) r
   flop_is t hold datum r related own clock =
       ap (option_and_then (λ (d : Place). option_and_then (λ (k : Place). Some (checks.Flop (sink_name (end_of c)) hold (record { 0 = d.0 }) d.1 (record { 0 = k.0 }) k.1 t.rise t.fall))
@@ -41,31 +39,9 @@ module _ (library : Library) (netlist : Netlist) (c : Connected) where
   abbrev pub by_group : Timing → List CheckPoint
   by_group t = group_checks library netlist c t (side_of t.kind)
 
-  -- a related pin more
-  pub one_clock : (t : Timing) (hold : Bool) (datum : SinkAt) (cell : ℕ) (at : List (Option SinkAt)) (r : Option SinkAt) (items : List Text) (i : ℕ) (name d : Text) (old cur new : List CheckPoint)
-      → sink_at library netlist c.instance c.pin.name ≡ Some (place_of datum) → AreEntered library netlist c.instance cell at → option_map place_of r ≡ entered library cell at name → name ≡ d
-      → d ≡ get_or items i d → i < length items → cur ≡ old ++ filter_map (flop_check library netlist c t hold) (take i items)
-      → new ≡ cur ++ option_to_list (option_map (point t hold datum) r) → new ≡ old ++ filter_map (flop_check library netlist c t hold) (take (i + 1) items)
-  one_clock t hold datum cell at r items i name d old cur new own are found named is lt so_far step =
-      let clock : sink_at library netlist c.instance (get_or items i d) ≡ option_map place_of r =
-      ap (sink_at library netlist c.instance) (sym is) ∙ (ap (sink_at library netlist c.instance) (sym named) ∙ sym (found ∙ are.each name)) in
-      made_more (flop_check library netlist c t hold) items i d old cur new lt so_far
-      (step ∙ ap (λ o. cur ++ option_to_list o) (sym (flop_is t hold datum r (get_or items i d) own clock)))
-
-  pub clocks_done : (t : Timing) (hold : Bool) (items : List Text) (i : ℕ) (old cur : List CheckPoint) → length items ≤ i → items ≡ t.related → side_of t.kind ≡ Some hold
-      → cur ≡ old ++ filter_map (flop_check library netlist c t hold) (take i items) → cur ≡ old ++ by_group t
-  clocks_done t hold items i old cur past same side so_far =
-      so_far ∙ (ap (λ l. old ++ filter_map (flop_check library netlist c t hold) l) (take_all i items past)
-      ∙ (ap (λ l. old ++ filter_map (flop_check library netlist c t hold) l) same ∙ ap (λ o. old ++ group_checks library netlist c t o) (sym side)))
-
-  pub no_side : (t : Timing) (old : List CheckPoint) → side_of t.kind ≡ None → old ≡ old ++ by_group t
-  no_side t old side = sym (append-nil old) ∙ ap (λ o. old ++ group_checks library netlist c t o) (sym side)
-
-  pub groups_done : (items : List Timing) (i : ℕ) (old cur : List CheckPoint) → length items ≤ i → items ≡ c.pin.timings → is_input c.pin.role ≡ true
-      → cur ≡ old ++ flat_map by_group (take i items) → cur ≡ old ++ pin_checks library netlist c
-  groups_done items i old cur past same input so_far =
-      flat_all by_group items c.pin.timings i old cur past same so_far
-      ∙ ap (λ b. old ++ cond b (flat_map by_group c.pin.timings) []) (sym input)
+  -- the point against a related pin
+  abbrev pub check_of : SinkAt → List (Option SinkAt) → RelatedPin → Option CheckPoint
+  check_of datum at r = option_map (λ k. point r.timing.now k.0 datum k.1) (clock_of at r)
 
   -- a pin that is no sink has none
   no_flops : (t : Timing) (hold : Bool) → sink_at library netlist c.instance c.pin.name ≡ None → (items : List Text) → filter_map (flop_check library netlist c t hold) items ≡ []

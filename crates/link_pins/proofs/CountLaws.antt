@@ -1,31 +1,27 @@
 -- The numbers of arcs and check points of a pin, one timing group and one related pin after another.
-use Rattle.std.proofs.Common.{◌≡◌, ℕ, suc, ◌+◌, ◌*◌, ◌<◌, ◌≤◌, Bool, true, false, cond, List, [], ◌∷◌, ◌++◌, length, take, get_or, Some, refl, ap, sym, ◌∙◌, arith, length-append}
-use Rattle.std.specs.Prelude.{Option, None, is_some, filter_map, flat_map, option_and_then, option_map}
+use Rattle.std.proofs.Common.{◌≡◌, ℕ, suc, ◌+◌, ◌<◌, ◌≤◌, Bool, true, false, cond, List, [], ◌∷◌, ◌++◌, length, take, get_or, Some, refl, ap, ◌∙◌, arith, length-append}
+use Rattle.std.specs.Prelude.{Option, None, is_some, filter_map, flat_map, option_map}
 use Rattle.std.specs.List.{cons_option}
 use Rattle.std.specs.Option.{option_to_list}
-use Rattle.std.proofs.Math.Nat.{suc-mul}
 use Rattle.std.proofs.lemmas.List.{append-nil}
 use Rattle.std.proofs.lemmas.List.Sums.{sum_by_push}
 use Rattle.std.proofs.lemmas.List.Concat.{flat_map-cons}
 use Rattle.std.proofs.lemmas.Grind.{flat_map-append}
 use Rattle.xt_model.specs.Options.{◌>>=◌}
-use Rattle.name_numbers.specs.Names.{Text}
 use Rattle.xt_model.specs.declared.edge.Edge.{Edge}
 use Rattle.xt_model.specs.declared.net.TimingArc.{TimingArc}
-use Rattle.xt_model.specs.declared.check.CheckPoint.TheVariants as checks
 use Rattle.liberty_cells.specs.declared.library.Library.{Library}
 use Rattle.liberty_cells.specs.declared.timing.Timing.{Timing}
 use Rattle.verilog_net.specs.declared.netlist.Netlist.{Netlist}
-use Rattle.link_rules.specs.Arcs.{Place, sink_at, tables_at, arc_by, arcs_from}
-use Rattle.link_rules.specs.Checks.{flop_check, group_checks, pin_checks}
-use Rattle.link_rules.specs.Ends.{sink_name}
-use Rattle.link_rules.specs.Pins.{Connected, end_of}
+use Rattle.link_rules.specs.Arcs.{Place, tables_at, arc_by, arcs_from}
+use Rattle.link_rules.specs.Checks.{pin_checks}
+use Rattle.link_rules.specs.Pins.{Connected}
 use Rattle.link_pins.specs.declared.arcs.SinkAt.{SinkAt}
 use Rattle.link_pins.specs.declared.counts.Counts.{Counts}
 use Rattle.link_pins.specs.Joined.{arc_count, AreCounted}
-use Rattle.link_pins.specs.Places.{place_of, entered, AreEntered}
+use Rattle.link_pins.specs.Places.{place_of}
 use Rattle.link_pins.proofs.ArcLaws.{made_more}
-use Rattle.link_pins.proofs.TimingLaws.{flat_more, related_arcs, timing_arcs}
+use Rattle.link_pins.proofs.TimingLaws.{flat_more}
 
 -- ---- items one after another
 one_or_none : {Y : Type 0} (o : Option Y) → length (option_to_list o) ≡ cond (is_some o) 1 0
@@ -50,7 +46,7 @@ flat_counted {X} {Y} f xs i d m new lt so_far step =
     omega (arith, step, so_far, ap length whole, length-append cur (f (get_or xs i d)))
 
 -- where two make something of the same items, they make as many
-same_count : {X Y Z : Type 0} (f : X → Option Y) (g : X → Option Z) → ((x : X) → is_some (f x) ≡ is_some (g x)) → (xs : List X)
+pub same_count : {X Y Z : Type 0} (f : X → Option Y) (g : X → Option Z) → ((x : X) → is_some (f x) ≡ is_some (g x)) → (xs : List X)
     → length (filter_map f xs) ≡ length (filter_map g xs)
 same_count f g same [] = refl
 same_count {X} {Y} {Z} f g same (x ∷ xs) = by (f x) (g x) (same x) (same_count f g same xs)
@@ -75,10 +71,6 @@ pub one_most : (b : Bool) → cond b 1 0 ≤ 1
 one_most true = omega arith
 one_most false = omega arith
 
-pub map_some : (o : Option SinkAt) → is_some (option_map place_of o) ≡ is_some o
-map_some None = refl
-map_some (Some s) = refl
-
 -- ---- the arcs of a timing group
 pub arc_some : (t : Timing) (at : Place) (pair : Edge × Edge) → is_some (arc_by t at pair) ≡ is_some (tables_at t pair.1)
 arc_some t at pair = by (tables_at t pair.1)
@@ -94,43 +86,15 @@ arc_some t at pair = by (tables_at t pair.1)
     by None = refl
     by (Some x) = refl
 
-module _ (library : Library) (netlist : Netlist) (instance cell : ℕ) (at : List (Option SinkAt)) (are : AreEntered library netlist instance cell at) where
-  related_counted : (t : Timing) (each : ℕ) → ((p : Place) → each ≡ length (arcs_from t (Some p))) → (names : List Text)
-      → length (flat_map (related_arcs library netlist instance t) names) ≡ length (filter_map (entered library cell at) names) * each
-  related_counted t each is [] = omega arith
-  related_counted t each is (x ∷ xs) =
-      let rest = related_counted t each is xs in
-      let first : length (flat_map (related_arcs library netlist instance t) (x ∷ xs)) ≡ length (related_arcs library netlist instance t x) + length (flat_map (related_arcs library netlist instance t) xs) =
-      ap length (flat_map-cons (related_arcs library netlist instance t) x xs) ∙ length-append (related_arcs library netlist instance t x) (flat_map (related_arcs library netlist instance t) xs) in
-      first ∙ (ap (λ n. length (related_arcs library netlist instance t x) + n) rest
-      ∙ (ap (λ o. length (arcs_from t o) + length (filter_map (entered library cell at) xs) * each) (sym (are.each x)) ∙ by (entered library cell at x) (length (filter_map (entered library cell at) xs)) refl))
-    where
-      by : (o : Option Place) (n : ℕ) → n ≡ length (filter_map (entered library cell at) xs)
-          → length (arcs_from t o) + length (filter_map (entered library cell at) xs) * each ≡ length (cons_option o (filter_map (entered library cell at) xs)) * each
-      by None n e = omega arith
-      by (Some p) n e = omega (arith, suc-mul (length (filter_map (entered library cell at) xs)) each, is p)
+-- how many arcs there are from a sink, and from none
+pub arcs_yes : (t : Timing) (o : Option SinkAt) (each : ℕ) → is_some o ≡ true → ((p : Place) → each ≡ length (arcs_from t (Some p)))
+    → each ≡ length (arcs_from t (option_map place_of o))
+arcs_yes t None each some is = absurd (cc)
+arcs_yes t (Some s) each some is = is (place_of s)
 
-  pub timing_counted : (t : Timing) (each : ℕ) → ((p : Place) → each ≡ length (arcs_from t (Some p)))
-      → length (timing_arcs library netlist instance t) ≡ length (filter_map (entered library cell at) t.related) * each
-  timing_counted t each is = related_counted t each is t.related
-
--- ---- the check points of a timing group
-module _ (library : Library) (netlist : Netlist) (c : Connected) (cell : ℕ) (at : List (Option SinkAt)) (are : AreEntered library netlist c.instance cell at)
-    (datum : Place) (own : sink_at library netlist c.instance c.pin.name ≡ Some datum) where
-  flop_some : (t : Timing) (hold : Bool) (related : Text) → is_some (flop_check library netlist c t hold related) ≡ is_some (entered library cell at related)
-  flop_some t hold related =
-      ap is_some (ap (option_and_then (λ (d : Place). option_and_then (λ (k : Place). Some (checks.Flop (sink_name (end_of c)) hold (record { 0 = d.0 }) d.1 (record { 0 = k.0 }) k.1 t.rise t.fall))
-      (sink_at library netlist c.instance related))) own
-      ∙ ap (option_and_then (λ (k : Place). Some (checks.Flop (sink_name (end_of c)) hold (record { 0 = datum.0 }) datum.1 (record { 0 = k.0 }) k.1 t.rise t.fall))) (sym (are.each related)))
-      ∙ by (entered library cell at related)
-    where
-      by : (o : Option Place) → is_some (option_and_then (λ (k : Place). Some (checks.Flop (sink_name (end_of c)) hold (record { 0 = datum.0 }) datum.1 (record { 0 = k.0 }) k.1 t.rise t.fall)) o) ≡ is_some o
-      by None = refl
-      by (Some k) = refl
-
-  pub group_counted : (t : Timing) (o : Option Bool) → length (group_checks library netlist c t o) ≡ cond (is_some o) (length (filter_map (entered library cell at) t.related)) 0
-  group_counted t None = refl
-  group_counted t (Some hold) = same_count (flop_check library netlist c t hold) (entered library cell at) (flop_some t hold) t.related
+pub arcs_no : (t : Timing) (o : Option SinkAt) → is_some o ≡ false → length (arcs_from t (option_map place_of o)) ≡ 0
+arcs_no t None none = refl
+arcs_no t (Some s) none = absurd (cc)
 
 -- ---- pins one after another
 module _ (library : Library) (netlist : Netlist) where

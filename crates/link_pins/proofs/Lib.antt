@@ -16,4 +16,6 @@ mod StretchLaws
 mod NetLaws
 mod MadeLaws
 mod CountLaws
+mod RelatedLaws
+mod KeptLaws
 mod SumLaws

@@ -73,7 +73,7 @@ two true true x y = refl
 two true false x y = absurd (false≢true y)
 two false b x y = absurd (false≢true x)
 
-same_number : (a b : ℕ) → (a == b) ≡ true → a ≡ b
+pub same_number : (a b : ℕ) → (a == b) ≡ true → a ≡ b
 same_number a b h = elim (cases_eq a b) [
   | inl same ↦ same
   | inr other ↦ absurd (false≢true (sym (ne_eqb a b other) ∙ h))

@@ -2,4 +2,5 @@ pub mod Answers
 pub mod Seen
 pub mod Rows
 pub mod Places
+pub mod Related
 pub mod Joined

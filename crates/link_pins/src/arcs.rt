@@ -1,15 +1,15 @@
 //! The timing arcs of output pins.
 
-ghost use Rattle.std.specs.Prelude.{◌≡◌, ◌<◌, ◌≤◌, ◌++◌, length, option_map, Some, IsSome, IfOk, OnOk};
-ghost use Rattle.std.specs.List.{All};
-ghost use Rattle.verilog_net.specs.declared.netlist.Netlist.{Netlist};
-ghost use Rattle.link_rules.specs.Arcs.{edge_pairs, tables_at, arcs_from, pin_arcs};
-ghost use Rattle.link_rules.specs.Pins.{Connected};
-ghost use Rattle.link_pins.specs.Places.{place_of, entered, with_pin, AreEntries, AreEntered, AreThose};
+ghost use Rattle.std.specs.Prelude.{◌≡◌, ◌<◌, ◌≤◌, ◌++◌, length, flat_map, option_map, Some, None, IsSome, IfOk, OnOk};
+ghost use Rattle.std.specs.List.{All, slice_index_or};
+ghost use Rattle.link_rules.specs.Arcs.{Place, edge_pairs, tables_at, arcs_from};
+ghost use Rattle.link_pins.specs.Places.{place_of, entered, with_pin, AreEntries, AreThose};
 ghost use Rattle.link_pins.specs.Places.{IsClear, HasRoom};
-ghost use Rattle.link_pins.specs.Seen.{pin_at, connected_at};
+ghost use Rattle.link_pins.specs.Related.{arcs_of};
+ghost use Rattle.link_pins.specs.Seen.{pin_at};
 
 use crate::pins::PinOn;
+use crate::related::RelatedPin;
 use liberty_cells::{Sense, Timing, TimingKind};
 use link_index::CellIndex;
 use std::alloc::{AllocError, Global};
@@ -129,6 +129,16 @@ impl Places {
         }
     }
 
+    /// The sink that the input pin at a place is.
+    pub fn sink(&self, pin: usize) -> Option<SinkAt>
+        ensures { result ≡ slice_index_or self.now.at.items pin None }
+    {
+        match self.at.get(pin) {
+            Some(sink) => *sink,
+            None => None,
+        }
+    }
+
     /// The sink that the input pin of this name in a cell is.
     pub fn find<'a>(&self, cells: &CellIndex<'a>, cell: usize, name: &'a [u8]) -> Option<SinkAt>
         requires cell { cell < length cells.now.cells }
@@ -140,6 +150,19 @@ impl Places {
             Some(pin) => self.at[pin],
         }
     }
+}
+
+/// How many arcs a timing group has from one sink.
+pub fn arcs_each(timing: &Timing) -> u128
+    ensures { (at : Place) → result ≡ length (arcs_from timing.now (Some at)) }
+{
+    let mut count = 0;
+    for (_, output) in edge_pairs(timing.kind, timing.sense) {
+        if tables_at(timing, *output).is_some() {
+            count += 1;
+        }
+    }
+    count
 }
 
 /// Adds the arcs of a timing group from a sink.
@@ -161,25 +184,17 @@ fn add_arcs(timing: &Timing, from: SinkAt, arcs: &mut Vec<TimingArc>) -> Result<
     Ok(())
 }
 
-/// Adds the arcs of an output pin: timing groups in order, related pins in order, pairs of edges in order.
+/// Adds the arcs from related pins in order, pairs of edges in order.
 pub fn add_pin_arcs<'a>(
-    cells: &CellIndex<'a>,
+    related: &[RelatedPin<'a>],
     places: &Places,
-    pin: PinOn,
     arcs: &mut Vec<TimingArc>,
 ) -> Result<(), AllocError>
-    requires there { IsSome (pin_at cells.now pin) }
-    requires room { HasRoom cells.now places.now.at.items }
-    ensures { OnOk result
-        ((netlist : Netlist) (c : Connected) → connected_at cells.now netlist pin ≡ Some c
-        → AreEntered cells.now netlist pin.instance pin.cell places.now.at.items
-        → arcs.new.items ≡ arcs.old.items ++ pin_arcs cells.now netlist c) }
+    ensures { OnOk result (arcs.new.items ≡ arcs.old.items ++ flat_map (arcs_of places.now.at.items) related.now) }
 {
-    for timing in pin.of(cells).timings() {
-        for related in timing.related.as_slice() {
-            if let Some(from) = places.find(cells, pin.cell, related.bytes()) {
-                add_arcs(timing, from, arcs)?;
-            }
+    for one in related {
+        if let Some(from) = places.sink(one.pin) {
+            add_arcs(one.timing, from, arcs)?;
         }
     }
     Ok(())

@@ -6,11 +6,13 @@ ghost use Rattle.sdc_read.specs.Ports.{port_at};
 ghost use Rattle.link_rules.specs.Checks.{side_of, pin_checks, side_check, set_checks};
 ghost use Rattle.link_rules.specs.Pins.{Connected};
 ghost use Rattle.link_pins.specs.Places.{AreEntered, HasRoom};
+ghost use Rattle.link_pins.specs.Related.{clock_of, AreKept};
 ghost use Rattle.link_pins.specs.Seen.{HasShortNames, connected_at};
 
-use crate::arcs::Places;
+use crate::arcs::{Places, SinkAt};
 use crate::bits::BitAt;
 use crate::pins::PinOn;
+use crate::related::{Related, RelatedPin};
 use crate::sinks::end_of;
 use liberty_cells::TimingKind;
 use link_index::{CellIndex, NetIndex};
@@ -29,17 +31,28 @@ pub fn side_of(kind: TimingKind) -> Option<bool>
     }
 }
 
-/// Adds the check points of an input pin: timing groups in order, related pins in order.
+/// Whether a check against a related pin is one of hold, and the sink that the pin is.
+fn clock_of(one: &RelatedPin<'_>, places: &Places) -> Option<(bool, SinkAt)>
+    ensures { result ≡ clock_of places.now.at.items one.now }
+{
+    let hold = side_of(one.timing.kind)?;
+    let clock = places.sink(one.pin)?;
+    Some((hold, clock))
+}
+
+/// Adds the check points of an input pin against its related pins in order.
 pub fn add_pin_checks<'a>(
     alloc: Global,
     cells: &CellIndex<'a>,
     nets: &NetIndex<'a>,
+    related: &Related<'a>,
     places: &Places,
     pin: PinOn,
     checks: &mut Vec<CheckPoint>,
 ) -> Result<(), AllocError>
     requires there { IsSome (connected_at cells.now nets.now pin) }
     requires short { IfSome (connected_at cells.now nets.now pin) HasShortNames }
+    requires related { AreKept cells.now related.now.cells.items }
     requires room { HasRoom cells.now places.now.at.items }
     ensures { OnOk result
         ((c : Connected) → connected_at cells.now nets.now pin ≡ Some c
@@ -53,22 +66,18 @@ pub fn add_pin_checks<'a>(
     let Some(datum) = places.find(cells, pin.cell, part.name().bytes()) else {
         return Ok(());
     };
-    for timing in part.timings() {
-        if let Some(hold) = side_of(timing.kind) {
-            for related in timing.related.as_slice() {
-                if let Some(clock) = places.find(cells, pin.cell, related.bytes()) {
-                    checks.push(CheckPoint::Flop {
-                        name: end_of(alloc, cells, nets, pin)?.into_name(),
-                        hold,
-                        datum: NetId(datum.net),
-                        datum_sink: datum.sink,
-                        clock: NetId(clock.net),
-                        clock_sink: clock.sink,
-                        rise: timing.rise,
-                        fall: timing.fall,
-                    })?;
-                }
-            }
+    for one in related.group(pin).related.as_slice() {
+        if let Some((hold, clock)) = clock_of(one, places) {
+            checks.push(CheckPoint::Flop {
+                name: end_of(alloc, cells, nets, pin)?.into_name(),
+                hold,
+                datum: NetId(datum.net),
+                datum_sink: datum.sink,
+                clock: NetId(clock.net),
+                clock_sink: clock.sink,
+                rise: one.timing.rise,
+                fall: one.timing.fall,
+            })?;
         }
     }
     Ok(())

@@ -15,6 +15,7 @@ mod names;
 mod nets;
 mod pins;
 mod ports;
+mod related;
 mod sinks;
 mod timings;
 

@@ -8,12 +8,14 @@ ghost use Rattle.link_rules.specs.Bits.{bits};
 ghost use Rattle.link_rules.specs.Pins.{Connected, pins as pins_of};
 ghost use Rattle.link_rules.specs.Sound.{IsSoundNetlist};
 ghost use Rattle.link_pins.specs.Places.{AreEntered, HasRoom, IsPlaced, IsStretch};
+ghost use Rattle.link_pins.specs.Related.{AreKept};
 ghost use Rattle.link_pins.specs.Rows.{ArePlaces, AreTimed};
 ghost use Rattle.link_pins.specs.Seen.{ArePins, HasShortNames, connected_at};
 
 use crate::arcs::{Places, add_pin_arcs};
 use crate::checks::add_pin_checks;
 use crate::pins::PinOn;
+use crate::related::Related;
 use link_index::{CellIndex, NetIndex};
 use std::alloc::{AllocError, Global};
 use xt_model::{CheckPoint, TimingArc};
@@ -68,12 +70,14 @@ impl Timings {
         alloc: Global,
         cells: &CellIndex<'a>,
         nets: &NetIndex<'a>,
+        related: &Related<'a>,
         places: &Places,
         pin: PinOn,
     ) -> Result<(), AllocError>
         requires there { IsSome (connected_at cells.now nets.now pin) }
         requires short { IfSome (connected_at cells.now nets.now pin) HasShortNames }
         requires net { pin.net < length self.now.nets.items }
+        requires related { AreKept cells.now related.now.cells.items }
         requires room { HasRoom cells.now places.now.at.items }
         ensures { OnOk result
             ((done : List Connected) (c : Connected) → connected_at cells.now nets.now pin ≡ Some c
@@ -81,9 +85,13 @@ impl Timings {
             → AreTimed cells.now nets.now done self.old.nets.items self.old.checks.items
             → AreTimed cells.now nets.now (done ++ c ∷ []) self.new.nets.items self.new.checks.items) }
     {
-        add_pin_checks(alloc, cells, nets, places, pin, &mut self.checks)?;
+        add_pin_checks(alloc, cells, nets, related, places, pin, &mut self.checks)?;
         if pin.is_output(cells) {
-            add_pin_arcs(cells, places, pin, &mut self.nets[pin.net as usize].arcs)?;
+            add_pin_arcs(
+                related.group(pin).related.as_slice(),
+                places,
+                &mut self.nets[pin.net as usize].arcs,
+            )?;
         }
         Ok(())
     }
@@ -123,13 +131,14 @@ pub fn timings_of<'a>(
         (λ t. AreTimed cells.now nets.now (pins_of cells.now nets.now) t.nets.items t.checks.items) }
 {
     let mut timings = no_timings(alloc, nets)?;
+    let related = Related::new(alloc, cells)?;
     let mut places = Places::new(alloc, most_pins(cells))?;
     let mut from = 0;
     'instances: while from < pins.len() {
         let to = same_instance(pins, from);
         places.enter(cells, pins, sinks, from, to);
         for k in from..to {
-            timings.add(alloc, cells, nets, &places, pins[k])?;
+            timings.add(alloc, cells, nets, &related, &places, pins[k])?;
         }
         places.clear(pins, from, to);
         from = to;

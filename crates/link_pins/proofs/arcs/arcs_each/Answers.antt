@@ -2,8 +2,8 @@ use Rattle.std.proofs.Common.{◌≡◌, ◌+◌, ◌∙◌, cond, is_some, get_
 use Rattle.xt_model.specs.declared.edge.Edge.TheVariants.{Rise}
 use Rattle.link_rules.specs.Arcs.{arc_by}
 use Rattle.link_pins.proofs.CountLaws.{made_counted, arc_some, counted_yes, counted_no, one_most}
-use Rattle.link_pins.proofs.counts.arcs_each.Goals as goal
-use Rattle.link_pins.proofs.counts.arcs_each.Goals.{then-is_some, else-is_some}
+use Rattle.link_pins.proofs.arcs.arcs_each.Goals as goal
+use Rattle.link_pins.proofs.arcs.arcs_each.Goals.{then-is_some, else-is_some}
 
 pub loop-output-preserved : goal.loop-output-preserved
 loop-output-preserved c =

@@ -1,7 +1,7 @@
 use Rattle.std.proofs.Common.{◌≡◌, ◌≤◌, length, take}
 use Rattle.std.specs.Prelude.{filter_map}
 use Rattle.link_rules.specs.Arcs.{Place, edge_pairs, arc_by}
-use Rattle.link_pins.proofs.counts.arcs_each.Given as goal
+use Rattle.link_pins.proofs.arcs.arcs_each.Given as goal
 
 abbrev pub invariant-loop-output : goal.invariant-loop-output
 invariant-loop-output l = record {

@@ -1,0 +1,13 @@
+use Rattle.std.proofs.Common.{◌≡◌, map, take, Some}
+use Rattle.std.specs.Prelude.{flat_map}
+use Rattle.std.specs.List.{slice_get}
+use Rattle.liberty_cells.specs.declared.cell.Cell.{Cell}
+use Rattle.link_pins.specs.Related.{group_related, related_of, IsCounted}
+use Rattle.link_pins.proofs.related.PinGroup.of.Given as goal
+
+abbrev pub invariant-loop-timing : goal.invariant-loop-timing
+invariant-loop-timing l = record {
+  related : (c : Cell) → slice_get l.cells.cells l.cell ≡ Some c
+      → map related_of l.group.related.items ≡ flat_map (group_related c l.part.role) (take l.timing-index l.timing-items);
+  counts : IsCounted l.part.role l.group;
+}

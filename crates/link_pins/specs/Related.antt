@@ -1,0 +1,115 @@
+-- The related pins of timing groups, by their places in the cell.
+use Rattle.std.specs.Prelude.{◌≡◌, ℕ, ◌<◌, ◌==◌, Bool, List, [], length, map, flat_map, filter_map}
+use Rattle.std.specs.Prelude.{Option, Some, None, IsSome, is_some, option_map, if◌then◌else◌}
+use Rattle.std.specs.List.{slice_get, slice_index_or, sum_by}
+use Rattle.xt_model.specs.Options.{◌>>=◌}
+use Rattle.xt_model.specs.declared.net.TimingArc.{TimingArc}
+use Rattle.liberty_cells.specs.declared.cell.Cell.{Cell}
+use Rattle.liberty_cells.specs.declared.library.Library.{Library}
+use Rattle.liberty_cells.specs.declared.pin.Role.{Role}
+use Rattle.liberty_cells.specs.declared.pin.Role.TheVariants as roles
+use Rattle.liberty_cells.specs.declared.timing.Timing.{Timing}
+use Rattle.liberty_cells.specs.Pins.{PinParts}
+use Rattle.link_rules.specs.Arcs.{Place, arcs_from}
+use Rattle.link_rules.specs.Checks.{side_of}
+use Rattle.link_index.specs.Cells.{pin_place}
+use Rattle.link_pins.specs.declared.arcs.SinkAt.{SinkAt}
+use Rattle.link_pins.specs.declared.pins.PinOn.{PinOn}
+use Rattle.link_pins.specs.declared.related.CellGroups.{CellGroups}
+use Rattle.link_pins.specs.declared.related.PinCount.{PinCount}
+use Rattle.link_pins.specs.declared.related.PinGroup.{PinGroup}
+use Rattle.link_pins.specs.declared.related.RelatedPin.{RelatedPin}
+use Rattle.link_pins.specs.Places.{place_of}
+use Rattle.link_pins.specs.Seen.{pin_at}
+
+-- a timing group with the place in its cell of a pin that it is related to
+abbrev pub TimedPlace : Type 0
+TimedPlace = Timing × ℕ
+
+abbrev pub with_timing : Timing → ℕ → TimedPlace
+with_timing t k = (t, k)
+
+abbrev pub related_of : RelatedPin → TimedPlace
+related_of r = (r.timing.now, r.pin)
+
+-- how many arcs (into an output pin) or check points (of an input pin) a timing group has from one related pin
+abbrev pub effect : Role → Timing → ℕ
+effect roles.Output t = length (arcs_from t (Some (0, 0)))
+effect roles.Input t = if is_some (side_of t.kind) then 1 else 0
+effect _ t = 0
+
+-- the related pins of a timing group that has an effect, those that the cell has, by name, in order
+abbrev pub group_related : Cell → Role → Timing → List TimedPlace
+group_related c role t = if effect role t == 0 then [] else map (with_timing t) (filter_map (pin_place c) t.related)
+
+-- those of a pin: timing groups in order, related pins in order
+abbrev pub pin_related : Cell → Role → List Timing → List TimedPlace
+pin_related c role ts = flat_map (group_related c role) ts
+
+abbrev pub AreRelated : Cell → PinParts → List RelatedPin → Type 0
+AreRelated c p rs = map related_of rs ≡ pin_related c p.role p.timings
+
+-- the counts of the pins that pass a test, added up
+abbrev pub counted : (ℕ → Bool) → List PinCount → ℕ
+counted g counts = sum_by (λ u. if g u.pin then u.count else 0) counts
+
+-- the effects of the related pins that pass a test, added up
+abbrev pub effects : (ℕ → Bool) → Role → List TimedPlace → ℕ
+effects g role rs = sum_by (λ s. if g s.1 then effect role s.0 else 0) rs
+
+-- the counts by pins are those of the related pins one by one, whichever pins count
+abbrev pub IsCounted : Role → PinGroup → Type 0
+IsCounted role v = (g : ℕ → Bool) → counted g v.counts.items ≡ effects g role (map related_of v.related.items)
+
+-- the related pins of a pin, and their counts
+pub record IsGroup (c : Cell) (p : PinParts) (v : PinGroup) : Type 0 where
+  pub related : AreRelated c p v.related.items
+  pub counts : IsCounted p.role v
+
+-- for each of the first pins of a cell a group that is there, which is that of the pin
+pub record AreGroups (c : Cell) (g : CellGroups) : Type 0 where
+  pub within : (k n : ℕ) → slice_get g.of.items k ≡ Some n → n < length g.groups.items
+  pub each : (k : ℕ) (p : PinParts) (n : ℕ) (v : PinGroup) → slice_get c.pins k ≡ Some p
+      → slice_get g.of.items k ≡ Some n → slice_get g.groups.items n ≡ Some v → IsGroup c p v
+
+-- the same for all its pins
+pub record AreAllGroups (c : Cell) (g : CellGroups) : Type 0 where
+  pub count : length g.of.items ≡ length c.pins
+  pub groups : AreGroups c g
+
+-- the group that is kept for a pin
+abbrev pub group_at : List CellGroups → PinOn → Option PinGroup
+group_at cells p = do
+  g ← slice_get cells p.cell
+  n ← slice_get g.of.items p.pin
+  slice_get g.groups.items n
+
+-- for each pin of the library its group is kept
+pub record AreKept (library : Library) (cells : List CellGroups) : Type 0 where
+  pub there : (p : PinOn) → IsSome (pin_at library p) → IsSome (group_at cells p)
+  pub each : (p : PinOn) (c : Cell) (q : PinParts) (v : PinGroup) → slice_get library.cells p.cell ≡ Some c
+      → pin_at library p ≡ Some q → group_at cells p ≡ Some v → IsGroup c q v
+
+-- ---- what they are where sinks are entered for the pins of an instance
+
+-- the sink that is entered at a place
+abbrev pub sink_of : List (Option SinkAt) → ℕ → Option Place
+sink_of at k = option_map place_of (slice_index_or at k None)
+
+-- the arcs from a related pin
+abbrev pub arcs_of : List (Option SinkAt) → RelatedPin → List TimingArc
+arcs_of at r = arcs_from r.timing.now (sink_of at r.pin)
+
+-- whether a sink is entered at a place
+abbrev pub is_sink : List (Option SinkAt) → ℕ → Bool
+is_sink at k = is_some (slice_index_or at k None)
+
+-- whether a check against a related pin is one of hold, and the sink that the pin is
+abbrev pub clock_at : List (Option SinkAt) → TimedPlace → Option (Bool × SinkAt)
+clock_at at s = do
+  hold ← side_of s.0.kind
+  clock ← slice_index_or at s.1 None
+  Some (hold, clock)
+
+abbrev pub clock_of : List (Option SinkAt) → RelatedPin → Option (Bool × SinkAt)
+clock_of at r = clock_at at (related_of r)
