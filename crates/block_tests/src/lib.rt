@@ -17,6 +17,8 @@ mod gated;
 #[cfg(test)]
 mod limits;
 #[cfg(test)]
+mod linking;
+#[cfg(test)]
 mod refused;
 #[cfg(test)]
 mod reports;

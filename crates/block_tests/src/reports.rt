@@ -36,6 +36,7 @@ report r.lib r.v r.spef r.sdc --workers 1
 report --workers=64 r.lib r.v --kind all r.spef r.sdc
 report --miller 0,4,8 r.lib r.v r.spef r.sdc
 report --kind=all --workers 07 --miller=00,4,08 r.lib r.v r.spef r.sdc
+report r.lib --kind all r.v --workers 3 r.spef --miller=0,4,8 r.sdc
 ";
 
 #[test]

@@ -15,6 +15,8 @@ mod gated;
 #[cfg(test)]
 mod generated;
 #[cfg(test)]
+mod large;
+#[cfg(test)]
 mod limits;
 #[cfg(test)]
 mod miller;

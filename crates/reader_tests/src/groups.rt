@@ -117,3 +117,38 @@ fn sixty_four_groups_may_be_open(rt: HostRuntime) -> Result<(), Fail> {
     }
     Ok(())
 }
+
+/// A library with this many attributes, one a line from line 2 on.
+fn with_attributes(alloc: Global, count: u32) -> Result<Vec<u8>, AllocError> {
+    let mut text = Vec::new(alloc);
+    text.extend_from_slice(b"library (x) {\n")?;
+    for _ in 0..count {
+        text.extend_from_slice(b" a : 1;\n")?;
+    }
+    text.extend_from_slice(b"}\n")?;
+    Ok(text)
+}
+
+/// How many attributes a library has, and the line of the last.
+fn attributes_of(alloc: Global, text: &[u8]) -> Result<(usize, u32), Fail> {
+    if MOST_BYTES < text.len() {
+        return Err(Fail::from("too long"));
+    }
+    let library = read_groups(alloc, text)?;
+    match library.attributes().last() {
+        Some(last) => Ok((library.attributes().len(), last.line)),
+        None => Ok((0, 0)),
+    }
+}
+
+/// The same of the library with this many attributes.
+fn attributes_among(alloc: Global, count: u32) -> Result<(usize, u32), Fail> {
+    let text = with_attributes(alloc, count)?;
+    attributes_of(alloc, &text)
+}
+
+#[test]
+fn a_group_may_have_many_attributes(rt: HostRuntime) -> Result<(), Fail> {
+    assert_eq!(rt; attributes_among(rt.alloc(), 10_000)?, (10_000, 10_001));
+    Ok(())
+}

@@ -473,3 +473,39 @@ fn a_name_has_at_most_1024_bytes(rt: HostRuntime) {
         }
     }
 }
+
+/// This many lines that set the load of the example's output.
+fn with_loads(alloc: Global, count: u32) -> Result<String, AllocError> {
+    let mut text = String::new(alloc);
+    for _ in 1..count {
+        text.push_str("set_load 0.002 [get_ports y]\n")?;
+    }
+    text.push_str("set_load 0.003 [get_ports y]\n")?;
+    Ok(text)
+}
+
+/// What these lines mean for the netlist of the example, with this text after them.
+fn meaning_of_loads(
+    rt: &impl Abort,
+    alloc: Global,
+    count: u32,
+    last: &str,
+) -> Result<String, AllocError> {
+    let mut text = with_loads(alloc, count)?;
+    text.push_str(last)?;
+    let netlist = netlist(rt, alloc, EXAMPLE);
+    meaning(alloc, &netlist, text.as_str(), 6, 6)
+}
+
+// The last load is the one that counts; a period of 0 is refused at its line.
+#[test]
+fn a_text_may_have_many_lines(rt: HostRuntime) -> Result<(), Fail> {
+    for (last, want) in [
+        ("", "; 2.0 load 3000"),
+        ("create_clock -period 0 ck\n", "; C4 150001"),
+    ] {
+        let words = meaning_of_loads(&rt, rt.alloc(), 150_000, last)?;
+        assert_eq!(rt; words.as_str(), want);
+    }
+    Ok(())
+}

@@ -482,3 +482,30 @@ fn names_and_numbers_may_be_long(rt: HostRuntime) -> Result<(), Fail> {
     let text = with_long_number(alloc, 10_000)?;
     compare_value(&rt, alloc, text.as_str(), "n 1000000\n")
 }
+
+/// A text with this many nets, two lines each after the first three.
+fn with_nets(alloc: Global, count: u32) -> Result<String, AllocError> {
+    let mut text = String::from_str(alloc, HEAD)?;
+    for number in 0..count {
+        let lines = format!(in alloc; "*D_NET n{number} 1\n*END\n")?;
+        text.push_str(lines.as_str())?;
+    }
+    Ok(text)
+}
+
+/// What becomes of such a text with these lines after it.
+fn answer_of_nets(alloc: Global, count: u32, last: &str) -> Result<String, Fail> {
+    let mut text = with_nets(alloc, count)?;
+    text.push_str(last)?;
+    answer(alloc, text.as_str())
+}
+
+// 2.1 MB; a second net of the name of the first is refused at its line.
+#[test]
+fn a_text_may_have_many_nets(rt: HostRuntime) -> Result<(), Fail> {
+    for (last, want) in [("", "read"), ("*D_NET n0 1\n", "S6 200004")] {
+        let words = answer_of_nets(rt.alloc(), 100_000, last)?;
+        assert_eq!(rt; words.as_str(), want);
+    }
+    Ok(())
+}

@@ -349,15 +349,40 @@ fn compare_found(
     Ok(())
 }
 
-#[test]
-fn ports_are_found_by_name(rt: HostRuntime) -> Result<(), Fail> {
-    if MOST_BYTES < PORTS.len() {
+/// A module with a port of 4,096 bits, which are those of a pin each.
+const WIDE: &str =
+    "module m (a); input [4095:0] a; INV u (.A(a[4095])); INV v (.A(a[0])); endmodule";
+
+/// What is found there.
+const FOUND_WIDE: &str = "\
+0 4095 0 Input | a
+0 4095 4095 Input | a[4095]
+0 0 0 Input | a[0]
+absent | a[4096]
+";
+
+/// Compares what is found in a module.
+fn compare_found_in(
+    rt: &impl Abort,
+    alloc: Global,
+    text: &'static str,
+    rows: &str,
+) -> Result<(), Fail> {
+    if MOST_BYTES < text.len() {
         return Err(Fail::from("too long"));
     }
-    let Ok(netlist) = read_netlist(rt.alloc(), PORTS.as_bytes()) else {
+    let Ok(netlist) = read_netlist(alloc, text.as_bytes()) else {
         panic!(rt; "refused");
     };
-    compare_found(&rt, rt.alloc(), &netlist, FOUND)
+    compare_found(rt, alloc, &netlist, rows)
+}
+
+#[test]
+fn ports_are_found_by_name(rt: HostRuntime) -> Result<(), Fail> {
+    for (text, rows) in [(PORTS, FOUND), (WIDE, FOUND_WIDE)] {
+        compare_found_in(&rt, rt.alloc(), text, rows)?;
+    }
+    Ok(())
 }
 
 /// A netlist with what a synthesiser may write.
