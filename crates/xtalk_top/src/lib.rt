@@ -17,6 +17,7 @@ mod solution;
 mod solve;
 mod text_report;
 mod top;
+mod warm_run;
 
 pub use command_line::{
     BlockFiles, FileName, GenJob, Job, LinkJob, ReplayJob, ReportJob, SolveJob, WordsFault,
@@ -24,3 +25,4 @@ pub use command_line::{
 };
 pub use laws::{calls_agree, one_outcome_is_meant, workers_change_nothing};
 pub use top::{xtalk, xtalk_gated};
+pub use warm_run::{warm, warm_from};
