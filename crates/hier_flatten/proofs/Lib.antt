@@ -1,0 +1,12 @@
+pub mod Numbers
+pub mod SliceLaws
+pub mod TableLaws
+pub mod IndexLaws
+pub mod SearchLaws
+pub mod FiniteLaws
+pub mod TopsLaws
+pub mod BelowLaws
+pub mod GrowingLaws
+pub mod NamesLaws
+pub mod WalkLaws
+pub mod MeaningLaws

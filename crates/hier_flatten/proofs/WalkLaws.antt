@@ -1,0 +1,344 @@
+-- One turn of the walk through the hierarchy.
+use Rattle.std.proofs.Common.{◌≡◌, refl, ℕ, zero, suc, ◌+◌, ◌-◌, ◌*◌, ◌<◌, ◌≤◌, List, [], ◌∷◌, ◌++◌, length, take, get_or, Option, Some, None, Result, Ok, Err, sym, ap, ◌∙◌, subst, arith}
+use Rattle.std.proofs.lemmas.List.{take_all, take_at, length-append, length_push}
+use Rattle.std.proofs.Math.Nat.{suc-mul, mul-le-mul_right}
+use Rattle.std.specs.List.{slice_get}
+use Rattle.name_numbers.specs.Names.{Text}
+use Rattle.xt_model.specs.Limits.{most_instances}
+use Rattle.xt_model.specs.Options as options
+use Rattle.xt_model.specs.Results.{◌>>=◌}
+use Rattle.xt_model.specs.declared.fault.LimitKind.{LimitKind}
+use Rattle.verilog_net.specs.declared.netlist.Instance.{Instance}
+use Rattle.verilog_net.specs.declared.netlist.Netlist.{Netlist}
+use Rattle.hier_flatten.specs.declared.below.Frame.{Frame}
+use Rattle.hier_flatten.specs.declared.fault.FlatFault.{FlatFault}
+use Rattle.hier_flatten.specs.declared.fault.FlatFault.TheVariants as faults
+use Rattle.hier_flatten.specs.Hierarchy.{Hierarchy, ends, cell, inner, IsHierarchy, HasHierarchy, module_number, module_of}
+use Rattle.hier_flatten.specs.Search.{most_in}
+use Rattle.hier_flatten.specs.Flat.{Scope, Flat, flat_below, flat_instance, prefix_below, scope_below, entered_below, limit_of, unless_passed, top_scope, at_top, built}
+use Rattle.hier_flatten.specs.Walk.{scope_of, IsEntered, AreNested, AreHierarchies, rest_flat, Comes, Passes, room_in, work, Builds, Fails}
+use Rattle.hier_flatten.proofs.SliceLaws.{rest_of, first_and_rest}
+use Rattle.hier_flatten.proofs.SearchLaws.{most_at}
+use Rattle.hier_flatten.proofs.GrowingLaws.{within}
+
+abbrev Built : Type 0
+Built = Result Flat LimitKind
+
+-- ---- one step after another
+bind_assoc : (r : Built) (f g : Flat → Built) → ((r >>= f) >>= g) ≡ (r >>= (λ x. f x >>= g))
+bind_assoc (Ok x) f g = refl
+bind_assoc (Err e) f g = refl
+
+bind_same : (r : Built) (f g : Flat → Built) → ((x : Flat) → f x ≡ g x) → (r >>= f) ≡ (r >>= g)
+bind_same (Ok x) f g h = h x
+bind_same (Err e) f g h = refl
+
+bind_ok : (r : Built) (f : Flat → Built) → ((x : Flat) → f x ≡ Ok x) → (r >>= f) ≡ r
+bind_ok (Ok x) f h = h x
+bind_ok (Err e) f h = refl
+
+-- ---- what is below instances
+module _ (modules : List Netlist) where
+  none_below : (h : Hierarchy) → IsHierarchy modules [] h → h ≡ ends
+  none_below ends t = refl
+  none_below (cell j more) t = absurd t
+  none_below (inner j m below more) t = absurd t
+
+  record IsCell (i : Instance) (is : List Instance) (h : Hierarchy) : Type 0 where
+    more : Hierarchy
+    whole : h ≡ cell i more
+    rest : IsHierarchy modules is more
+
+  cell_is : (i : Instance) (is : List Instance) (h : Hierarchy) → module_of modules i.cell ≡ None → IsHierarchy modules (i ∷ is) h → IsCell i is h
+  cell_is i is ends none t = absurd t
+  cell_is i is (cell j more) none t = record { more = more; whole = ap (λ k. cell k more) (sym t.0); rest = t.2 }
+  cell_is i is (inner j m below more) none t = absurd (cc (sym none ∙ t.1))
+
+  record IsInner (i : Instance) (m : Netlist) (is : List Instance) (h : Hierarchy) : Type 0 where
+    below : Hierarchy
+    more : Hierarchy
+    whole : h ≡ inner i m below more
+    inside : IsHierarchy modules m.instances below
+    rest : IsHierarchy modules is more
+
+  inner_is : (i : Instance) (m : Netlist) (is : List Instance) (h : Hierarchy) → module_of modules i.cell ≡ Some m
+      → IsHierarchy modules (i ∷ is) h → IsInner i m is h
+  inner_is i m is ends e t = absurd t
+  inner_is i m is (cell j more) e t = absurd (cc (sym e ∙ t.1))
+  inner_is i m is (inner j n below more) e t =
+      let some : ◌≡◌ {A = Option Netlist} (Some n) (Some m) = sym t.1 ∙ e in
+      let same : n ≡ m = cc in
+      record {
+        below = below;
+        more = more;
+        whole = ap (λ k. inner k n below more) (sym t.0) ∙ ap (λ k. inner i k below more) same;
+        inside = subst (λ k. IsHierarchy modules k.instances below) same t.2;
+        rest = t.3;
+      }
+
+-- ---- paths
+take_short : (a n : ℕ) (p : Text) → a ≤ n → take a (take n p) ≡ take a p
+take_short zero n p h = refl
+take_short (suc a) zero p h = absurd (omega (arith, h))
+take_short (suc a) (suc n) [] h = refl
+take_short (suc a) (suc n) (x ∷ p) h = ap (λ t. x ∷ t) (take_short a n p (omega (arith, h)))
+
+take_less : (a n : ℕ) (p q : Text) → a ≤ n → take n p ≡ take n q → take a p ≡ take a q
+take_less a n p q h e = sym (take_short a n p h) ∙ (ap (take a) e ∙ take_short a n q h)
+
+pub same_path : (n : ℕ) (p q : Text) (hs : List Hierarchy) (fs : List Frame) (flat : Flat) → take n p ≡ take n q → AreNested n fs
+    → rest_flat hs fs p flat ≡ rest_flat hs fs q flat
+same_path n p q [] [] flat e nested = refl
+same_path n p q [] (f ∷ fs) flat e nested = refl
+same_path n p q (h ∷ hs) [] flat e nested = refl
+same_path n p q (h ∷ hs) (f ∷ fs) flat e nested =
+    let path : take f.path p ≡ take f.path q = take_less f.path n p q nested.0 e in
+    let scope : scope_of p f ≡ scope_of q f = ap (λ t. record { prefix = t; nets = f.nets.now; stands = f.stands.items }) path in
+    ap (λ s. flat_below h s flat >>= rest_flat hs fs p) scope
+    ∙ bind_same (flat_below h (scope_of q f) flat) (rest_flat hs fs p) (rest_flat hs fs q)
+    (λ x. same_path f.path p q hs fs x path nested.1)
+
+pub whole_path : (p : Text) (n : ℕ) → length p ≡ n → take n p ≡ p
+whole_path p n e = take_all n p (omega (arith, e))
+
+-- ---- one turn
+module _ (modules : List Netlist) (f : Frame) (fs : List Frame) (path : Text) (flat : Flat) where
+  -- no instance is left
+  pub ended : f.rest.now ≡ [] → Comes modules (f ∷ fs) path flat fs path flat
+  ended none = record { each = turn }
+    where
+      turn : (hs : List Hierarchy) → AreHierarchies modules (f ∷ fs) hs
+          → (hs' : List Hierarchy) × AreHierarchies modules fs hs' × (rest_flat hs (f ∷ fs) path flat ≡ rest_flat hs' fs path flat)
+      turn [] a = absurd a
+      turn (h ∷ hs) a =
+          let is : h ≡ ends = none_below modules h (subst (λ t. IsHierarchy modules t h) none a.0) in
+          (hs, a.1, ap (λ k. flat_below k (scope_of path f) flat >>= rest_flat hs fs path) is)
+
+  -- an instance of a cell
+  pub celled : (g : Frame) (i c : Instance) → f.rest.now ≡ i ∷ g.rest.now → module_of modules i.cell ≡ None
+      → scope_of path g ≡ scope_of path f → c ≡ flat_instance flat.nets (scope_of path f) i
+      → Comes modules (f ∷ fs) path flat (g ∷ fs) path (record flat { instances = flat.instances ++ c ∷ [] })
+  celled g i c rest none scope made = record { each = turn }
+    where
+      turn : (hs : List Hierarchy) → AreHierarchies modules (f ∷ fs) hs
+          → (hs' : List Hierarchy) × AreHierarchies modules (g ∷ fs) hs'
+          × (rest_flat hs (f ∷ fs) path flat ≡ rest_flat hs' (g ∷ fs) path (record flat { instances = flat.instances ++ c ∷ [] }))
+      turn [] a = absurd a
+      turn (h ∷ hs) a =
+          let is = cell_is modules i g.rest.now h none (subst (λ t. IsHierarchy modules t h) rest a.0) in (
+            is.more ∷ hs,
+            (is.rest, a.1),
+            ap (λ k. flat_below k (scope_of path f) flat >>= rest_flat hs fs path) is.whole
+                ∙ (ap (λ d. flat_below is.more (scope_of path f) (record flat { instances = flat.instances ++ d ∷ [] }) >>= rest_flat hs fs path) (sym made)
+                ∙ ap (λ s. flat_below is.more s (record flat { instances = flat.instances ++ c ∷ [] }) >>= rest_flat hs fs path) (sym scope)),
+          )
+
+  -- an instance of a module that passes a limit
+  pub passes : (i : Instance) (m : Netlist) (is : List Instance) (what : LimitKind) → f.rest.now ≡ i ∷ is
+      → module_of modules i.cell ≡ Some m → limit_of flat ≡ Some what → Passes modules (f ∷ fs) path flat (faults.Limit what)
+  passes i m is what rest e limit [] a = absurd a
+  passes i m is what rest e limit (h ∷ hs) a =
+      let inside = inner_is modules i m is h e (subst (λ t. IsHierarchy modules t h) rest a.0) in
+      ap (λ k. flat_below k (scope_of path f) flat >>= rest_flat hs fs path) inside.whole
+      ∙ ap (λ l. (unless_passed l (flat_below inside.below (scope_below flat.nets (scope_of path f) i m) (entered_below flat (scope_of path f) i m))
+      >>= flat_below inside.more (scope_of path f)) >>= rest_flat hs fs path) limit
+
+  module _ (g b : Frame) (i : Instance) (m : Netlist) (rest : f.rest.now ≡ i ∷ g.rest.now) (e : module_of modules i.cell ≡ Some m)
+      (same : g.path ≡ f.path) (nets : g.nets.now ≡ f.nets.now) (stands : g.stands.items ≡ f.stands.items) (limit : limit_of flat ≡ None)
+      (len : length path ≡ f.path) (nested : AreNested f.path fs) (made : IsEntered flat.nets (scope_of path f) i m b) where
+    abbrev s : Scope
+    s = scope_of path f
+
+    prefix_is : s.prefix ≡ path
+    prefix_is = whole_path path f.path len
+
+    abbrev below_path : Text
+    below_path = prefix_below path i.name
+
+    back_path : take f.path below_path ≡ take f.path path
+    back_path = take_at path (i.name ++ 47 ∷ []) f.path len ∙ sym (whole_path path f.path len)
+
+    inside_scope : scope_of below_path b ≡ scope_below flat.nets s i m
+    inside_scope =
+        let n : length below_path ≡ b.path = ap (λ p. length (prefix_below p i.name)) (sym prefix_is) ∙ sym made.path in
+        ap (λ p. record { prefix = p; nets = b.nets.now; stands = b.stands.items })
+        (whole_path below_path b.path n ∙ ap (λ p. prefix_below p i.name) (sym prefix_is))
+        ∙ made.scope
+
+    outer_scope : scope_of below_path g ≡ s
+    outer_scope =
+        ap (λ n. record { prefix = take n below_path; nets = g.nets.now; stands = g.stands.items }) same
+        ∙ (ap (λ p. record { prefix = p; nets = g.nets.now; stands = g.stands.items }) back_path
+        ∙ (ap (λ n. record { prefix = take f.path path; nets = n; stands = g.stands.items }) nets
+        ∙ ap (λ w. record { prefix = take f.path path; nets = f.nets.now; stands = w }) stands))
+
+    -- an instance of a module
+    pub entered : Comes modules (f ∷ fs) path flat (b ∷ g ∷ fs) below_path (entered_below flat s i m)
+    entered = record { each = turn }
+      where
+        turn : (hs : List Hierarchy) → AreHierarchies modules (f ∷ fs) hs
+            → (hs' : List Hierarchy) × AreHierarchies modules (b ∷ g ∷ fs) hs'
+            × (rest_flat hs (f ∷ fs) path flat ≡ rest_flat hs' (b ∷ g ∷ fs) below_path (entered_below flat s i m))
+        turn [] a = absurd a
+        turn (h ∷ hs) a =
+            let inside = inner_is modules i m g.rest.now h e (subst (λ t. IsHierarchy modules t h) rest a.0) in
+            let at = flat_below inside.below (scope_below flat.nets s i m) (entered_below flat s i m) in (
+              inside.below ∷ inside.more ∷ hs,
+              (subst (λ t. IsHierarchy modules t inside.below) (sym made.rest) inside.inside, (inside.rest, a.1)),
+              ap (λ k. flat_below k s flat >>= rest_flat hs fs path) inside.whole
+                  ∙ (ap (λ l. (unless_passed l at >>= flat_below inside.more s) >>= rest_flat hs fs path) limit
+                  ∙ (bind_assoc at (flat_below inside.more s) (rest_flat hs fs path)
+                  ∙ (bind_same at (λ x. flat_below inside.more s x >>= rest_flat hs fs path) (λ x. flat_below inside.more s x >>= rest_flat hs fs below_path)
+                  (λ x. bind_same (flat_below inside.more s x) (rest_flat hs fs path) (rest_flat hs fs below_path)
+                  (λ y. same_path f.path path below_path hs fs y (sym back_path) nested))
+                  ∙ (ap (λ t. at >>= (λ x. flat_below inside.more t x >>= rest_flat hs fs below_path)) (sym outer_scope)
+                  ∙ ap (λ t. flat_below inside.below t (entered_below flat s i m) >>= rest_flat (inside.more ∷ hs) (g ∷ fs) below_path) (sym inside_scope))))),
+            )
+
+    pub entered_nested : AreNested (length below_path) (b ∷ g ∷ fs)
+    entered_nested =
+        let n : b.path ≡ length below_path = made.path ∙ ap (λ p. length (prefix_below p i.name)) prefix_is in
+        let longer : length below_path ≡ length path + length (i.name ++ 47 ∷ []) = length-append path (i.name ++ 47 ∷ []) in
+        (omega (arith, n), (omega (arith, n, longer, len, same), subst (λ k. AreNested k fs) (sym same) nested))
+
+-- ---- a frame is taken from the stack
+pub taken : (hs : List Hierarchy) (f : Frame) (fs : List Frame) (path : Text) (flat : Flat) → AreNested f.path fs
+    → rest_flat hs (f ∷ fs) path flat ≡ rest_flat hs (f ∷ fs) (take f.path path) flat
+taken hs f fs path flat nested =
+    same_path f.path path (take f.path path) hs (f ∷ fs) flat (sym (take_short f.path f.path path (omega arith))) (omega arith, nested)
+
+-- ---- how much is left
+module _ (modules : List Netlist) (flat : Flat) (f : Frame) (fs : List Frame) where
+  pub less_ended : work modules flat fs < work modules flat (f ∷ fs)
+  unfolding work
+  less_ended = omega arith
+
+  pub less_celled : (g : Frame) (i c : Instance) → f.rest.now ≡ i ∷ g.rest.now
+      → work modules (record flat { instances = flat.instances ++ c ∷ [] }) (g ∷ fs) < work modules flat (f ∷ fs)
+  unfolding work
+  less_celled g i c rest =
+      let more : length (flat.instances ++ c ∷ []) ≡ length flat.instances + 1 = length_push flat.instances c in
+      let n : length f.rest.now ≡ length g.rest.now + 1 = ap length rest ∙ omega arith in
+      let room : room_in (record flat { instances = flat.instances ++ c ∷ [] }) ≤ room_in flat = omega (arith, more) in
+      let product = mul-le-mul_right (most_in modules) room in
+      omega (arith, product, n)
+
+  module_at : (name : Text) (m : Netlist) (o : Option ℕ) → options.◌>>=◌ o (slice_get modules) ≡ Some m → length m.instances + 2 ≤ most_in modules
+  module_at name m None e = absurd (cc)
+  module_at name m (Some k) e = most_at modules k m e
+
+  pub less_entered : (g b : Frame) (i : Instance) (m : Netlist) (nets : List _) → f.rest.now ≡ i ∷ g.rest.now → b.rest.now ≡ m.instances
+      → module_of modules i.cell ≡ Some m → length flat.instances + flat.entered + 1 ≤ most_instances
+      → work modules (record flat { nets = nets; entered = flat.entered + 1 }) (b ∷ g ∷ fs) < work modules flat (f ∷ fs)
+  unfolding work
+  less_entered g b i m nets rest inside e limit =
+      let flat' : Flat = record flat { nets = nets; entered = flat.entered + 1 } in
+      let room : room_in flat ≡ suc (room_in flat') = omega (arith, limit) in
+      let product : room_in flat * most_in modules ≡ room_in flat' * most_in modules + most_in modules = ap (λ n. n * most_in modules) room ∙ suc-mul (room_in flat') (most_in modules) in
+      let most = module_at i.cell m (module_number modules i.cell) e in
+      let n : length f.rest.now ≡ length g.rest.now + 1 = ap length rest ∙ omega arith in
+      let k : length b.rest.now ≡ length m.instances = ap length inside in
+      omega (arith, product, most, n, k)
+
+-- ---- the whole walk
+-- what is flat and what is left come to the flat netlist of the top
+abbrev pub Walks : List Netlist → Netlist → List Frame → Text → Flat → Type 0
+Walks modules top fs path flat =
+    (hs : List Hierarchy) × AreHierarchies modules fs hs × Builds modules top (built top) (rest_flat hs fs path flat)
+
+pub carried : (modules : List Netlist) (top : Netlist) (f : Frame) (fs new : List Frame) (path path' : Text) (flat flat' : Flat) → AreNested f.path fs
+    → Walks modules top (f ∷ fs) path flat → Comes modules (f ∷ fs) (take f.path path) flat new path' flat' → Walks modules top new path' flat'
+carried modules top f fs new path path' flat flat' nested (hs, a, (h, is, e)) comes =
+    let t = comes.each hs a in
+    (t.0, t.1, (h, is, e ∙ (taken hs f fs path flat nested ∙ t.2)))
+
+pub failed : (modules : List Netlist) (top : Netlist) (f : Frame) (fs : List Frame) (path : Text) (flat : Flat) (fault : FlatFault) → AreNested f.path fs
+    → Walks modules top (f ∷ fs) path flat → Passes modules (f ∷ fs) (take f.path path) flat fault → Fails modules top (built top) fault
+failed modules top f fs path flat faults.NoMemory nested w beyond = tt
+failed modules top f fs path flat (faults.Limit what) nested (hs, a, (h, is, e)) beyond = (h, is, e ∙ (taken hs f fs path flat nested ∙ beyond hs a))
+failed modules top f fs path flat (faults.Refused line code) nested w beyond = absurd beyond
+
+pub walked : (modules : List Netlist) (top : Netlist) (path : Text) (flat : Flat) → Walks modules top [] path flat → Builds modules top (built top) (Ok flat)
+walked modules top path flat ([], a, b) = b
+walked modules top path flat (g ∷ hs, a, b) = absurd a
+
+pub begun : (modules : List Netlist) (top : Netlist) (f : Frame) (h : Hierarchy) → IsHierarchy modules top.instances h
+    → scope_of [] f ≡ top_scope top → f.rest.now ≡ top.instances
+    → AreHierarchies modules (f ∷ []) (h ∷ []) × Builds modules top (built top) (rest_flat (h ∷ []) (f ∷ []) [] (at_top top))
+unfolding built
+begun modules top f h is scope rest = (
+  (subst (λ t. IsHierarchy modules t h) (sym rest) is, tt),
+  (h, is, sym (bind_ok (flat_below h (scope_of [] f) (at_top top)) (rest_flat [] [] []) (λ x. refl) ∙ ap (λ s. flat_below h s (at_top top)) scope)),
+)
+
+-- ---- one turn whole
+module _ (modules : List Netlist) (f : Frame) (fs : List Frame) (path : Text) (flat : Flat) (d i : Instance) (some : 1 ≤ length f.rest.now)
+    (is : i ≡ get_or f.rest.now 0 d) (g : Frame) (rest : g.rest.now ≡ rest_of f.rest.now) (same : g.path ≡ f.path) (nets : g.nets.now ≡ f.nets.now)
+    (stands : g.stands.items ≡ f.stands.items) where
+  first : f.rest.now ≡ i ∷ g.rest.now
+  first = first_and_rest f.rest.now d i some is ∙ ap (λ r. i ∷ r) (sym rest)
+
+  same_scope : scope_of path g ≡ scope_of path f
+  same_scope =
+      ap (λ n. record { prefix = take n path; nets = g.nets.now; stands = g.stands.items }) same
+      ∙ (ap (λ n. record { prefix = take f.path path; nets = n; stands = g.stands.items }) nets
+      ∙ ap (λ w. record { prefix = take f.path path; nets = f.nets.now; stands = w }) stands)
+
+  pub cell_turn : (c : Instance) (new : List Frame) (path' : Text) (flat' : Flat) → module_of modules i.cell ≡ None
+      → c ≡ flat_instance flat.nets (scope_of path f) i → new ≡ g ∷ fs → path' ≡ path → flat' ≡ record flat { instances = flat.instances ++ c ∷ [] }
+      → Comes modules (f ∷ fs) path flat new path' flat' × (work modules flat' new < work modules flat (f ∷ fs))
+  cell_turn c new path' flat' none made pushed kept grown =
+      let end : Flat = record flat { instances = flat.instances ++ c ∷ [] } in
+      let comes : Comes modules (f ∷ fs) path flat (g ∷ fs) path end = celled modules f fs path flat g i c first none same_scope made in
+      let less : work modules end (g ∷ fs) < work modules flat (f ∷ fs) = less_celled modules flat f fs g i c first in
+      rw (pushed, kept, grown) (comes, less)
+
+  pub cell_nested : (new : List Frame) (path' : Text) → AreNested f.path fs → length path ≡ f.path → new ≡ g ∷ fs → path' ≡ path → AreNested (length path') new
+  cell_nested new path' nested len pushed kept =
+      let whole : AreNested (length path) (g ∷ fs) = (omega (arith, len, same), subst (λ k. AreNested k fs) (sym same) nested) in
+      rw (pushed, kept) whole
+
+  pub enter_turn : (b : Frame) (m : Netlist) (one new : List Frame) (path' : Text) (flat' : Flat) → module_of modules i.cell ≡ Some m → limit_of flat ≡ None
+      → length path ≡ f.path → AreNested f.path fs → IsEntered flat.nets (scope_of path f) i m b → one ≡ g ∷ fs → new ≡ b ∷ one
+      → path' ≡ prefix_below path i.name → flat' ≡ entered_below flat (scope_of path f) i m
+      → Comes modules (f ∷ fs) path flat new path' flat' × AreNested (length path') new × (work modules flat' new < work modules flat (f ∷ fs))
+  enter_turn b m one new path' flat' e limit len nested made pushed then_pushed way grown =
+      let end : Flat = entered_below flat (scope_of path f) i m in
+      let comes : Comes modules (f ∷ fs) path flat (b ∷ g ∷ fs) (prefix_below path i.name) end =
+      entered modules f fs path flat g b i m first e same nets stands limit len nested made in
+      let order : AreNested (length (prefix_below path i.name)) (b ∷ g ∷ fs) =
+      entered_nested modules f fs path flat g b i m first e same nets stands limit len nested made in
+      let less : work modules end (b ∷ g ∷ fs) < work modules flat (f ∷ fs) =
+      less_entered modules flat f fs g b i m end.nets first made.rest e (within flat limit) in
+      let all : new ≡ b ∷ g ∷ fs = then_pushed ∙ ap (λ t. b ∷ t) pushed in
+      rw (all, way, grown) (comes, order, less)
+
+  pub limit_turn : (m : Netlist) (what : LimitKind) → module_of modules i.cell ≡ Some m → limit_of flat ≡ Some what
+      → Passes modules (f ∷ fs) path flat (faults.Limit what)
+  limit_turn m what e limit = passes modules f fs path flat i m g.rest.now what first e limit
+
+pub walk_begun : (modules : List Netlist) (top : Netlist) (f : Frame) (stack new : List Frame) (path : Text) (flat : Flat) → HasHierarchy modules top.instances
+    → (scope_of [] f ≡ top_scope top) × (f.rest.now ≡ top.instances) × (f.path ≡ 0) → stack ≡ [] → new ≡ f ∷ stack → path ≡ [] → flat ≡ at_top top
+    → AreNested (length path) new × Walks modules top new path flat
+walk_begun modules top f stack new path flat h (scope, rest, zero_path) none pushed empty start =
+    let whole : new ≡ f ∷ [] = pushed ∙ ap (λ s. f ∷ s) none in
+    let b = begun modules top f h.0 h.1 scope rest in
+    let walks : Walks modules top (f ∷ []) [] (at_top top) = (h.0 ∷ [], b.0, b.1) in
+    let nested : AreNested (length {A = ℕ} []) (f ∷ []) = (omega (arith, zero_path), tt) in
+    rw (whole, empty, start) (nested, walks)
+
+pub walk_carried : (modules : List Netlist) (top : Netlist) (f : Frame) (stack fs new : List Frame) (path cut path' : Text) (flat flat' : Flat)
+    → stack ≡ f ∷ fs → cut ≡ take f.path path → AreNested (length path) stack → Walks modules top stack path flat
+    → Comes modules (f ∷ fs) cut flat new path' flat' → Walks modules top new path' flat'
+walk_carried modules top f stack fs new path cut path' flat flat' popped shorter nested walks comes =
+    let order : AreNested (length path) (f ∷ fs) = subst (AreNested (length path)) popped nested in
+    carried modules top f fs new path path' flat flat' order.1 (subst (λ s. Walks modules top s path flat) popped walks)
+    (subst (λ p. Comes modules (f ∷ fs) p flat new path' flat') shorter comes)
+
+pub walk_failed : (modules : List Netlist) (top : Netlist) (f : Frame) (stack fs : List Frame) (path cut : Text) (flat : Flat) (fault : FlatFault)
+    → stack ≡ f ∷ fs → cut ≡ take f.path path → AreNested (length path) stack → Walks modules top stack path flat
+    → Passes modules (f ∷ fs) cut flat fault → Fails modules top (built top) fault
+walk_failed modules top f stack fs path cut flat fault popped shorter nested walks beyond =
+    let order : AreNested (length path) (f ∷ fs) = subst (AreNested (length path)) popped nested in
+    failed modules top f fs path flat fault order.1 (subst (λ s. Walks modules top s path flat) popped walks)
+    (subst (λ p. Passes modules (f ∷ fs) p flat fault) shorter beyond)

@@ -1,0 +1,180 @@
+-- The flat netlist of a module. Its nets are the module's, then for each instance of a module, in the order of the
+-- text, the flat nets of that instance. A port that is connected is no net of its own: it is what it is connected to.
+use Rattle.std.specs.Prelude.{◌≡◌, ℕ, ◌+◌, ◌*◌, ◌<◌, ◌≤◌, ◌^◌, nat_lt, List, [], ◌∷◌, ◌++◌, length, map, replicate}
+use Rattle.std.specs.Prelude.{Option, Some, None, Result, Ok, Err, if◌then◌else◌}
+use Rattle.std.specs.List.{slice_get}
+use Rattle.name_numbers.specs.Names.{Text, value_of}
+use Rattle.xt_model.specs.Limits.{most_nets, most_instances}
+use Rattle.xt_model.specs.Results.{◌>>=◌}
+use Rattle.xt_model.specs.declared.fault.LimitKind.{LimitKind}
+use Rattle.xt_model.specs.declared.fault.LimitKind.TheVariants as limits
+use Rattle.verilog_net.specs.declared.netlist.Net.{Net}
+use Rattle.verilog_net.specs.declared.netlist.Instance.{Instance}
+use Rattle.verilog_net.specs.declared.netlist.Netlist.{Netlist}
+use Rattle.verilog_net.specs.declared.netlist.PortRole.TheVariants.{Inner}
+use Rattle.verilog_net.specs.declared.netlist.Wire.{Wire}
+use Rattle.verilog_net.specs.declared.netlist.Wire.TheVariants as wires
+use Rattle.verilog_net.specs.Nets.{Nets, is_directed}
+use Rattle.hier_flatten.specs.Places.{width_of, place_in, bit_at}
+use Rattle.hier_flatten.specs.Fits.{range_at}
+use Rattle.hier_flatten.specs.Hierarchy.{Hierarchy, ends, cell, inner}
+
+-- a module at a path: what is before each name, the module's nets, and what each of them is in the flat netlist
+pub record Scope : Type 0 where
+  pub prefix : Text
+  pub nets : Nets
+  pub stands : List Wire
+
+-- the flat nets and instances so far, and how many instances of modules were met
+pub record Flat : Type 0 where
+  pub nets : Nets
+  pub instances : List Instance
+  pub entered : ℕ
+
+-- ---- connections
+
+abbrev pub or_open : Option Wire → Wire
+or_open None = wires.Open
+or_open (Some wire) = wire
+
+-- a bit of a flat net
+abbrev pub bit_of : ℕ → Option ℕ → Wire
+bit_of net None = wires.Open
+bit_of net (Some bit) = wires.Bit net bit
+
+-- the bit at a place of what a net is in the flat netlist
+abbrev pub bit_within : Nets → ℕ → Wire → Wire
+bit_within flat place (wires.Whole net) = bit_of net (bit_at (range_at net flat) place)
+bit_within flat place wire = wire
+
+-- what something is connected to in the flat netlist, by what it is connected to in a module with these nets
+abbrev pub flat_wire : Nets → Nets → List Wire → Wire → Wire
+flat_wire flat nets stands wires.Open = wires.Open
+flat_wire flat nets stands wires.Constant = wires.Constant
+flat_wire flat nets stands (wires.Bit decl bit) =
+    bit_within flat (place_in (range_at decl nets) bit) (or_open (slice_get stands decl))
+flat_wire flat nets stands (wires.Whole decl) = or_open (slice_get stands decl)
+
+abbrev pub flat_pins : Nets → Nets → List Wire → List (Text × Wire) → List (Text × Wire)
+flat_pins flat nets stands pins = map (λ p. (p.0, flat_wire flat nets stands p.1)) pins
+
+-- an instance of a cell
+abbrev pub flat_instance : Nets → Scope → Instance → Instance
+flat_instance flat s i = record {
+  cell = i.cell;
+  name = s.prefix ++ i.name;
+  line = i.line;
+  pins = flat_pins flat s.nets s.stands i.pins;
+}
+
+-- ---- an instance of a module
+
+-- what a net of the module is connected to outside, by the pins of the instance
+abbrev pub wire_of : Nets → Nets → List Wire → List (Text × Wire) → Text × Net → Wire
+wire_of flat nets stands pins net =
+    if is_directed net.1.role then flat_wire flat nets stands (or_open (value_of net.0 pins)) else wires.Open
+
+-- what a net is in the flat netlist: one without a connection is a net of its own, of the number `next`
+abbrev pub stand_of : ℕ → Wire → Wire
+stand_of next wires.Open = wires.Whole next
+stand_of next wire = wire
+
+abbrev pub next_after : ℕ → Wire → ℕ
+next_after next wires.Open = next + 1
+next_after next wire = next
+
+-- the same for nets one after another
+abbrev pub stands_from : ℕ → List Wire → List Wire
+stands_from next [] = []
+stands_from next (wire ∷ more) = stand_of next wire ∷ stands_from (next_after next wire) more
+
+-- a net of its own: its name is that of the path and its own, and it is no port
+abbrev pub own_of : Text → Text × Net → Wire → Nets
+own_of prefix net wires.Open = (prefix ++ net.0, record net.1 { role = Inner }) ∷ []
+own_of prefix net wire = []
+
+-- the nets without a connection
+abbrev pub own_nets : Text → Nets → List Wire → Nets
+own_nets prefix (net ∷ nets) (wire ∷ ws) = own_of prefix net wire ++ own_nets prefix nets ws
+own_nets prefix _ _ = []
+
+-- the names of a path are joined by `/`
+abbrev pub prefix_below : Text → Text → Text
+prefix_below prefix name = prefix ++ (name ++ 47 ∷ [])
+
+-- what the nets of the instance's module are connected to outside
+abbrev pub wires_below : Nets → Scope → Instance → Netlist → List Wire
+wires_below flat s i m = map (wire_of flat s.nets s.stands i.pins) m.nets
+
+-- the module at this instance
+abbrev pub scope_below : Nets → Scope → Instance → Netlist → Scope
+scope_below flat s i m = record {
+  prefix = prefix_below s.prefix i.name;
+  nets = m.nets;
+  stands = stands_from (length flat) (wires_below flat s i m);
+}
+
+-- its own nets go last
+abbrev pub entered_below : Flat → Scope → Instance → Netlist → Flat
+entered_below flat s i m = record flat {
+  nets = flat.nets ++ own_nets (prefix_below s.prefix i.name) m.nets (wires_below flat.nets s i m);
+  entered = flat.entered + 1;
+}
+
+-- ---- limits
+
+-- how many bits the nets have
+abbrev pub bits_in : Nets → ℕ
+bits_in [] = 0
+bits_in (net ∷ more) = width_of net.1.range + bits_in more
+
+-- the limit that is passed where a further instance of a module is met: it is counted, its nets are not yet
+unfoldable pub limit_of : Flat → Option LimitKind
+limit_of flat =
+    if nat_lt most_instances (length flat.instances + flat.entered + 1) then Some limits.Instances
+    else if nat_lt most_nets (bits_in flat.nets) then Some limits.Nets
+    else None
+
+-- what comes of an instance of a module, unless it passes a limit
+abbrev pub unless_passed : Option LimitKind → Result Flat LimitKind → Result Flat LimitKind
+unless_passed (Some what) more = Err what
+unless_passed None more = more
+
+-- ---- the flat netlist
+
+-- what is flat once these instances of a module at a path have been added, with all below them
+abbrev pub flat_below : Hierarchy → Scope → Flat → Result Flat LimitKind
+flat_below ends s flat = Ok flat
+flat_below (cell i more) s flat =
+    flat_below more s (record flat { instances = flat.instances ++ flat_instance flat.nets s i ∷ [] })
+flat_below (inner i m below more) s flat =
+    unless_passed (limit_of flat) (flat_below below (scope_below flat.nets s i m) (entered_below flat s i m))
+    >>= flat_below more s
+
+-- each net of the top is a net of its own
+abbrev pub top_scope : Netlist → Scope
+top_scope top = record {
+  prefix = [];
+  nets = top.nets;
+  stands = stands_from 0 (replicate (length top.nets) wires.Open);
+}
+
+abbrev pub at_top : Netlist → Flat
+at_top top = record { nets = top.nets; instances = []; entered = 0 }
+
+-- the flat netlist of the top with this below its instances
+unfoldable pub built : Netlist → Hierarchy → Result Flat LimitKind
+built top h = flat_below h (top_scope top) (at_top top)
+
+-- ---- what the code counts beside the flat netlist
+
+pub record IsCounted (nets : Nets) (met count : ℕ) : Type 0 where
+  pub bits : count ≡ bits_in nets
+  pub few : length nets < 2 ^ 32
+  pub most : count ≤ length nets * 2 ^ 32
+  pub entered : met ≤ most_instances
+
+-- the net of a number, where it has no connection
+abbrev pub own_at : Text → Option (Text × Net) → Option Wire → Nets
+own_at prefix (Some net) (Some wire) = own_of prefix net wire
+own_at prefix _ _ = []

@@ -1,0 +1,10 @@
+pub mod Places
+pub mod Tables
+pub mod Hierarchy
+pub mod Search
+pub mod Cells
+pub mod Fits
+pub mod Flat
+pub mod Names
+pub mod Walk
+pub mod Meaning

@@ -1,0 +1,240 @@
+//! What an instance adds to the flat netlist.
+
+ghost use Rattle.std.specs.Prelude.{◌≡◌, ◌+◌, ◌++◌, ◌∷◌, [], length, map, option_map, option_to_list, replicate, None};
+ghost use Rattle.std.specs.Prelude.{IfOk, OnOk};
+ghost use Rattle.std.specs.List.{slice_get};
+ghost use Rattle.hier_flatten.specs.Flat.{Flat, own_at, own_nets, stands_from, prefix_below, wire_of, flat_instance};
+ghost use Rattle.hier_flatten.specs.Flat.{limit_of, scope_below, entered_below, wires_below, at_top, top_scope};
+ghost use Rattle.hier_flatten.specs.Walk.{scope_of, IsEntered};
+ghost use Rattle.verilog_net.specs.declared.netlist.Wire.TheVariants.{Open};
+
+use crate::growing::Growing;
+use crate::wires::{flat_pins, pins_by_name, wires_of};
+use name_numbers::NameTable;
+use std::alloc::{AllocError, Global};
+use verilog_net::{Instance, Name, Net, Netlist, PortRole, Wire};
+use xt_model::Row;
+
+/// A module at a path whose instances are being added: its nets, those of its instances that are left, how many bytes
+/// of the path are before its names, and what each of its nets is in the flat netlist.
+#[derive(Drop)]
+pub struct Frame<'a> {
+    pub nets: &'a NameTable<Net>,
+    pub rest: &'a [Instance],
+    pub path: usize,
+    pub stands: Vec<Wire>,
+}
+
+/// A name below a path.
+fn name_below(alloc: Global, path: &mut Vec<u8>, name: &[u8]) -> Result<Name, AllocError>
+    ensures name { IfOk result (λ n. n ≡ path.old.items ++ name.now) }
+    ensures kept { OnOk result (path.new.items ≡ path.old.items) }
+{
+    let before = path.len();
+    path.extend_from_slice(name)?;
+    let below = Name::copied(alloc, path.as_slice())?;
+    path.truncate(before);
+    Ok(below)
+}
+
+/// An instance of a cell below a path.
+pub fn cell_below(
+    alloc: Global,
+    growing: &Growing,
+    path: &mut Vec<u8>,
+    frame: &Frame,
+    instance: &Instance,
+) -> Result<Instance, AllocError>
+    requires { length path.old.items ≡ frame.now.path }
+    ensures flat { let scope = scope_of path.old.items frame.now in
+        IfOk result (λ i. i ≡ flat_instance growing.now.nets scope instance.now) }
+    ensures kept { OnOk result (path.new.items ≡ path.old.items) }
+{
+    let cell = Name::copied(alloc, instance.cell.bytes())?;
+    let name = name_below(alloc, path, instance.name.bytes())?;
+    let pins = flat_pins(
+        alloc,
+        growing.nets(),
+        frame.nets,
+        frame.stands.as_slice(),
+        instance.pins.as_slice(),
+    )?;
+    Ok(Instance {
+        cell,
+        name,
+        line: instance.line,
+        pins: Row::from_vec(pins),
+    })
+}
+
+/// What nets are in the flat netlist, by what they are connected to: those without a connection are numbered on from
+/// `next`.
+fn stands_of(alloc: Global, next: u32, wires: &[Wire]) -> Result<Vec<Wire>, AllocError>
+    ensures { IfOk result (λ ws. ws.items ≡ stands_from next wires.now) }
+{
+    let mut stands = Vec::with_capacity(alloc, wires.len())?;
+    let mut next = next;
+    let mut rest = wires;
+    'wires: while let [wire, more @ ..] = rest {
+        match wire {
+            Wire::Open => {
+                stands.push(Wire::Whole { decl: next })?;
+                let Some(after) = next.checked_add(1) else {
+                    return Err(AllocError);
+                };
+                next = after;
+            }
+            wire => stands.push(*wire)?,
+        }
+        rest = more;
+    }
+    Ok(stands)
+}
+
+/// What the net of this number is connected to.
+fn wire_at(wires: &[Wire], number: u32) -> Option<Wire>
+    ensures { result ≡ slice_get wires.now number }
+{
+    wires.get(number as usize).copied()
+}
+
+/// Adds a net of a module at a path, if it has no connection.
+fn add_own(
+    alloc: Global,
+    growing: &mut Growing,
+    path: &mut Vec<u8>,
+    net: Option<(&[u8], &Net)>,
+    wire: Option<Wire>,
+) -> Result<(), AllocError>
+    ensures nets { OnOk result (growing.new ≡ record growing.old {
+      nets = growing.old.nets ++ own_at path.old.items (option_map (λ e. (e.0.now, e.1.now)) net.entry) wire;
+    }) }
+    ensures kept { OnOk result (path.new.items ≡ path.old.items) }
+{
+    let (Some((name, net)), Some(Wire::Open)) = (net, wire) else {
+        return Ok(());
+    };
+    let name = name_below(alloc, path, name)?;
+    growing.count_name(name.bytes().len())?;
+    growing.add_net(
+        name,
+        Net {
+            range: net.range,
+            role: PortRole::Inner,
+            declared: net.declared,
+        },
+    )
+}
+
+/// Adds the nets of a module at a path that have no connection.
+fn add_nets(
+    alloc: Global,
+    growing: &mut Growing,
+    path: &mut Vec<u8>,
+    nets: &NameTable<Net>,
+    wires: &[Wire],
+) -> Result<(), AllocError>
+    ensures nets { OnOk result (growing.new ≡ record growing.old {
+      nets = growing.old.nets ++ own_nets path.old.items nets.now wires.now;
+    }) }
+    ensures kept { OnOk result (path.new.items ≡ path.old.items) }
+{
+    for number in 0..nets.len() {
+        add_own(
+            alloc,
+            growing,
+            path,
+            nets.get(number),
+            wire_at(wires, number),
+        )?;
+    }
+    Ok(())
+}
+
+/// The module at an instance that is met; its own nets are added, and the path leads to it.
+pub fn enter<'a>(
+    alloc: Global,
+    growing: &mut Growing,
+    path: &mut Vec<u8>,
+    frame: &Frame<'a>,
+    instance: &'a Instance,
+    inner: &'a Netlist,
+) -> Result<Frame<'a>, AllocError>
+    requires path { length path.old.items ≡ frame.now.path }
+    requires limit { limit_of growing.old ≡ None }
+    ensures path { OnOk result (path.new.items ≡ prefix_below path.old.items instance.entry.now.name) }
+    ensures growing { OnOk result (growing.new
+        ≡ entered_below growing.old (scope_of path.old.items frame.now) instance.entry.now inner.entry.now) }
+    ensures frame { IfOk result (λ f. IsEntered growing.old.nets (scope_of path.old.items frame.now)
+        instance.entry.now inner.entry.now f) }
+{
+    growing.enter();
+    let pins = pins_by_name(alloc, frame.nets.key(), instance.pins.as_slice())?;
+    let wires = wires_of(
+        alloc,
+        growing.nets(),
+        frame.nets,
+        frame.stands.as_slice(),
+        &pins,
+        &inner.nets,
+    )?;
+    path.extend_from_slice(instance.name.bytes())?;
+    path.push(b'/')?;
+    let stands = stands_of(alloc, growing.count(), wires.as_slice())?;
+    add_nets(alloc, growing, path, &inner.nets, wires.as_slice())?;
+    Ok(Frame {
+        nets: &inner.nets,
+        rest: inner.instances.as_slice(),
+        path: path.len(),
+        stands,
+    })
+}
+
+/// Adds a net of the top.
+fn add_top_net(
+    alloc: Global,
+    growing: &mut Growing,
+    net: Option<(&[u8], &Net)>,
+) -> Result<(), AllocError>
+    ensures { OnOk result (growing.new ≡ record growing.old {
+      nets = growing.old.nets ++ option_to_list (option_map (λ e. (e.0.now, e.1.now)) net.entry);
+    }) }
+{
+    if let Some((name, net)) = net {
+        growing.add_net(Name::copied(alloc, name)?, *net)?;
+    }
+    Ok(())
+}
+
+/// Adds the nets of the top.
+fn add_top(alloc: Global, growing: &mut Growing, nets: &NameTable<Net>) -> Result<(), AllocError>
+    requires { growing.old.nets ≡ [] }
+    ensures { OnOk result (growing.new ≡ record growing.old { nets = nets.now }) }
+{
+    for number in 0..nets.len() {
+        add_top_net(alloc, growing, nets.get(number))?;
+    }
+    Ok(())
+}
+
+/// The top, each of whose nets is a net of its own.
+pub fn enter_top<'a>(
+    alloc: Global,
+    growing: &mut Growing,
+    top: &'a Netlist,
+) -> Result<Frame<'a>, AllocError>
+    requires { growing.old ≡ record { nets = []; instances = []; entered = 0 } }
+    ensures growing { OnOk result (growing.new ≡ at_top top.entry.now) }
+    ensures frame { IfOk result (λ f. (scope_of [] f ≡ top_scope top.entry.now) × (f.rest.now ≡ top.entry.now.instances)
+        × (f.path ≡ 0)) }
+{
+    let unconnected = vec![in alloc; Wire::Open; top.nets.len() as usize]?;
+    let stands = stands_of(alloc, 0, unconnected.as_slice())?;
+    add_top(alloc, growing, &top.nets)?;
+    Ok(Frame {
+        nets: &top.nets,
+        rest: top.instances.as_slice(),
+        path: 0,
+        stands,
+    })
+}

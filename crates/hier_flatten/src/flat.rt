@@ -1,0 +1,57 @@
+//! From the modules of a text to one flat netlist.
+
+ghost use Rattle.std.specs.Prelude.{◌≡◌};
+ghost use Rattle.hier_flatten.specs.Meaning.{FlatMeans, AnswersFlat};
+
+use crate::build::build;
+use crate::circle::contains_itself;
+use crate::fault::FlatFault;
+use crate::fits::misfit;
+use crate::index::Index;
+use crate::names::with_names;
+use crate::tops::top_of;
+use std::alloc::Global;
+use verilog_net::{Modules, Netlist};
+use xt_model::Code;
+
+/// The flat netlist of the modules of a text, whose last line is `last_line`: of the one module that no instance is
+/// of, with each instance of a module in the place of what is below it.
+///
+/// Its nets are those of the top, then for each instance of a module, in the order of the text, the flat nets of that
+/// instance. A port that is connected is no net of its own: it is what it is connected to, the bits of a bus from the
+/// left bound on. A port without a connection is an inner net. A name below the top is the names of the instances that
+/// lead to it and its own, joined by `/`. Ports are those of the top.
+///
+/// Refused are, in this order: `V7`, at an instance's line, a whole bus at an instance of a cell, and at an instance of
+/// a module a pin that is no port of the module, or a connection of another width; `V8`, at line 1, a module that
+/// contains itself at some depth; `V9`, at the last line, modules of which not exactly one is instanced by none; the
+/// limits of instances and nets, which are 262,144 of each (nets by bits), as each instance of a module is met; `V5`,
+/// at the last line, two nets, two bits or two instances with one name; `V1`, at the last line, a name of more than
+/// 1,024 bytes. Takes time linear in the modules and in the flat netlist, where an instance of a module counts with
+/// the declarations of the module and its own pins, and memory linear in the same.
+#[tactic(auto, unfolding(crate::specs::Meaning::FlatMeans))]
+pub fn flatten(alloc: Global, modules: &Modules, last_line: u32) -> Result<Netlist, FlatFault>
+    ensures { AnswersFlat result (FlatMeans modules.now.list last_line) }
+{
+    let index = Index::new(alloc, modules.list.as_slice())?;
+    if let Some(line) = misfit(&index) {
+        return Err(FlatFault::Refused {
+            line,
+            code: Code::V7,
+        });
+    }
+    if contains_itself(alloc, &index)? {
+        return Err(FlatFault::Refused {
+            line: 1,
+            code: Code::V8,
+        });
+    }
+    let Some(top) = top_of(alloc, &index)? else {
+        return Err(FlatFault::Refused {
+            line: last_line,
+            code: Code::V9,
+        });
+    };
+    let flat = build(alloc, &index, top)?;
+    with_names(alloc, top, flat, last_line)
+}

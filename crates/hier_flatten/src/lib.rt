@@ -1,0 +1,21 @@
+//! Netlists of several modules: from the modules of a text to one flat netlist.
+#![tactic(auto)]
+
+mod below;
+mod bits;
+mod build;
+mod circle;
+mod fault;
+mod fits;
+mod flat;
+mod growing;
+mod index;
+mod names;
+mod places;
+mod stack;
+mod tables;
+mod tops;
+mod wires;
+
+pub use fault::FlatFault;
+pub use flat::flatten;
