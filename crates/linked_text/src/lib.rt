@@ -25,5 +25,7 @@ mod writer;
 
 pub use design::{has_numbered_lines, read_linked, read_linked_text};
 pub use fault::LinkedFault;
+pub use field::quantity;
 pub use laws::{lines_are_counted, sound_texts_differ, texts_are_of_designs, texts_mean_one};
+pub use line::{four, three};
 pub use write::write_linked;

@@ -14,5 +14,6 @@ mod state;
 
 pub use name::Name;
 pub use netlist::{Instance, Modules, Net, Netlist, PortRole, Wire};
+pub use nets::named_bit;
 pub use port::PortFound;
 pub use read::{read_modules, read_netlist};

@@ -69,7 +69,7 @@ impl Name {
     }
 
     /// Another name of the same bytes. Those of a long name are kept once for both.
-    pub(crate) fn shared(&self) -> Result<Name, AllocError>
+    pub fn shared(&self) -> Result<Name, AllocError>
         ensures { IfOk result (λ n. n ≡ self.now) }
     {
         let bytes = match &self.bytes {
