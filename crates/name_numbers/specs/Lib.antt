@@ -1,2 +1,3 @@
+pub mod Eights
 pub mod Keys
 pub mod Names

@@ -1,6 +1,7 @@
 ghost use Rattle.std.specs.Prelude.{◌≡◌, List, ℕ, not, length, map, option_map, IfOk, OnOk, OnErr};
 ghost use Rattle.name_numbers.specs.Names.{found, has_name, number_of, value_of, with_name, with_value};
 
+use crate::bytes::NameBytes;
 use crate::key::TextKey;
 use indexmap::{IndexMap, IndexSet};
 use std::alloc::{AllocError, Global};
@@ -10,13 +11,13 @@ use std::marker::Model;
 /// number: how many names were seen before it. A look-up is by hash under a `TextKey`, and takes no memory.
 #[derive(Drop)]
 pub struct Names<'a> {
-    set: IndexSet<&'a [u8], TextKey>,
+    set: IndexSet<NameBytes<'a>, TextKey>,
 }
 
 impl<'a> Model for Names<'a> {
     ghost Value = { List (List ℕ) };
 
-    ghost view = { λ n. map (λ k. k.now) n.set.keys };
+    ghost view = { λ n. map (λ k. k.bytes.now) n.set.keys };
 }
 
 impl<'a> Names<'a> {
@@ -38,7 +39,7 @@ impl<'a> Names<'a> {
         ensures entered { OnOk result (self.new ≡ with_name name.entry.now self.old) }
         ensures unchanged { OnErr result (self.new ≡ self.old) }
     {
-        Ok(self.set.insert_full(name)?)
+        Ok(self.set.insert_full(NameBytes { bytes: name })?)
     }
 
     /// Forgets the names. Those that are seen from now on are numbered from 0 again, in the memory of these.
@@ -59,13 +60,13 @@ impl<'a> Names<'a> {
 /// Values by name, in the order in which the names were first seen; contracts see the list of names with their values.
 #[derive(Drop)]
 pub struct Named<'a, V> {
-    table: IndexMap<&'a [u8], V, TextKey>,
+    table: IndexMap<NameBytes<'a>, V, TextKey>,
 }
 
 impl<'a, V> Model for Named<'a, V> {
     ghost Value = { List (List ℕ × V) };
 
-    ghost view = { λ n. map (λ e. (e.0.now, e.1)) n.table.entries };
+    ghost view = { λ n. map (λ e. (e.0.bytes.now, e.1)) n.table.entries };
 }
 
 impl<'a, V: Drop> Named<'a, V> {
@@ -84,7 +85,7 @@ impl<'a, V: Drop> Named<'a, V> {
     pub fn find(&self, name: &'a [u8]) -> Option<(usize, &V)>
         ensures { option_map (λ f. (f.0, f.1.now)) result ≡ found name.entry.now self.now }
     {
-        match self.table.get_full(name) {
+        match self.table.get_full(&NameBytes { bytes: name }) {
             None => None,
             Some((number, _, value)) => Some((number, value)),
         }
@@ -95,7 +96,7 @@ impl<'a, V: Drop> Named<'a, V> {
         ensures given { OnOk result (self.new ≡ with_value name.entry.now value self.old) }
         ensures unchanged { OnErr result (self.new ≡ self.old) }
     {
-        self.table.insert(name, value)?;
+        self.table.insert(NameBytes { bytes: name }, value)?;
         Ok(())
     }
 
@@ -104,14 +105,14 @@ impl<'a, V: Drop> Named<'a, V> {
         ensures given { OnOk result (self.new ≡ with_value name.entry.now value self.old) }
         ensures old { IfOk result (λ o. o ≡ value_of name.entry.now self.old) }
     {
-        Ok(self.table.insert(name, value)?)
+        Ok(self.table.insert(NameBytes { bytes: name }, value)?)
     }
 
     /// The value of a name, where it has one. It takes no memory.
     pub fn get(&self, name: &'a [u8]) -> Option<&V>
         ensures { option_map (λ v. v.now) result ≡ value_of name.entry.now self.now }
     {
-        self.table.get(name)
+        self.table.get(&NameBytes { bytes: name })
     }
 
     /// How many names there are.

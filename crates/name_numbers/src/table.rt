@@ -1,6 +1,7 @@
 ghost use Rattle.std.specs.Prelude.{◌≡◌, ◌<◌, ◌^◌, List, ℕ, length, map, option_map, OnOk, OnErr};
 ghost use Rattle.name_numbers.specs.Names.{found, with_value};
 
+use crate::bytes::{NameBytes, OwnedName};
 use crate::key::TextKey;
 use indexmap::IndexMap;
 use std::alloc::{AllocError, Global};
@@ -14,13 +15,13 @@ const MOST_NAMES: usize = 4_294_967_295;
 /// for a further one.
 #[derive(Drop)]
 pub struct NameTable<V> {
-    table: IndexMap<Vec<u8>, V, TextKey>,
+    table: IndexMap<OwnedName, V, TextKey>,
 }
 
 impl<V> Model for NameTable<V> {
     ghost Value = { List (List ℕ × V) };
 
-    ghost view = { λ n. map (λ e. (e.0.items, e.1)) n.table.entries };
+    ghost view = { λ n. map (λ e. (e.0.bytes.items, e.1)) n.table.entries };
 
     ghost invariant = { λ n. length n.table.entries < 2 ^ 32 };
 }
@@ -42,7 +43,7 @@ impl<V: Drop> NameTable<V> {
     pub fn find(&self, name: &[u8]) -> Option<(u32, &V)>
         ensures { option_map (λ f. (f.0, f.1.now)) result ≡ found name.now self.now }
     {
-        match self.table.get_full(name) {
+        match self.table.get_full(NameBytes { bytes: name }) {
             None => None,
             Some((number, _, value)) => Some((number as u32, value)),
         }
@@ -54,7 +55,7 @@ impl<V: Drop> NameTable<V> {
     {
         match self.table.get_index(number as usize) {
             None => None,
-            Some((name, value)) => Some((name.as_slice(), value)),
+            Some((name, value)) => Some((name.bytes.as_slice(), value)),
         }
     }
 
@@ -66,7 +67,9 @@ impl<V: Drop> NameTable<V> {
         if self.table.len() >= MOST_NAMES {
             return Err(AllocError);
         }
-        let kept = Vec::from_slice(alloc, name)?;
+        let kept = OwnedName {
+            bytes: Vec::from_slice(alloc, name)?,
+        };
         self.table.insert(kept, value)?;
         Ok(())
     }

@@ -1,30 +1,44 @@
 -- Names cut at different places, and what is hashed of names in two parts.
-use Rattle.std.specs.Prelude.{◌≡◌, refl, ℕ, Bool, true, false, ◌&&◌, ◌==◌, ◌≢◌, List, [], ◌∷◌, ◌++◌, length}
-use Rattle.std.specs.Hash as fed
-use Rattle.std.specs.List.{flat_map, fold}
+use Rattle.std.specs.Prelude.{◌≡◌, ◌+◌, ◌<◌, refl, ℕ, Bool, true, false, ◌&&◌, ◌==◌, ◌≢◌, List, [], ◌∷◌, ◌++◌, length}
+use Rattle.std.specs.List.{fold}
 use Rattle.std.specs.Str.{bytes_eq}
 use Rattle.std.proofs.Common.{sym, ap, ◌∙◌, arith, append_assoc}
 use Rattle.std.specs.Bool.{one_answer}
 use Rattle.std.proofs.lemmas.Bool.{false≢true}
+use Rattle.std.proofs.lemmas.Bool.Decides.{nat_tests}
 use Rattle.std.proofs.lemmas.Slice.Eq.{bytes_eq-Decides}
-use Rattle.std.proofs.lemmas.List.Sums.{fold-append}
-use Rattle.std.proofs.lemmas.Grind.{flat_map-append}
+use Rattle.std.proofs.lemmas.List.{length-append}
+use Rattle.name_numbers.specs.Eights.{eights}
 use Rattle.name_numbers.specs.Names.{Text}
-use Rattle.name_parts.specs.Parts.{writes_of}
+use Rattle.name_numbers.proofs.EightLaws.{eight_first, fewer}
 
--- what is written of a name in two parts, after how many bytes it has, is what is written of all its bytes
-pub written_twice : {S : Type 0} (write : S → List ℕ → S) (old counted first both : S) (a b : Text) (n : ℕ)
-    → n ≡ length (a ++ b) → counted ≡ fold write old (fed.usize n)
-    → first ≡ fold write counted (flat_map fed.u8 a) → both ≡ fold write first (flat_map fed.u8 b)
-    → both ≡ fold write old (writes_of (a ++ b))
-written_twice write old counted first both a b n count one two three =
-    let begun = one ∙ ap (λ k. fold write old (fed.usize k)) count in
-    let start = fold write old (fed.usize (length (a ++ b))) in
-    three
-    ∙ ap (λ s. fold write s (flat_map fed.u8 b)) (two ∙ ap (λ s. fold write s (flat_map fed.u8 a)) begun)
-    ∙ sym (fold-append write start (flat_map fed.u8 a) (flat_map fed.u8 b))
-    ∙ ap (fold write start) (sym (flat_map-append fed.u8 a b))
-    ∙ sym (fold-append write old (fed.usize (length (a ++ b))) (flat_map fed.u8 (a ++ b)))
+-- fewer than eight bytes in two slices are written at once
+pub all_at_once : {S : Type 0} (write : S → List ℕ → S) (old end : S) (left rest both : Text) → length left + length rest < 8
+    → both ≡ left ++ rest → end ≡ write old both → end ≡ fold write old (eights (left ++ rest))
+all_at_once write old end left rest both n one step =
+    let few : length (left ++ rest) < 8 = omega (arith, n, length-append left rest) in
+    step ∙ ap (write old) one ∙ sym (ap (fold write old) (fewer (left ++ rest) few))
+
+-- eight bytes across the end of a slice, and what comes after them
+pub after_eight : {S : Type 0} (write : S → List ℕ → S) (old here end : S) (left rest front more both : Text)
+    → rest ≡ front ++ more → length left + length front ≡ 8 → both ≡ left ++ front → here ≡ write old both
+    → end ≡ fold write here (eights more) → end ≡ fold write old (eights (left ++ rest))
+after_eight write old here end left rest front more both cut n one step last =
+    let eight : length (left ++ front) ≡ 8 = omega (arith, n, length-append left front) in
+    last
+    ∙ ap (λ s. fold write s (eights more)) (step ∙ ap (write old) one)
+    ∙ sym (ap (fold write old) (eight_first (left ++ front) more eight))
+    ∙ ap (λ r. fold write old (eights r)) (append_assoc left front more)
+    ∙ sym (ap (λ r. fold write old (eights (left ++ r))) cut)
+
+-- where nothing is left of the first slice, the second is written as if it were alone
+pub none_left : {S : Type 0} (write : S → List ℕ → S) (old here end : S) (prefix rest left : Text) → (length left == 0) ≡ true
+    → ((more : List ℕ) → fold write old (eights (prefix ++ more)) ≡ fold write here (eights (left ++ more)))
+    → end ≡ fold write here (eights rest) → end ≡ fold write old (eights (prefix ++ rest))
+none_left write old here end prefix rest [] none h last = last ∙ sym (h rest)
+none_left write old here end prefix rest (x ∷ left) none h last =
+    let empty : length (x ∷ left) ≡ 0 = grind (arith, nat_tests) in
+    absurd (omega (arith, empty))
 
 both_tests : (a b c : Bool) → (a && (b && c)) ≡ ((a && b) && c)
 both_tests true b c = refl

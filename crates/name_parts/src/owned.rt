@@ -4,7 +4,7 @@ ghost use Rattle.std.specs.Prelude.{◌≡◌};
 ghost use Rattle.std.specs.Cmp.Lexicographic.{nat_list_eq_equiv};
 ghost use Rattle.std.specs.Cmp.{partial_equiv_from_equiv};
 ghost use Rattle.std.specs.Str.{bytes_eq};
-ghost use Rattle.name_parts.specs.Parts.{writes_of, same_writes};
+ghost use Rattle.name_numbers.specs.Eights.{eights, same_eights};
 
 use crate::parts::NameParts;
 use crate::prefix::Prefix;
@@ -115,9 +115,9 @@ impl Eq for PrefixedName {
 }
 
 impl Hash for PrefixedName {
-    ghost hash_input = { writes_of };
+    ghost hash_input = { eights };
 
-    ghost respects_eq = { same_writes };
+    ghost respects_eq = { same_eights };
 
     fn hash<H: Hasher>(&self, state: &mut H) {
         self.parts().hash(state);

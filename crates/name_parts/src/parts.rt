@@ -1,11 +1,15 @@
 //! Names in two slices.
 
-ghost use Rattle.std.specs.Prelude.{◌≡◌, ◌≤◌, ◌++◌, OnOk, IfOk, length};
+ghost use Rattle.std.specs.Prelude.{◌≡◌, ◌+◌, ◌<◌, ◌≤◌, ◌++◌, OnOk, IfOk, length};
 ghost use Rattle.std.specs.Cmp.Lexicographic.{nat_list_eq_equiv};
 ghost use Rattle.std.specs.Cmp.{partial_equiv_from_equiv, on_per, on_equiv};
+ghost use Rattle.std.specs.List.{fold};
 ghost use Rattle.std.specs.Str.{bytes_eq};
-ghost use Rattle.name_parts.specs.Parts.{whole, writes_of, same_writes};
+ghost use Rattle.name_numbers.specs.Eights.{eights, same_eights};
+ghost use Rattle.name_parts.specs.Parts.{whole};
 
+use arrayvec::ArrayVec;
+use name_numbers::write_eights;
 use std::alloc::{AllocError, Global};
 use std::hash::{Hash, Hasher};
 
@@ -27,6 +31,32 @@ fn same_from(prefix: &[u8], rest: &[u8], longer: &[u8], last: &[u8]) -> bool
     let (front, behind) = longer.split_at(prefix.len());
     let (middle, end) = rest.split_at(behind.len());
     prefix == front && (middle == behind && end == last)
+}
+
+/// The bytes of two slices, eight at most, in one.
+fn joined(first: &[u8], second: &[u8]) -> ArrayVec<u8, 8>
+    requires { length first.now + length second.now ≤ 8 }
+    ensures { result.items ≡ first.now ++ second.now }
+{
+    let mut bytes = ArrayVec::new();
+    bytes.try_extend_from_slice(first).unwrap();
+    bytes.try_extend_from_slice(second).unwrap();
+    bytes
+}
+
+/// Writes to a hash what is left of a name where its first slice ends, fewer than eight bytes, and its other slice.
+fn write_across<H: Hasher>(left: &[u8], rest: &[u8], state: &mut H)
+    requires { length left.now < 8 }
+    ensures { state.new ≡ fold H.write state.old (eights (left.now ++ rest.now)) }
+{
+    if left.len() + rest.len() < 8 {
+        state.write(joined(left, rest).as_slice());
+        return;
+    }
+    let (front, more) = rest.split_at(8 - left.len());
+    state.write(joined(left, front).as_slice());
+    let end = write_eights(more, state);
+    state.write(end);
 }
 
 impl<'a> NameParts<'a> {
@@ -90,13 +120,17 @@ impl<'a> Eq for NameParts<'a> {
 }
 
 impl<'a> Hash for NameParts<'a> {
-    ghost hash_input = { λ x. writes_of (whole x) };
+    ghost hash_input = { λ x. eights (whole x) };
 
-    ghost respects_eq = { λ x y. same_writes (whole x) (whole y) };
+    ghost respects_eq = { λ x y. same_eights (whole x) (whole y) };
 
     fn hash<H: Hasher>(&self, state: &mut H) {
-        state.write_usize(self.prefix.len() + self.rest.len());
-        Hash::hash_slice(self.prefix, state);
-        Hash::hash_slice(self.rest, state);
+        let left = write_eights(self.prefix, state);
+        if left.is_empty() {
+            let end = write_eights(self.rest, state);
+            state.write(end);
+        } else {
+            write_across(left, self.rest, state);
+        }
     }
 }

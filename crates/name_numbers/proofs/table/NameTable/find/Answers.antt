@@ -4,10 +4,10 @@ use Rattle.name_numbers.proofs.table.NameTable.find.Goals as goal
 
 pub returns-in-None : goal.returns-in-None
 returns-in-None g c =
-    let k = not_found (λ k. k.items) c.args.name.now c.self.inside.table.entries (sym c.in-None.ensures.index) in
+    let k = not_found (λ k. k.bytes.items) c.args.name.now c.self.inside.table.entries (sym c.in-None.ensures.index) in
     sym k ∙ rw c.self.view_is refl
 
 pub returns-in-Some : goal.returns-in-Some
 returns-in-Some g c =
-    let k = found_at (λ k. k.items) c.args.name.now c.self.inside.table.entries _ _ _ (sym c.in-Some.ensures.index) c.in-Some.ensures.entry in
+    let k = found_at (λ k. k.bytes.items) c.args.name.now c.self.inside.table.entries _ _ _ (sym c.in-Some.ensures.index) c.in-Some.ensures.entry in
     sym k ∙ rw c.self.view_is refl

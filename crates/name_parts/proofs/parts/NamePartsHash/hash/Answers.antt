@@ -1,9 +1,11 @@
 use Rattle.std.proofs.Common.{sym, ◌∙◌}
-use Rattle.std.proofs.lemmas.List.{length-append}
-use Rattle.name_parts.proofs.PartLaws.{written_twice}
+use Rattle.name_numbers.proofs.EightLaws.{all_written}
+use Rattle.name_parts.proofs.PartLaws.{none_left}
 use Rattle.name_parts.proofs.parts.NamePartsHash.hash.Goals as goal
 
-pub returns : goal.returns
-returns g c = written_twice g.H.Hasher.write c.args.state.now c.write_usize.new.self c.hash_slice.new.state c.hash_slice-2.new.state
-    c.args.self.now.prefix.now c.args.self.now.rest.now _ (sym (length-append c.args.self.now.prefix.now c.args.self.now.rest.now))
-    c.write_usize.ensures c.hash_slice.ensures c.hash_slice-2.ensures
+pub returns-then-is_empty : goal.returns-then-is_empty
+returns-then-is_empty g c =
+    none_left g.H.Hasher.write c.args.state.now c.write_eights-left.new.state c.write.new.self c.args.self.now.prefix.now c.args.self.now.rest.now
+    c.write_eights-left.result.now (sym c.is_empty.ensures ∙ c.if-is_empty.true) c.write_eights-left.ensures.written
+    (all_written g.H.Hasher.write c.write_eights-left.new.state c.write_eights-end.new.state c.write.new.self c.args.self.now.rest.now c.write_eights-end.result.now
+    c.write_eights-end.ensures.few c.write_eights-end.ensures.written c.write.ensures)
