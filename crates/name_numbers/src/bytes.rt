@@ -8,6 +8,7 @@ ghost use Rattle.std.specs.Str.{bytes_eq};
 ghost use Rattle.name_numbers.specs.Eights.{eights, same_eights};
 
 use indexmap::Equivalent;
+use smallvec::SmallVec;
 use std::hash::{Hash, Hasher};
 
 /// Writes bytes to a hash eight at a time. What is left, fewer than eight, is for the caller to write: as it is where
@@ -57,10 +58,10 @@ impl<'a> Hash for NameBytes<'a> {
     }
 }
 
-/// A name with bytes of its own, which are hashed as `NameBytes` are.
+/// A name with bytes of its own, which are hashed as `NameBytes` are. One of at most 16 bytes takes no block of memory.
 #[derive(Drop)]
 pub struct OwnedName {
-    pub(crate) bytes: Vec<u8>,
+    pub(crate) bytes: SmallVec<u8, 16>,
 }
 
 impl PartialEq for OwnedName {

@@ -4,6 +4,7 @@ ghost use Rattle.name_numbers.specs.Names.{found, with_value};
 use crate::bytes::{NameBytes, OwnedName};
 use crate::key::TextKey;
 use indexmap::IndexMap;
+use smallvec::SmallVec;
 use std::alloc::{AllocError, Global};
 use std::marker::Model;
 
@@ -68,7 +69,7 @@ impl<V: Drop> NameTable<V> {
             return Err(AllocError);
         }
         let kept = OwnedName {
-            bytes: Vec::from_slice(alloc, name)?,
+            bytes: SmallVec::from_slice(alloc, name)?,
         };
         self.table.insert(kept, value)?;
         Ok(())

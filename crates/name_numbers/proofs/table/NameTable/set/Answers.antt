@@ -5,4 +5,4 @@ use Rattle.name_numbers.proofs.table.NameTable.set.Goals as goal
 pub returns-clause-given : goal.returns-clause-given
 returns-clause-given g c =
     let k = ap (map (named (λ k. k.bytes.items))) c.in_ok-insert.ensures.entries ∙ value_mapped (λ k. k.bytes.items) c.self.inside.table.entries _ c.args.value in
-    k ∙ rw (c.in_ok-from_slice.ensures.items, c.self.view_is) refl
+    k ∙ rw (c.in_ok-from_slice.ensures.ok, c.self.view_is) refl
