@@ -1,4 +1,3 @@
-pub mod Numbers
 pub mod SliceLaws
 pub mod TableLaws
 pub mod IndexLaws

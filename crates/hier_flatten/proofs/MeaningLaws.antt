@@ -31,6 +31,11 @@ only_has P [] top h e = absurd (cc)
 only_has P (m ∷ []) top h e = let same : m ≡ top = cc in rw same at h.0
 only_has P (m ∷ n ∷ ms) top h e = absurd (cc)
 
+-- the top is one of the modules
+pub top_has : (P : Netlist → Type 0) (ms : List Netlist) (top : Netlist) → AllByRecursion P ms → top_of ms ≡ Some top → P top
+unfolding top_of
+top_has P ms top h e = only_has P (tops ms) top (kept P (λ m. not (is_instanced ms m.«module»)) ms h) e
+
 module _ (modules : List Netlist) (last : ℕ) where
   pub misfit_means : (line : ℕ) → misfit modules ≡ Some line → FlatMeans modules last (Err (faults.Refused line V7))
   unfolding FlatMeans
@@ -53,11 +58,8 @@ module _ (modules : List Netlist) (last : ℕ) where
 
   -- the top has an end below it
   pub top_finite : (top : Netlist) → ((number : ℕ) → IsFinite modules number) → top_of modules ≡ Some top → HasHierarchy modules top.instances
-  unfolding top_of
   top_finite top ends one =
-      only_has (λ m. HasHierarchy modules m.instances) (tops modules) top
-      (kept (λ m. HasHierarchy modules m.instances) (λ m. not (is_instanced modules m.«module»)) modules
-      (each_by (λ m. HasHierarchy modules m.instances) modules (λ n m there. ends n m there))) one
+      top_has (λ m. HasHierarchy modules m.instances) modules top (each_by (λ m. HasHierarchy modules m.instances) modules (λ n m there. ends n m there)) one
 
   module _ (top : Netlist) (e : misfit modules ≡ None) (ends : (number : ℕ) → IsFinite modules number) (one : top_of modules ≡ Some top) where
     pub fails_mean : (fault : FlatFault) → Fails modules top (built top) fault → AnswersFlat (Err fault) (FlatMeans modules last)

@@ -43,7 +43,7 @@ repeated_push (n ∷ names) name =
     turn false true false d = refl
     turn false false c d = refl
 
--- equal names stay equal with others behind them
+-- equal names stay equal with others after them
 or_true : (a b : Bool) → b ≡ true → (a || b) ≡ true
 or_true true b h = refl
 or_true false b h = h

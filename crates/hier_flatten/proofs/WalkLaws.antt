@@ -133,16 +133,6 @@ module _ (modules : List Netlist) (f : Frame) (fs : List Frame) (path : Text) (f
                 ∙ ap (λ s. flat_below is.more s (record flat { instances = flat.instances ++ c ∷ [] }) >>= rest_flat hs fs path) (sym scope)),
           )
 
-  -- an instance of a module that passes a limit
-  pub passes : (i : Instance) (m : Netlist) (is : List Instance) (what : LimitKind) → f.rest.now ≡ i ∷ is
-      → module_of modules i.cell ≡ Some m → limit_of flat ≡ Some what → Passes modules (f ∷ fs) path flat (faults.Limit what)
-  passes i m is what rest e limit [] a = absurd a
-  passes i m is what rest e limit (h ∷ hs) a =
-      let inside = inner_is modules i m is h e (subst (λ t. IsHierarchy modules t h) rest a.0) in
-      ap (λ k. flat_below k (scope_of path f) flat >>= rest_flat hs fs path) inside.whole
-      ∙ ap (λ l. (unless_passed l (flat_below inside.below (scope_below flat.nets (scope_of path f) i m) (entered_below flat (scope_of path f) i m))
-      >>= flat_below inside.more (scope_of path f)) >>= rest_flat hs fs path) limit
-
   module _ (g b : Frame) (i : Instance) (m : Netlist) (rest : f.rest.now ≡ i ∷ g.rest.now) (e : module_of modules i.cell ≡ Some m)
       (same : g.path ≡ f.path) (nets : g.nets.now ≡ f.nets.now) (stands : g.stands.items ≡ f.stands.items) (limit : limit_of flat ≡ None)
       (len : length path ≡ f.path) (nested : AreNested f.path fs) (made : IsEntered flat.nets (scope_of path f) i m b) where
@@ -293,11 +283,6 @@ module _ (modules : List Netlist) (f : Frame) (fs : List Frame) (path : Text) (f
       let less : work modules end (g ∷ fs) < work modules flat (f ∷ fs) = less_celled modules flat f fs g i c first in
       rw (pushed, kept, grown) (comes, less)
 
-  pub cell_nested : (new : List Frame) (path' : Text) → AreNested f.path fs → length path ≡ f.path → new ≡ g ∷ fs → path' ≡ path → AreNested (length path') new
-  cell_nested new path' nested len pushed kept =
-      let whole : AreNested (length path) (g ∷ fs) = (omega (arith, len, same), subst (λ k. AreNested k fs) (sym same) nested) in
-      rw (pushed, kept) whole
-
   pub enter_turn : (b : Frame) (m : Netlist) (one new : List Frame) (path' : Text) (flat' : Flat) → module_of modules i.cell ≡ Some m → limit_of flat ≡ None
       → length path ≡ f.path → AreNested f.path fs → IsEntered flat.nets (scope_of path f) i m b → one ≡ g ∷ fs → new ≡ b ∷ one
       → path' ≡ prefix_below path i.name → flat' ≡ entered_below flat (scope_of path f) i m
@@ -312,10 +297,6 @@ module _ (modules : List Netlist) (f : Frame) (fs : List Frame) (path : Text) (f
       less_entered modules flat f fs g b i m end.nets first made.rest e (within flat limit) in
       let all : new ≡ b ∷ g ∷ fs = then_pushed ∙ ap (λ t. b ∷ t) pushed in
       rw (all, way, grown) (comes, order, less)
-
-  pub limit_turn : (m : Netlist) (what : LimitKind) → module_of modules i.cell ≡ Some m → limit_of flat ≡ Some what
-      → Passes modules (f ∷ fs) path flat (faults.Limit what)
-  limit_turn m what e limit = passes modules f fs path flat i m g.rest.now what first e limit
 
 pub walk_begun : (modules : List Netlist) (top : Netlist) (f : Frame) (stack new : List Frame) (path : Text) (flat : Flat) → HasHierarchy modules top.instances
     → (scope_of [] f ≡ top_scope top) × (f.rest.now ≡ top.instances) × (f.path ≡ 0) → stack ≡ [] → new ≡ f ∷ stack → path ≡ [] → flat ≡ at_top top

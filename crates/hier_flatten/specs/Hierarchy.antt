@@ -56,7 +56,7 @@ pub record Contains (modules : List Netlist) (a b : ℕ) : Type 0 where
   pub among : holder.instances ≡ before ++ instance ∷ after
   pub named : module_number modules instance.cell ≡ Some b
 
--- module b is so many steps below module a
+-- module b is this many steps below module a
 abbrev pub IsBelow : List Netlist → ℕ → ℕ → ℕ → Type 0
 IsBelow modules zero a b = a ≡ b
 IsBelow modules (suc steps) a b = (c : ℕ) × IsBelow modules steps a c × Contains modules c b

@@ -1,12 +1,11 @@
 //! What an instance adds to the flat netlist.
 
-ghost use Rattle.std.specs.Prelude.{◌≡◌, ◌+◌, ◌++◌, ◌∷◌, [], length, map, option_map, option_to_list, replicate, None};
+ghost use Rattle.std.specs.Prelude.{◌≡◌, ◌++◌, [], length, option_map, option_to_list, None};
 ghost use Rattle.std.specs.Prelude.{IfOk, OnOk};
 ghost use Rattle.std.specs.List.{slice_get};
-ghost use Rattle.hier_flatten.specs.Flat.{Flat, own_at, own_nets, stands_from, prefix_below, wire_of, flat_instance};
-ghost use Rattle.hier_flatten.specs.Flat.{limit_of, scope_below, entered_below, wires_below, at_top, top_scope};
+ghost use Rattle.hier_flatten.specs.Flat.{own_at, own_nets, stands_from, prefix_below, flat_instance};
+ghost use Rattle.hier_flatten.specs.Flat.{limit_of, entered_below, at_top, top_scope};
 ghost use Rattle.hier_flatten.specs.Walk.{scope_of, IsEntered};
-ghost use Rattle.verilog_net.specs.declared.netlist.Wire.TheVariants.{Open};
 
 use crate::growing::Growing;
 use crate::wires::{flat_pins, pins_by_name, wires_of};
@@ -50,7 +49,7 @@ pub fn cell_below(
         IfOk result (λ i. i ≡ flat_instance growing.now.nets scope instance.now) }
     ensures kept { OnOk result (path.new.items ≡ path.old.items) }
 {
-    let cell = Name::copied(alloc, instance.cell.bytes())?;
+    let cell = instance.cell.shared()?;
     let name = name_below(alloc, path, instance.name.bytes())?;
     let pins = flat_pins(
         alloc,

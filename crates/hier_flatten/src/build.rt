@@ -1,7 +1,7 @@
 //! The flat netlist of the top, one instance after another.
 
-ghost use Rattle.std.specs.Prelude.{◌≡◌, ℕ, ◌<◌, ◌∷◌, [], length, Ok, IfOk, IfErr, OnOk};
-ghost use Rattle.hier_flatten.specs.Hierarchy.{IsFinite, HasHierarchy};
+ghost use Rattle.std.specs.Prelude.{◌≡◌, ◌<◌, ◌∷◌, length, Ok, IfOk, IfErr, OnOk};
+ghost use Rattle.hier_flatten.specs.Hierarchy.{HasHierarchy};
 ghost use Rattle.hier_flatten.specs.Flat.{built};
 ghost use Rattle.hier_flatten.specs.Walk.{AreNested, Comes, Passes, Builds, Fails, work};
 

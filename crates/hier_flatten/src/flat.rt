@@ -1,6 +1,5 @@
 //! From the modules of a text to one flat netlist.
 
-ghost use Rattle.std.specs.Prelude.{◌≡◌};
 ghost use Rattle.hier_flatten.specs.Meaning.{FlatMeans, AnswersFlat};
 
 use crate::build::build;

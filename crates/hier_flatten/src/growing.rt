@@ -1,6 +1,6 @@
 //! The flat netlist as far as it is built.
 
-ghost use Rattle.std.specs.Prelude.{◌≡◌, ◌++◌, ◌+◌, ◌∷◌, [], length, IfOk, OnOk, None};
+ghost use Rattle.std.specs.Prelude.{◌≡◌, ◌++◌, ◌+◌, ◌∷◌, [], length, OnOk, None};
 ghost use Rattle.hier_flatten.specs.Flat.{limit_of};
 
 use crate::places::width_of;

@@ -1,8 +1,7 @@
 //! Modules by their names.
 
-ghost use Rattle.std.specs.Prelude.{◌≡◌, ℕ, ◌<◌, [], length, option_map, IfOk, IfSome, OnOk};
+ghost use Rattle.std.specs.Prelude.{◌≡◌, ◌<◌, [], length, option_map, IfOk, IfSome, OnOk};
 ghost use Rattle.std.specs.List.{slice_get};
-ghost use Rattle.name_numbers.specs.Names.{Text, value_of};
 ghost use Rattle.hier_flatten.specs.Hierarchy.{numbered, module_number, module_of};
 ghost use Rattle.hier_flatten.specs.Tables.{IsTableOf};
 

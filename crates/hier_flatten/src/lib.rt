@@ -2,7 +2,6 @@
 #![tactic(auto)]
 
 mod below;
-mod bits;
 mod build;
 mod circle;
 mod fault;

@@ -6,12 +6,11 @@ ghost use Rattle.hier_flatten.specs.Names.{is_repeated, has_bit_name, is_long, h
 ghost use Rattle.hier_flatten.specs.Names.{IsTabled, IsDistinct};
 ghost use Rattle.hier_flatten.specs.Meaning.{named, AnswersFlat};
 
-use crate::bits::named_bit;
 use crate::fault::FlatFault;
 use crate::growing::Growing;
 use name_numbers::{NameTable, Names, TextKey};
 use std::alloc::{AllocError, Global};
-use verilog_net::{Instance, Name, Net, Netlist};
+use verilog_net::{Instance, Name, Net, Netlist, named_bit};
 use xt_model::limits::MOST_TEXT_NAME;
 use xt_model::{Code, Row};
 
@@ -156,7 +155,7 @@ pub fn with_names(
         });
     }
     Ok(Netlist {
-        module: Name::copied(alloc, top.module.bytes())?,
+        module: top.module.shared()?,
         nets: table,
         instances: Row::from_vec(instances),
     })

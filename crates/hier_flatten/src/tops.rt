@@ -1,8 +1,7 @@
 //! The one module that no instance is of.
 
-ghost use Rattle.std.specs.Prelude.{◌≡◌, [], is_some, ◌||◌, option_map, IfOk, OnOk};
-ghost use Rattle.name_numbers.specs.Names.{Text, value_of};
-ghost use Rattle.hier_flatten.specs.Hierarchy.{is_instanced, top_of};
+ghost use Rattle.std.specs.Prelude.{◌≡◌, [], is_some, option_map, IfOk, OnOk};
+ghost use Rattle.hier_flatten.specs.Hierarchy.{top_of};
 ghost use Rattle.hier_flatten.specs.Cells.{AreCells, HasCells};
 
 use crate::index::Index;

@@ -77,7 +77,7 @@ pub fn flat_pins(
     let mut rest = pins;
     'pins: while let [pin, more @ ..] = rest {
         let (name, wire) = pin;
-        let name = Name::copied(alloc, name.bytes())?;
+        let name = name.shared()?;
         connected.push((name, flat_wire(flat, nets, stands, *wire)))?;
         rest = more;
     }

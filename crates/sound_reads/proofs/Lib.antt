@@ -1,18 +1,19 @@
-mod Texts
-mod Bytes
+pub mod Texts
+pub mod Bytes
 mod NameLaws
 mod Values
 mod SpefTokens
 mod SpefNames
 mod SpefStates
 mod SpefTexts
-mod VerilogTokens
-mod BitNames
-mod OwnNames
-mod VerilogStates
-mod VerilogTexts
+pub mod VerilogTokens
+pub mod BitNames
+pub mod OwnNames
+pub mod VerilogStates
+pub mod VerilogTexts
 mod LibraryUnits
 mod LibraryCells
-mod SoundNetlists
+pub mod SoundNetlists
+pub mod FlatNetlists
 mod Sounds
 mod SdcPorts

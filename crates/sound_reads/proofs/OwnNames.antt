@@ -173,6 +173,37 @@ abbrev pub AreClear : List Shape → Type 0
 AreClear [] = Unit {0}
 AreClear (s ∷ more) = AllByRecursion (IsClear s) more × AreClear more
 
+-- nets with different names
+abbrev pub AreNamedApart : List Shape → Type 0
+AreNamedApart [] = Unit {0}
+AreNamedApart (s ∷ more) = AllByRecursion (λ t. s.0 ≡ t.0 → ⊥) more × AreNamedApart more
+
+others_named : (s : Shape) (more : List Shape) → AllByRecursion (IsClear s) more → AllByRecursion (λ t. s.0 ≡ t.0 → ⊥) more
+others_named s [] h = tt
+others_named s (t ∷ more) h = (h.0.differ, others_named s more h.1)
+
+pub named_apart : (ss : List Shape) → AreClear ss → AreNamedApart ss
+named_apart [] h = tt
+named_apart (s ∷ more) h = (others_named s more h.0, named_apart more h.1)
+
+-- two nets, no bits of which have one name
+pub record IsDistinct (s t : Shape) : Type 0 where
+  pub differ : s.0 ≡ t.0 → ⊥
+  pub first : t.1 ≡ None → NoBitOf s t.0
+  pub second : s.1 ≡ None → NoBitOf t s.0
+
+abbrev pub AreDistinct : List Shape → Type 0
+AreDistinct [] = Unit {0}
+AreDistinct (s ∷ more) = AllByRecursion (IsDistinct s) more × AreDistinct more
+
+others_distinct : (s : Shape) (more : List Shape) → AllByRecursion (IsClear s) more → AllByRecursion (IsDistinct s) more
+others_distinct s [] h = tt
+others_distinct s (t ∷ more) h = (record { differ = h.0.differ; first = λ e. h.0.first; second = λ e. h.0.second }, others_distinct s more h.1)
+
+pub clear_distinct : (ss : List Shape) → AreClear ss → AreDistinct ss
+clear_distinct [] h = tt
+clear_distinct (s ∷ more) h = (others_distinct s more h.0, clear_distinct more h.1)
+
 -- numbers of bits that are not too great
 abbrev pub IsBounded : Option (ℕ × ℕ) → Type 0
 IsBounded o = (r : ℕ × ℕ) → o ≡ Some r → (r.0 ≤ most_bit) × (r.1 ≤ most_bit)
@@ -212,7 +243,7 @@ all_push P [] s a p = (p, tt)
 all_push P (t ∷ ss) s a p = (a.0, all_push P ss s a.1 p)
 
 -- the first net of a name, where names differ
-range_found : (name : Text) (o : Option (ℕ × ℕ)) (nets : Nets) → AreClear (shapes nets) → Has (name, o) (shapes nets)
+range_found : (name : Text) (o : Option (ℕ × ℕ)) (nets : Nets) → AreNamedApart (shapes nets) → Has (name, o) (shapes nets)
     → (x : ℕ × Net) × (found name nets ≡ Some x) × (x.1.range ≡ o)
 range_found name o [] c h = absurd h
 range_found name o (e ∷ more) c (inl same) =
@@ -220,14 +251,14 @@ range_found name o (e ∷ more) c (inl same) =
     ((0, e.1), found_cons e more name ∙ ap (λ b. if b then Some (0, e.1) else later (found name more)) ((bytes_eq-Decides name e.0).1 (sym is)), ap (λ s. s.1) same)
 range_found name o (e ∷ more) c (inr h) =
     let rest = range_found name o more c.1 h in
-    let apart : name ≡ e.0 → ⊥ = λ is. (each_of (IsClear (shape e)) (shapes more) (name, o) c.0 h).differ (sym is) in (
+    let apart : name ≡ e.0 → ⊥ = λ is. each_of (λ t. e.0 ≡ t.0 → ⊥) (shapes more) (name, o) c.0 h (sym is) in (
       (1 + rest.0.0, rest.0.1),
       found_cons e more name ∙ (ap (λ b. if b then Some (0, e.1) else later (found name more)) (other_text name e.0 apart) ∙ ap later rest.1),
       rest.2,
     )
 
 -- a name that `named_bit` does not know is that of no bit
-bit_unknown : (name : Text) (nets : Nets) (s : Shape) → AreClear (shapes nets) → Has s (shapes nets) → IsBounded s.1
+pub bit_unknown : (name : Text) (nets : Nets) (s : Shape) → AreNamedApart (shapes nets) → Has s (shapes nets) → IsBounded s.1
     → named_bit name nets ≡ None → NoBitOf s name
 unfolding named_bit
 bit_unknown name nets s c h bounds none r k range bit same =
@@ -278,33 +309,10 @@ bit_free name (Some q) named other bounds noted free r k range bit same =
     let eq : q ≡ r = cc in
     none_of (has_bit q) (bit_nets_of name named) k free (rw bus at there) (ap (λ p. has_bit p k) eq ∙ bit)
 
-module _ (name : Text) (v : Net) (nets : Nets) (named : BitNets) (fine : AreFine (shapes nets) named) where
-  shapes_push : (nets' : Nets) → map shape (nets' ++ (name, v) ∷ []) ≡ map shape nets' ++ (name, v.range) ∷ []
+module _ (name : Text) (v : Net) where
+  pub shapes_push : (nets' : Nets) → map shape (nets' ++ (name, v) ∷ []) ≡ map shape nets' ++ (name, v.range) ∷ []
   shapes_push [] = refl
   shapes_push (e ∷ more) = ap (λ s. shape e ∷ s) (shapes_push more)
-
-  unmapped : (nets' : Nets) → AllByRecursion (λ e. name ≡ e.0 → ⊥) nets' → AllByRecursion (λ s. name ≡ s.0 → ⊥) (shapes nets')
-  unmapped [] a = tt
-  unmapped (e ∷ more) a = (a.0, unmapped more a.1)
-
-  -- a net of a new name, which is that of no bit, and of whose bits no net has the name
-  pub further_fine : is_name name ≡ true → IsBounded v.range → found name nets ≡ None → named_bit name nets ≡ None
-      → has_bit_net name v.range named ≡ false → AreFine (shapes (with_value name v nets)) (with_net name named)
-  further_fine is bounds new unknown free =
-      let away = absent name nets new in
-      let apart = unmapped nets away in
-      rw (with_push name v nets away, shapes_push nets) (record {
-        names = all_push (λ s. is_name s.0 ≡ true) (shapes nets) (name, v.range) fine.names is;
-        bounded = all_push (λ s. IsBounded s.1) (shapes nets) (name, v.range) fine.bounded bounds;
-        clear = clear_push (name, v.range) (shapes nets) fine.clear (all_by (λ t. IsClear t (name, v.range)) (shapes nets) (λ t h. record {
-          differ = λ e. each_of (λ s. name ≡ s.0 → ⊥) (shapes nets) t apart h (sym e);
-          first = bit_unknown name nets t fine.clear h (each_of (λ s. IsBounded s.1) (shapes nets) t fine.bounded h) unknown;
-          second = bit_free name v.range named t.0 bounds (each_of (λ s. IsNoted named s.0) (shapes nets) t fine.noted h) free;
-        }));
-        noted = all_push (λ s. IsNoted (with_net name named) s.0) (shapes nets) (name, v.range)
-            (all_by (λ s. IsNoted (with_net name named) s.0) (shapes nets) (λ t h. still_noted name named t.0 (each_of (λ s. IsNoted named s.0) (shapes nets) t fine.noted h)))
-            (now_noted name named);
-      })
 
   same_by : (e : Text × Net) (more : Nets) (r : ℕ × Net) (b : Bool) → bytes_eq name e.0 ≡ b
       → (if b then Some (0, e.1) else later (found name more)) ≡ Some r → v.range ≡ r.1.range
@@ -318,11 +326,36 @@ module _ (name : Text) (v : Net) (nets : Nets) (named : BitNets) (fine : AreFine
       let q = later_some (found name more) r h in
       ap (λ s. shape e ∷ s) (rest q.0 q.1 (range ∙ sym (ap (λ n. n.range) q.2)))
 
-  same_shapes : (nets' : Nets) (r : ℕ × Net) → found name nets' ≡ Some r → v.range ≡ r.1.range → shapes (with_value name v nets') ≡ shapes nets'
+  -- a net that is there, with its range
+  pub same_shapes : (nets' : Nets) (r : ℕ × Net) → found name nets' ≡ Some r → v.range ≡ r.1.range → shapes (with_value name v nets') ≡ shapes nets'
   same_shapes [] r h range = absurd (cc)
   same_shapes (e ∷ more) r h range =
       same_by e more r (bytes_eq name e.0) refl (sym (found_cons e more name) ∙ h) range (λ q at range'. same_shapes more q at range')
 
+module _ (name : Text) (v : Net) (nets : Nets) (named : BitNets) (fine : AreFine (shapes nets) named) where
+  unmapped : (nets' : Nets) → AllByRecursion (λ e. name ≡ e.0 → ⊥) nets' → AllByRecursion (λ s. name ≡ s.0 → ⊥) (shapes nets')
+  unmapped [] a = tt
+  unmapped (e ∷ more) a = (a.0, unmapped more a.1)
+
+  -- a net of a new name, which is that of no bit, and of whose bits no net has the name
+  pub further_fine : is_name name ≡ true → IsBounded v.range → found name nets ≡ None → named_bit name nets ≡ None
+      → has_bit_net name v.range named ≡ false → AreFine (shapes (with_value name v nets)) (with_net name named)
+  further_fine is bounds new unknown free =
+      let away = absent name nets new in
+      let apart = unmapped nets away in
+      rw (with_push name v nets away, shapes_push name v nets) (record {
+        names = all_push (λ s. is_name s.0 ≡ true) (shapes nets) (name, v.range) fine.names is;
+        bounded = all_push (λ s. IsBounded s.1) (shapes nets) (name, v.range) fine.bounded bounds;
+        clear = clear_push (name, v.range) (shapes nets) fine.clear (all_by (λ t. IsClear t (name, v.range)) (shapes nets) (λ t h. record {
+          differ = λ e. each_of (λ s. name ≡ s.0 → ⊥) (shapes nets) t apart h (sym e);
+          first = bit_unknown name nets t (named_apart (shapes nets) fine.clear) h (each_of (λ s. IsBounded s.1) (shapes nets) t fine.bounded h) unknown;
+          second = bit_free name v.range named t.0 bounds (each_of (λ s. IsNoted named s.0) (shapes nets) t fine.noted h) free;
+        }));
+        noted = all_push (λ s. IsNoted (with_net name named) s.0) (shapes nets) (name, v.range)
+            (all_by (λ s. IsNoted (with_net name named) s.0) (shapes nets) (λ t h. still_noted name named t.0 (each_of (λ s. IsNoted named s.0) (shapes nets) t fine.noted h)))
+            (now_noted name named);
+      })
+
   -- a net that is there with the same range
   pub again_fine : (r : ℕ × Net) → found name nets ≡ Some r → v.range ≡ r.1.range → AreFine (shapes (with_value name v nets)) named
-  again_fine r h range = rw (same_shapes nets r h range) fine
+  again_fine r h range = rw (same_shapes name v nets r h range) fine

@@ -1,9 +1,9 @@
 -- A module that is fine is sound to be linked.
 use Rattle.std.specs.Prelude.{◌≡◌, ◌≢◌, refl, ℕ, zero, suc, ◌+◌, ◌-◌, ◌<◌, ◌≤◌, nat_le, ◌==◌, ◌&&◌, not, true, List, [], ◌∷◌, ◌++◌, length, map, decimal}
-use Rattle.std.specs.Prelude.{Option, Some, None}
+use Rattle.std.specs.Prelude.{Option, Some, None, IfSome}
 use Rattle.std.specs.Char.{is_ascii_graphic}
 use Rattle.std.specs.List.{AllByRecursion, list_all, slice_get}
-use Rattle.std.proofs.Common.{arith, sym, ap, ◌∙◌, append_assoc, ◌⊎◌, inl, inr}
+use Rattle.std.proofs.Common.{arith, sym, ap, ◌∙◌, append_assoc, inl, inr}
 use Rattle.std.proofs.lemmas.Bool.{and_parts, or_left, or_right, and_from, le-leb, lt-leb, leb-true, not-true, eqb-false, cases_lt}
 use Rattle.std.proofs.lemmas.List.Elements.{All-from_recursion}
 use Rattle.name_numbers.specs.Names.{Text}
@@ -11,12 +11,13 @@ use Rattle.verilog_net.specs.declared.netlist.Netlist.{Netlist}
 use Rattle.verilog_net.specs.declared.netlist.Instance.{Instance}
 use Rattle.verilog_net.specs.declared.netlist.PortRole.{PortRole}
 use Rattle.text_forms.specs.Names.{is_name}
-use Rattle.verilog_net.specs.Nets.{Nets, has_bit}
+use Rattle.verilog_net.specs.Nets.{Nets, most_bit, has_bit}
 use Rattle.link_rules.specs.Bits.{Bit, rising, falling, numbers_of, bit_name, bus_bit, bits_by, bits_from, bits}
 use Rattle.link_rules.specs.Sound.{IsShortName, IsSoundInstance, HaveOwnNames, IsSoundNetlist}
+use Rattle.sound_reads.specs.Modules.{IsSoundModule}
 use Rattle.sound_reads.proofs.Bytes.{AreGraphic, each-append, each-weaker, each_at, name_is}
 use Rattle.sound_reads.proofs.BitNames.{tail, same_number, same_bus}
-use Rattle.sound_reads.proofs.OwnNames.{Shape, shape, shapes, IsClear, AreClear, IsBounded, bit_bounded}
+use Rattle.sound_reads.proofs.OwnNames.{Shape, shape, shapes, IsDistinct, AreDistinct, clear_distinct, IsBounded, bit_bounded}
 use Rattle.sound_reads.proofs.VerilogStates.{IsNamed, IsFineInstance, IsFineModule}
 
 -- ---- short names
@@ -27,7 +28,7 @@ graphic_all (b ∷ more) h = let parts = and_parts (is_ascii_graphic b) (list_al
 some_by : (k : ℕ) → (k ≡ 0 → ⊥) → 0 < k
 some_by k d = omega (arith, d)
 
-short_name : (name : Text) → IsNamed name → IsShortName name
+pub short_name : (name : Text) → IsNamed name → IsShortName name
 short_name name h =
     let parts = and_parts (not (length name == 0)) (nat_le (length name) 1024 && list_all is_ascii_graphic name) h in
     let rest = and_parts (nat_le (length name) 1024) (list_all is_ascii_graphic name) parts.1 in
@@ -126,18 +127,19 @@ differ_at (z ∷ xs) zero (suc j) a b d lt x y =
 differ_at (z ∷ xs) (suc i) zero a b d lt x y = absurd (omega (arith, lt))
 differ_at (z ∷ xs) (suc i) (suc j) a b d lt x y = differ_at xs i j a b d.1 (omega (arith, lt)) x y
 
--- a bit's name is that of its net, or that of a bit of it
+-- the one bit of a net without a range has the name of the net, a bit of a bus that of its number
 abbrev IsOf : Shape → Bit → Type 0
-IsOf s x = (x.name ≡ s.0) ⊎ ((r : ℕ × ℕ) × (k : ℕ) × (s.1 ≡ Some r) × (has_bit r k ≡ true) × (x.name ≡ s.0 ++ tail k))
+IsOf (name, None) x = x.name ≡ name
+IsOf (name, Some r) x = (k : ℕ) × (has_bit r k ≡ true) × (x.name ≡ name ++ tail k)
 
 module _ (decl : ℕ) (name : Text) (role : PortRole) where
   bus_of : (r : ℕ × ℕ) (ks : List ℕ) → AllByRecursion (λ k. has_bit r k ≡ true) ks
       → AllByRecursion (IsOf (name, Some r)) (map (bus_bit decl name role) ks)
   bus_of r [] h = tt
-  bus_of r (k ∷ ks) h = (inr (r, k, refl, h.0, bit_name_is name k), bus_of r ks h.1)
+  bus_of r (k ∷ ks) h = ((k, h.0, bit_name_is name k), bus_of r ks h.1)
 
   bits_of : (o : Option (ℕ × ℕ)) → AllByRecursion (IsOf (name, o)) (bits_by decl name role o)
-  bits_of None = (inl refl, tt)
+  bits_of None = (refl, tt)
   bits_of (Some r) = bus_of r (numbers_of r) (numbers_are r).bits
 
   module _ (r : ℕ × ℕ) (bounds : IsBounded (Some r)) where
@@ -159,14 +161,14 @@ module _ (decl : ℕ) (name : Text) (role : PortRole) where
   own_differ (Some r) bounds = bus_differ r bounds (numbers_of r) (numbers_are r).bits (numbers_are r).apart
 
 -- bits of different nets have different names
-two_differ : (s t : Shape) (x y : Bit) → IsClear s t → IsBounded s.1 → IsBounded t.1 → IsOf s x → IsOf t y → Differ x y
-two_differ s t x y c bs bt (inl a) (inl b) e = c.differ (sym a ∙ (e ∙ b))
-two_differ s t x y c bs bt (inl a) (inr b) e = c.second b.0 b.1 b.2 b.3 (sym a ∙ (e ∙ b.4))
-two_differ s t x y c bs bt (inr a) (inl b) e = c.first a.0 a.1 a.2 a.3 (sym b ∙ (sym e ∙ a.4))
-two_differ s t x y c bs bt (inr a) (inr b) e =
-    c.differ (same_bus s.0 t.0 a.1 b.1 (bit_bounded s.1 a.0 a.1 bs a.2 a.3) (bit_bounded t.1 b.0 b.1 bt b.2 b.3) (sym a.4 ∙ (e ∙ b.4)))
+two_differ : (s t : Shape) (x y : Bit) → IsDistinct s t → IsBounded s.1 → IsBounded t.1 → IsOf s x → IsOf t y → Differ x y
+two_differ (m, None) (n, None) x y c bs bt a b e = c.differ (sym a ∙ (e ∙ b))
+two_differ (m, None) (n, Some r) x y c bs bt a b e = c.second refl r b.0 refl b.1 (sym a ∙ (e ∙ b.2))
+two_differ (m, Some q) (n, None) x y c bs bt a b e = c.first refl q a.0 refl a.1 (sym b ∙ (sym e ∙ a.2))
+two_differ (m, Some q) (n, Some r) x y c bs bt a b e =
+    c.differ (same_bus m n a.0 b.0 (bit_bounded (Some q) q a.0 bs refl a.1) (bit_bounded (Some r) r b.0 bt refl b.1) (sym a.2 ∙ (e ∙ b.2)))
 
-rest_differ : (s : Shape) (x : Bit) (decl : ℕ) (nets : Nets) → IsBounded s.1 → IsOf s x → AllByRecursion (IsClear s) (shapes nets)
+rest_differ : (s : Shape) (x : Bit) (decl : ℕ) (nets : Nets) → IsBounded s.1 → IsOf s x → AllByRecursion (IsDistinct s) (shapes nets)
     → AllByRecursion (λ t. IsBounded t.1) (shapes nets) → AllByRecursion (Differ x) (bits_from decl nets)
 rest_differ s x decl [] bs h c b = tt
 rest_differ s x decl (e ∷ more) bs h c b =
@@ -174,7 +176,7 @@ rest_differ s x decl (e ∷ more) bs h c b =
     (each-weaker (IsOf (shape e)) (Differ x) (λ y i. two_differ s (shape e) x y c.0 bs b.0 h i) (bits_by decl e.0 e.1.role e.1.range) (bits_of decl e.0 e.1.role e.1.range))
     (rest_differ s x (decl + 1) more bs h c.1 b.1)
 
-all_differ : (decl : ℕ) (nets : Nets) → AreClear (shapes nets) → AllByRecursion (λ t. IsBounded t.1) (shapes nets) → AllDiffer (bits_from decl nets)
+all_differ : (decl : ℕ) (nets : Nets) → AreDistinct (shapes nets) → AllByRecursion (λ t. IsBounded t.1) (shapes nets) → AllDiffer (bits_from decl nets)
 all_differ decl [] c b = tt
 all_differ decl (e ∷ more) c b =
     differ-append (bits_by decl e.0 e.1.role e.1.range) (bits_from (decl + 1) more) (own_differ decl e.0 e.1.role e.1.range b.0) (all_differ (decl + 1) more c.1 b.1)
@@ -193,13 +195,29 @@ instance_sound i h = record {
   pins = All-from_recursion (λ p. IsShortName p.0) i.pins (each-weaker (λ p. IsNamed p.0) (λ p. IsShortName p.0) (λ p n. short_name p.0 n) i.pins h.pins);
 }
 
-own_names : (m : Netlist) → AreClear (shapes m.nets) → AllByRecursion (λ t. IsBounded t.1) (shapes m.nets) → HaveOwnNames m
+pub own_names : (m : Netlist) → AreDistinct (shapes m.nets) → AllByRecursion (λ t. IsBounded t.1) (shapes m.nets) → HaveOwnNames m
 unfolding bits
 own_names m c b = record { differ = λ i j x y lt at bt. differ_at (bits_from 0 m.nets) i j x y (all_differ 0 m.nets c b) lt at bt }
 
 pub netlist_sound : (m : Netlist) → IsFineModule m → IsSoundNetlist m
 netlist_sound m h = record {
   nets = All-from_recursion (λ e. IsShortName e.0) m.nets (net_names m.nets h.nets.1.names);
-  own = own_names m h.nets.1.clear h.nets.1.bounded;
+  own = own_names m (clear_distinct (shapes m.nets) h.nets.1.clear) h.nets.1.bounded;
+  instances = All-from_recursion IsSoundInstance m.instances (each-weaker IsFineInstance IsSoundInstance instance_sound m.instances h.instances);
+}
+
+-- ---- modules of a text
+in_bounds : (o : Option (ℕ × ℕ)) → IsBounded o → IfSome o (λ r. (r.0 ≤ most_bit) × (r.1 ≤ most_bit))
+in_bounds None h = tt
+in_bounds (Some r) h = h r refl
+
+net_ranges : (nets : Nets) → AllByRecursion (λ t. IsBounded t.1) (shapes nets) → AllByRecursion (λ e. IfSome e.1.range (λ r. (r.0 ≤ most_bit) × (r.1 ≤ most_bit))) nets
+net_ranges [] h = tt
+net_ranges (e ∷ more) h = (in_bounds e.1.range h.0, net_ranges more h.1)
+
+pub module_sound : (m : Netlist) → IsFineModule m → IsSoundModule m
+module_sound m h = record {
+  nets = All-from_recursion (λ e. IsShortName e.0) m.nets (net_names m.nets h.nets.1.names);
+  ranges = All-from_recursion (λ e. IfSome e.1.range (λ r. (r.0 ≤ most_bit) × (r.1 ≤ most_bit))) m.nets (net_ranges m.nets h.nets.1.bounded);
   instances = All-from_recursion IsSoundInstance m.instances (each-weaker IsFineInstance IsSoundInstance instance_sound m.instances h.instances);
 }

@@ -20,7 +20,7 @@ use Rattle.verilog_net.specs.Forms.{left_bound_forms, right_bound_forms, declare
 use Rattle.verilog_net.specs.Forms.{bit_given_forms, connected_forms, closed_forms}
 use Rattle.verilog_net.specs.Forms as grammar
 use Rattle.verilog_net.specs.Meaning.{State, nothing, means}
-use Rattle.verilog_net.specs.Reading.{rest_means, text_state, modules_in, one_of, netlist_of_text}
+use Rattle.verilog_net.specs.Reading.{rest_means, text_state, modules_in, modules_of, one_of, netlist_of_text}
 use Rattle.sound_reads.proofs.Texts.{FormKeeps, text_keeps, not_refused}
 use Rattle.sound_reads.proofs.VerilogTokens as tokens
 use Rattle.sound_reads.proofs.VerilogTokens.{names_named}
@@ -335,3 +335,11 @@ module_by (Ok s) m f e = first s.ended (f s refl).ended e
 -- the module that a text means is fine
 pub netlist_fine : (bytes : List ℕ) (m : Netlist) → netlist_of_text bytes ≡ Ok m → IsFineModule m
 netlist_fine bytes m e = module_by (text_state true bytes) m (λ s at. text_fine true bytes s at) e
+
+modules_by : (r : Result State (Refusal Code)) (ms : List Netlist) → ((s : State) → r ≡ Ok s → IsFine s) → modules_in r ≡ Ok ms → AllByRecursion IsFineModule ms
+modules_by (Err refusal) ms f e = absurd (cc)
+modules_by (Ok s) ms f e = let same : s.ended ≡ ms = cc in rw same at ((f s refl).ended)
+
+-- the modules that a text means are fine
+pub modules_fine : (bytes : List ℕ) (ms : List Netlist) → modules_of bytes ≡ Ok ms → AllByRecursion IsFineModule ms
+modules_fine bytes ms e = modules_by (text_state false bytes) ms (λ s at. text_fine false bytes s at) e

@@ -3,19 +3,23 @@
 #![tactic(auto)]
 
 ghost use Rattle.std.specs.Prelude.{◌≤◌, length, IfOk};
+ghost use Rattle.std.specs.List.{All};
 ghost use Rattle.text_forms.specs.Stops.{Gives};
 ghost use Rattle.liberty_cells.specs.Library.{library_meant};
-ghost use Rattle.verilog_net.specs.Reading.{netlist_of_text};
+ghost use Rattle.verilog_net.specs.Reading.{modules_of, netlist_of_text};
+ghost use Rattle.hier_flatten.specs.Meaning.{FlatMeans, AnswersFlat};
+ghost use Rattle.sound_reads.specs.Modules.{IsSoundModule};
 ghost use Rattle.spef_read.specs.Reading.{parasitics_of};
 ghost use Rattle.sdc_read.specs.Reading.{constraints_of};
 ghost use Rattle.sdc_read.specs.Meaning.{IsScale};
 ghost use Rattle.link_rules.specs.Sound.{IsSoundLibrary, IsSoundNetlist, AreSoundParasitics, AreSoundConstraints};
 
+use hier_flatten::FlatFault;
 use liberty_cells::Library;
 use sdc_read::Constraints;
 use spef_read::Parasitics;
 use std::alloc::Global;
-use verilog_net::Netlist;
+use verilog_net::{Modules, Netlist};
 use xt_lex::{MOST_BYTES, TextFault};
 
 /// The library of a Liberty text, as `liberty_cells::read_library` reads it: the tables that its timing groups name are
@@ -37,6 +41,26 @@ pub fn read_netlist(alloc: Global, bytes: &[u8]) -> Result<Netlist, TextFault>
     ensures sound { IfOk result IsSoundNetlist }
 {
     verilog_net::read_netlist(alloc, bytes)
+}
+
+/// The modules of a structural Verilog text, as `verilog_net::read_modules` reads them: their names have 1 to 1,024
+/// bytes, and bounds of ranges are at most 1,048,575.
+pub fn read_modules(alloc: Global, bytes: &[u8]) -> Result<Modules, TextFault>
+    requires { length bytes.now ≤ MOST_BYTES }
+    ensures value { Gives (λ modules. modules.list) result (modules_of bytes.now) }
+    ensures sound { IfOk result (λ modules. All IsSoundModule modules.list) }
+{
+    verilog_net::read_modules(alloc, bytes)
+}
+
+/// The flat netlist of the modules of a text, as `hier_flatten::flatten` makes it: its names have 1 to 1,024 bytes, and
+/// no two of its bits have the same name.
+pub fn flatten(alloc: Global, modules: &Modules, last_line: u32) -> Result<Netlist, FlatFault>
+    requires { All IsSoundModule modules.now.list }
+    ensures value { AnswersFlat result (FlatMeans modules.now.list last_line) }
+    ensures sound { IfOk result IsSoundNetlist }
+{
+    hier_flatten::flatten(alloc, modules, last_line)
 }
 
 /// The parasitics of a SPEF text, as `spef_read::read_spef` reads them: names have 1 to 2,049 bytes, each name of a net
