@@ -5,5 +5,6 @@ mod NumberLaws
 mod LevelLaws
 mod TableLaws
 mod KeptLaws
+mod OriginLaws
 pub mod PortLaws
 pub mod Ranges

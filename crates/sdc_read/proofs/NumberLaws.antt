@@ -43,7 +43,7 @@ unwrap_or_or None b x = refl
 unwrap_or_or (Some y) b x = refl
 
 -- ---- the four numbers of edges and sides
-same_sides : (s t : Sides) → s.rise_min ≡ t.rise_min → s.rise_max ≡ t.rise_max → s.fall_min ≡ t.fall_min
+pub same_sides : (s t : Sides) → s.rise_min ≡ t.rise_min → s.rise_max ≡ t.rise_max → s.fall_min ≡ t.fall_min
     → s.fall_max ≡ t.fall_max → s ≡ t
 same_sides s t a b c d =
     let k : ◌≡◌ {A = Sides} (record { rise_min = s.rise_min; rise_max = s.rise_max; fall_min = s.fall_min; fall_max = s.fall_max })
@@ -69,7 +69,7 @@ sides_with p x s = same_sides (with_number p x s) (or_sides (with_number p x no_
     (chosen_or (p.rise && p.min) x s.rise_min) (chosen_or (p.rise && p.max) x s.rise_max) (chosen_or (p.fall && p.min) x s.fall_min) (chosen_or (p.fall && p.max) x s.fall_max)
 
 -- ---- all numbers
-same_numbers : (n m : SetNumbers) → n.input ≡ m.input → n.output ≡ m.output → n.slew ≡ m.slew → n.load ≡ m.load → n ≡ m
+pub same_numbers : (n m : SetNumbers) → n.input ≡ m.input → n.output ≡ m.output → n.slew ≡ m.slew → n.load ≡ m.load → n ≡ m
 same_numbers n m a b c d =
     let k : ◌≡◌ {A = SetNumbers} (record { input = n.input; output = n.output; slew = n.slew; load = n.load })
     (record { input = m.input; output = m.output; slew = m.slew; load = m.load }) = rw (a, b, c, d) refl in k

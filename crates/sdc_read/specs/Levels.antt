@@ -88,6 +88,11 @@ pub record Levels : Type 0 where
   pub inputs : Option SetNumbers
   pub outputs : Option SetNumbers
 
+-- mentions, and the levels that are made of them
+pub record SaidLevels : Type 0 where
+  pub said : List Mention
+  pub levels : Levels
+
 abbrev pub no_levels : Levels
 no_levels = record { bits = []; ports = []; inputs = None; outputs = None }
 

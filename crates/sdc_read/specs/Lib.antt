@@ -5,5 +5,6 @@ pub mod Meaning
 pub mod Mentions
 pub mod Kept
 pub mod Levels
+pub mod Origins
 pub mod Reading
 pub mod View

@@ -9,6 +9,7 @@ mod listed;
 mod mentions;
 mod numbers;
 mod objects;
+mod origins;
 mod port_table;
 mod ports;
 mod progress;

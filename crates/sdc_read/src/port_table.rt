@@ -21,7 +21,6 @@ use verilog_net::{Net, Netlist};
 #[derive(Drop)]
 pub struct PortTable {
     nets: Vec<Net>,
-    said: Mentions,
     clock: Option<PortBit>,
     own: Option<SetNumbers>,
     levels: Levels,
@@ -37,11 +36,11 @@ impl Model for PortTable {
 
     ghost Value = { List PortSet };
 
-    ghost view = { λ t. map settled (told t.nets.items t.said) };
+    ghost view = { λ t. map settled (told t.nets.items t.levels.said) };
 
     ghost invariant = { λ t.
-        ((at : PortBit) → known t.nets.items t.clock t.own t.levels at ≡ set_by t.nets.items at t.said)
-        × AllInRange (told t.nets.items t.said) };
+        ((at : PortBit) → known t.nets.items t.clock t.own t.levels.levels at ≡ set_by t.nets.items at t.levels.said)
+        × AllInRange (told t.nets.items t.levels.said) };
 }
 
 /// Adds the net of this number.
@@ -85,7 +84,7 @@ fn known(
     levels: &Levels,
     at: PortBit,
 ) -> Option<SetNumbers>
-    ensures { result ≡ known nets.now clock own levels.now at }
+    ensures { result ≡ known nets.now clock own levels.now.levels at }
 {
     if is_clock(clock, at) {
         own
@@ -109,11 +108,10 @@ impl PortTable {
         ensures { IfOk result (λ t. t ≡ map settled (told (nets_of netlist.now.nets) said)) }
     {
         let nets = copied_nets(alloc, netlist)?;
-        let levels = Levels::of(alloc, key, &nets, &said)?;
-        let own = clock_numbers(&nets, clock, &said);
+        let levels = Levels::of(alloc, key, &nets, said)?;
+        let own = clock_numbers(&nets, clock, levels.said());
         Ok(PortTable {
             nets,
-            said,
             clock,
             own,
             levels,

@@ -3,7 +3,7 @@
 ghost use Rattle.std.specs.Prelude.{◌≡◌, None};
 ghost use Rattle.sdc_read.specs.Ports.{no_sides, unset};
 ghost use Rattle.sdc_read.specs.Changes.{chosen, with_number};
-ghost use Rattle.sdc_read.specs.Levels.{or_sides, or_numbers, numbers_of, over_numbers, or_set, put};
+ghost use Rattle.sdc_read.specs.Levels.{or_sides, or_numbers, numbers_of, over_numbers, put};
 
 use crate::change::Change;
 use crate::ports::{PortSides, Sides, or_other};
@@ -102,17 +102,6 @@ impl SetNumbers {
             slew: or_sides(self.slew, Sides::none()),
             load: self.load.unwrap_or(0),
         }
-    }
-}
-
-/// Later numbers, and others where they have none.
-pub fn or_set(later: Option<SetNumbers>, other: Option<SetNumbers>) -> Option<SetNumbers>
-    ensures { result ≡ or_set later other }
-{
-    match (later, other) {
-        (None, other) => other,
-        (Some(later), None) => Some(later),
-        (Some(later), Some(other)) => Some(later.or(other)),
     }
 }
 

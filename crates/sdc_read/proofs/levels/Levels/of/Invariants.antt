@@ -3,7 +3,8 @@ use Rattle.sdc_read.specs.Levels.{levels_of}
 use Rattle.sdc_read.proofs.levels.Levels.of.Given as goal
 
 abbrev pub invariant-said : goal.invariant-said
-invariant-said l = (l.levels ≡ levels_of l.nets (drop l.place l.said)) × (l.place ≤ length l.said)
+invariant-said l =
+    (l.levels ≡ record { said = l.fn.said; levels = levels_of l.nets (drop l.number l.fn.said) }) × (l.number ≤ length l.fn.said)
 
 abbrev pub decreases-said : goal.decreases-said
-decreases-said l = l.place
+decreases-said l = l.number
