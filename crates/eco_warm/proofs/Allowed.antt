@@ -120,7 +120,7 @@ both_set m a b nets first second after_first after_second apart at_a at_b is_fir
     ap (λ ns. set ns b after_second) e ∙ set_at b (net_left m a) (at_net a (net_left m b) nets) second after_second there is_second
 
 -- a net within the list
-there : (nets : List Net) (i : ℕ) → i < length nets → (n : Net) × (slice_get nets i ≡ Some n)
+pub there : (nets : List Net) (i : ℕ) → i < length nets → (n : Net) × (slice_get nets i ≡ Some n)
 there [] i h = absurd (omega (arith, h))
 there (n ∷ nets) zero h = (n, refl)
 there (n ∷ nets) (suc i) h = there nets i (omega (arith, h))

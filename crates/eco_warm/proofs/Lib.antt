@@ -13,3 +13,5 @@ pub mod Allowed
 pub mod Begun
 pub mod Made
 pub mod Refused
+pub mod Named
+pub mod OneAnswer

@@ -1,3 +1,4 @@
 pub mod Edits
 pub mod Possible
+pub mod Reading
 pub mod Starts

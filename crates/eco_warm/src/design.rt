@@ -13,7 +13,7 @@ use crate::edit::{Change, Edit, EditFault, Edited, Move};
 use crate::net::{greatest_load, net_left};
 use std::alloc::{AllocError, Global};
 use xt_model::limits::MOST_CAP;
-use xt_model::{Design, DesignParts, Miller, Net, NetId, Row};
+use xt_model::{Design, DesignParts, Miller, Net, NetId, NoMemory, Row};
 
 impl Edit {
     /// The two nets.
@@ -88,8 +88,9 @@ fn check_load(net: NetId, after: &Net) -> Result<(), EditFault>
     Ok(())
 }
 
-/// The two nets of an edit after it, or why the design does not allow it.
-fn nets_after(alloc: Global, design: &Design, edit: &Edit) -> Result<(Net, Net), EditFault>
+/// The two nets of an edit after it, or why the design does not allow it: first `E4` of both nets, then the load of
+/// the first net, then that of the second.
+pub fn nets_after(alloc: Global, design: &Design, edit: &Edit) -> Result<(Net, Net), EditFault>
     requires { IsEditOf design.now.nets edit.now }
     ensures first { IfOk result (λ p. IfSome (slice_get design.now.nets (first_of edit.now))
         (λ old. p.0 ≡ net_left (move_of edit.now) (second_of edit.now) old)) }
@@ -146,6 +147,30 @@ fn replaced(
     Design::from_order(alloc, parts, order)
 }
 
+/// The design after an edit of which both nets are made already, and how the edit moves its windows. The two nets take
+/// their places, and all else stays in its own. Fails only for want of memory.
+pub fn design_after(
+    alloc: Global,
+    design: Design,
+    edit: &Edit,
+    first: Net,
+    second: Net,
+) -> Result<Edited, NoMemory>
+    requires between { IsEditOf design.nets edit.now }
+    requires first { IfSome (slice_get design.nets (first_of edit.now))
+        (λ old. first ≡ net_left (move_of edit.now) (second_of edit.now) old) }
+    requires second { IfSome (slice_get design.nets (second_of edit.now))
+        (λ old. second ≡ net_left (move_of edit.now) (first_of edit.now) old) }
+    requires allowed { IsAllowed edit.now design.nets }
+    ensures design { IfOk result (λ x. x.design ≡ edited edit.now design) }
+    ensures change { IfOk result (λ x. x.change ≡ change_of design.miller edit.now) }
+    ensures after { IfOk result (λ x. IsAfterEdit design x.design x.change) }
+{
+    let change = edit.change(design.miller());
+    let design = replaced(alloc, design, edit, first, second)?;
+    Ok(Edited { design, change })
+}
+
 /// `apply`, of a design that is no longer wanted: its two nets are made anew, and all else stays in its place.
 pub fn edit_design(alloc: Global, design: Design, edit: &Edit) -> Result<Edited, EditFault>
     requires { IsEditOf design.nets edit.now }
@@ -155,10 +180,8 @@ pub fn edit_design(alloc: Global, design: Design, edit: &Edit) -> Result<Edited,
     ensures allowed { IfOk result (λ _. IsAllowed edit.now design.nets) }
     ensures refusal { IfErr result (IsRefusalOf edit.now design.nets) }
 {
-    let change = edit.change(design.miller());
     let (first, second) = nets_after(alloc, &design, edit)?;
-    let design = replaced(alloc, design, edit, first, second)?;
-    Ok(Edited { design, change })
+    Ok(design_after(alloc, design, edit, first, second)?)
 }
 
 /// The design after an edit, and how the edit moves its windows; or why the design does not allow it: first `E4` of

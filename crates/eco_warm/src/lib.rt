@@ -5,10 +5,13 @@ mod copy;
 mod couplings;
 mod design;
 mod edit;
+mod names;
 mod net;
 mod portion;
+mod read;
 mod run_starts;
 
-pub use design::{apply, edit_design};
+pub use design::{apply, design_after, edit_design, nets_after};
 pub use edit::{Change, Edit, EditFault, Edited, StartWindows};
+pub use read::read_edit;
 pub use run_starts::{starts, starts_from};
