@@ -1,5 +1,5 @@
 -- The test of words before the command of `clap`.
-use Rattle.std.proofs.Common.{◌≡◌, ◌∙◌, Bool, true, false, cond, ◌&&◌, refl, sym, ap, List, [], ◌∷◌, drop, Option, Some, None, inl, inr, true≢false}
+use Rattle.std.proofs.Common.{◌≡◌, ◌∙◌, Bool, false, cond, ◌&&◌, refl, sym, ap, List, [], ◌∷◌, drop, Option, Some, None, inl, inr, true≢false}
 use Rattle.std.specs.List.{list_all}
 use Rattle.std.specs.Option.{is_some, option_and_then}
 use Rattle.std.proofs.lemmas.Bool.{cases_Bool}

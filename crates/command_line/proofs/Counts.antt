@@ -7,7 +7,8 @@ use Rattle.xt_model.specs.Options.{◌>>=◌}
 use Rattle.report_kind.specs.Kind.{kind_of}
 use Rattle.report_kind.specs.declared.kind.ReportKind.TheVariants.{All}
 use Rattle.command_line.specs.Grammar.{Text, given_of, value_of}
-use Rattle.command_line.specs.Values.{if_said, miller_numbers, net_count, number_of, number_within, said_or, worker_count}
+use Rattle.command_line.specs.declared.values.Engine.TheVariants.{Rounds}
+use Rattle.command_line.specs.Values.{engine, if_said, miller_numbers, net_count, number_of, number_within, said_or, worker_count}
 use Rattle.command_line.specs.Words.{HasCount, IsNetCount, IsWorkerCount, block_files, command_named, form_of_command, job_for, job_of}
 use Rattle.command_line.specs.declared.words.CommandName.{CommandName}
 use Rattle.command_line.specs.declared.words.CommandName.TheVariants as command
@@ -62,12 +63,14 @@ nets_given word = if_second IsNetCount word net_count nets_within
 job_count : (name : CommandName) (get : Text → Option Text) → IfSome (job_for name get) HasCount
 job_count command.Report get =
     if_second HasCount (block_files get) _ (λ files. if_both IsWorkerCount HasCount (said_or 1 worker_count (get (codes "workers"))) _ (said_within (get (codes "workers"))) (λ workers count.
-    if_second HasCount (said_or All kind_of (get (codes "kind"))) _ (λ kind. if_second HasCount (if_said miller_numbers (get (codes "miller"))) _ (λ miller. count))))
+    if_second HasCount (said_or All kind_of (get (codes "kind"))) _ (λ kind. if_second HasCount (if_said miller_numbers (get (codes "miller"))) _ (λ miller.
+    if_second HasCount (said_or Rounds engine (get (codes "engine"))) _ (λ chosen. count)))))
 job_count command.Link get =
     if_second HasCount (block_files get) _ (λ files. if_second HasCount (if_said miller_numbers (get (codes "miller"))) _ (λ miller. tt))
 job_count command.Solve get =
     if_second HasCount (get (codes "file")) _ (λ file. if_both IsWorkerCount HasCount (said_or 1 worker_count (get (codes "workers"))) _ (said_within (get (codes "workers"))) (λ workers count.
-    if_second HasCount (said_or All kind_of (get (codes "kind"))) _ (λ kind. if_second HasCount (if_said miller_numbers (get (codes "miller"))) _ (λ miller. count))))
+    if_second HasCount (said_or All kind_of (get (codes "kind"))) _ (λ kind. if_second HasCount (if_said miller_numbers (get (codes "miller"))) _ (λ miller.
+    if_second HasCount (said_or Rounds engine (get (codes "engine"))) _ (λ chosen. count)))))
 job_count command.Replay get =
     if_second HasCount (get (codes "file")) _ (λ file. if_second HasCount (get (codes "order") >>= number_of 64) _ (λ order.
     if_both IsWorkerCount HasCount (get (codes "workers") >>= worker_count) _ (given_within (get (codes "workers"))) (λ workers count. if_second HasCount (if_said miller_numbers (get (codes "miller"))) _ (λ miller. count))))

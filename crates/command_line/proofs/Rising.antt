@@ -8,7 +8,8 @@ use Rattle.xt_model.specs.Options.{◌>>=◌}
 use Rattle.report_kind.specs.Kind.{kind_of}
 use Rattle.report_kind.specs.declared.kind.ReportKind.TheVariants.{All}
 use Rattle.command_line.specs.Grammar.{Text}
-use Rattle.command_line.specs.Values.{if_said, miller_numbers, net_count, number_of, said_or, three_of, worker_count}
+use Rattle.command_line.specs.declared.values.Engine.TheVariants.{Rounds}
+use Rattle.command_line.specs.Values.{engine, if_said, miller_numbers, net_count, number_of, said_or, three_of, worker_count}
 use Rattle.command_line.specs.Words.{block_files, job_for, job_of}
 use Rattle.command_line.specs.declared.words.CommandName.{CommandName}
 use Rattle.command_line.specs.declared.words.CommandName.TheVariants as command
@@ -49,12 +50,14 @@ HasRising (Gen job) = Unit {0}
 job_rise : (name : CommandName) (get : Text → Option Text) → IfSome (job_for name get) HasRising
 job_rise command.Report get =
     if_second HasRising (block_files get) _ (λ files. if_second HasRising (said_or 1 worker_count (get (codes "workers"))) _ (λ workers. if_second HasRising (said_or All kind_of (get (codes "kind"))) _ (λ kind.
-    if_both AreMiller HasRising (if_said miller_numbers (get (codes "miller"))) _ (said_rises (get (codes "miller"))) (λ miller rise. rise))))
+    if_both AreMiller HasRising (if_said miller_numbers (get (codes "miller"))) _ (said_rises (get (codes "miller"))) (λ miller rise.
+    if_second HasRising (said_or Rounds engine (get (codes "engine"))) _ (λ chosen. rise)))))
 job_rise command.Link get =
     if_second HasRising (block_files get) _ (λ files. if_both AreMiller HasRising (if_said miller_numbers (get (codes "miller"))) _ (said_rises (get (codes "miller"))) (λ miller rise. rise))
 job_rise command.Solve get =
     if_second HasRising (get (codes "file")) _ (λ file. if_second HasRising (said_or 1 worker_count (get (codes "workers"))) _ (λ workers. if_second HasRising (said_or All kind_of (get (codes "kind"))) _ (λ kind.
-    if_both AreMiller HasRising (if_said miller_numbers (get (codes "miller"))) _ (said_rises (get (codes "miller"))) (λ miller rise. rise))))
+    if_both AreMiller HasRising (if_said miller_numbers (get (codes "miller"))) _ (said_rises (get (codes "miller"))) (λ miller rise.
+    if_second HasRising (said_or Rounds engine (get (codes "engine"))) _ (λ chosen. rise)))))
 job_rise command.Replay get =
     if_second HasRising (get (codes "file")) _ (λ file. if_second HasRising (get (codes "order") >>= number_of 64) _ (λ order. if_second HasRising (get (codes "workers") >>= worker_count) _ (λ workers.
     if_both AreMiller HasRising (if_said miller_numbers (get (codes "miller"))) _ (said_rises (get (codes "miller"))) (λ miller rise. rise))))

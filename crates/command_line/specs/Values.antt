@@ -1,14 +1,17 @@
 -- What the words of a command line say: numbers, and three numbers joined by commas.
 use Rattle.std.specs.Prelude.{ℕ, ◌==◌, ◌^◌, nat_le, nat_lt, Bool, ◌&&◌, if◌then◌else◌, length}
-use Rattle.std.specs.Prelude.{Option, Some, None, option_map}
+use Rattle.std.specs.Prelude.{Option, Some, None, codes, option_map}
 use Rattle.std.specs.Char.{is_ascii_digit}
 use Rattle.std.specs.Option.{option_map_or}
 use Rattle.std.specs.List.{list_all, list_any, before_first, after_first}
+use Rattle.std.specs.Str.{bytes_eq}
 use Rattle.std.specs.Str.Parse.{digits_value}
 use Rattle.xt_model.specs.Limits.{most_generated, most_workers}
 use Rattle.xt_model.specs.Miller.{MillerNumbers, miller_of}
 use Rattle.xt_model.specs.Options.{◌>>=◌}
 use Rattle.command_line.specs.Grammar.{Text}
+use Rattle.command_line.specs.declared.values.Engine.{Engine}
+use Rattle.command_line.specs.declared.values.Engine.TheVariants.{Rounds, Marks}
 
 -- one to twenty digits
 abbrev pub is_number : Text → Bool
@@ -32,6 +35,12 @@ worker_count text = number_within 1 most_workers text
 -- how many nets, from 1 to 100,000
 abbrev pub net_count : Text → Option ℕ
 net_count text = number_within 1 most_generated text
+
+-- the engine that the word names
+abbrev pub engine : Text → Option Engine
+engine word =
+    if bytes_eq word (codes "rounds") then Some Rounds
+    else if bytes_eq word (codes "marks") then Some Marks else None
 
 abbrev pub is_comma : ℕ → Bool
 is_comma b = b == 44

@@ -8,7 +8,8 @@ use Rattle.report_kind.specs.declared.kind.ReportKind.TheVariants.{All}
 pub use Rattle.command_line.specs.Forms.{bytes_of}
 pub use Rattle.command_line.specs.Grammar.{Text}
 use Rattle.command_line.specs.Grammar.{CommandForm, given_of, value_of}
-use Rattle.command_line.specs.Values.{if_said, miller_numbers, net_count, number_of, said_or, worker_count}
+use Rattle.command_line.specs.declared.values.Engine.TheVariants.{Rounds}
+use Rattle.command_line.specs.Values.{engine, if_said, miller_numbers, net_count, number_of, said_or, worker_count}
 use Rattle.command_line.specs.declared.words.CommandName.{CommandName}
 use Rattle.command_line.specs.declared.words.CommandName.TheVariants as command
 use Rattle.command_line.specs.declared.words.BlockFiles.{BlockFiles}
@@ -21,15 +22,18 @@ use Rattle.command_line.specs.declared.words.Job.TheVariants.{Report, Solve, Rep
 abbrev pub block : List Text
 block = codes "lib" ∷ codes "netlist" ∷ codes "spef" ∷ codes "sdc" ∷ []
 
--- `report LIB NETLIST SPEF SDC [--workers N] [--kind all|checks|noise] [--miller L,M,H]`
+-- `report LIB NETLIST SPEF SDC [--workers N] [--kind all|checks|noise] [--miller L,M,H] [--engine rounds|marks]`
 abbrev pub report_form : CommandForm
-report_form = record { positionals = block; options = codes "workers" ∷ codes "kind" ∷ codes "miller" ∷ [] }
+report_form = record {
+  positionals = block;
+  options = codes "workers" ∷ codes "kind" ∷ codes "miller" ∷ codes "engine" ∷ [];
+}
 
--- `solve FILE [--workers N] [--kind all|checks|noise] [--miller L,M,H]`
+-- `solve FILE [--workers N] [--kind all|checks|noise] [--miller L,M,H] [--engine rounds|marks]`
 abbrev pub solve_form : CommandForm
 solve_form = record {
   positionals = codes "file" ∷ [];
-  options = codes "workers" ∷ codes "kind" ∷ codes "miller" ∷ [];
+  options = codes "workers" ∷ codes "kind" ∷ codes "miller" ∷ codes "engine" ∷ [];
 }
 
 -- `replay FILE --order N --workers W [--miller L,M,H]`
@@ -83,7 +87,8 @@ report_job given = do
   workers ← said_or 1 worker_count (given (codes "workers"))
   kind ← said_or All kind_of (given (codes "kind"))
   miller ← if_said miller_numbers (given (codes "miller"))
-  Some (Report (record { files = files; workers = workers; kind = kind; miller = miller }))
+  chosen ← said_or Rounds engine (given (codes "engine"))
+  Some (Report (record { files = files; workers = workers; kind = kind; miller = miller; engine = chosen }))
 
 -- four files to link, by the classical Miller numbers unless the words say otherwise
 abbrev pub link_job : (Text → Option Text) → Option Job
@@ -100,7 +105,8 @@ solve_job given = do
   workers ← said_or 1 worker_count (given (codes "workers"))
   kind ← said_or All kind_of (given (codes "kind"))
   miller ← if_said miller_numbers (given (codes "miller"))
-  Some (Solve (record { file = file; workers = workers; kind = kind; miller = miller }))
+  chosen ← said_or Rounds engine (given (codes "engine"))
+  Some (Solve (record { file = file; workers = workers; kind = kind; miller = miller; engine = chosen }))
 
 -- a linked text to solve by `workers` workers in the order of a number, with its own Miller numbers unless the words
 -- say otherwise

@@ -7,6 +7,7 @@ mod values;
 mod words;
 
 pub use file_name::FileName;
+pub use values::Engine;
 pub use words::{
     BlockFiles, GenJob, Job, LinkJob, ReplayJob, ReportJob, SolveJob, WordsFault, parse_words,
 };

@@ -5,12 +5,20 @@ ghost use Rattle.std.specs.Char.{is_ascii_digit};
 ghost use Rattle.std.specs.List.{list_all};
 ghost use Rattle.report_kind.specs.Kind.{kind_of};
 ghost use Rattle.report_kind.specs.declared.kind.ReportKind.TheVariants.{All};
+ghost use Rattle.command_line.specs.declared.values.Engine.TheVariants.{Rounds};
 ghost use Rattle.command_line.specs.Values;
 ghost use Rattle.command_line.specs.Values.{if_said, said_or};
 
 use report_kind::ReportKind;
 use xt_model::Miller;
 use xt_model::limits::{MOST_GENERATED, MOST_WORKERS};
+
+/// By which engine windows are found: by rounds of workers, or by marks of what is to be evaluated again.
+#[derive(Clone, Copy, Debug, PartialEq, Eq)]
+pub enum Engine {
+    Rounds,
+    Marks,
+}
 
 fn are_digits(text: &[u8]) -> bool
     ensures { result ≡ list_all is_ascii_digit text.now }
@@ -78,6 +86,27 @@ pub fn kind_or_all(text: Option<&str>) -> Option<ReportKind>
     match text {
         Some(text) => ReportKind::from_word(text),
         None => Some(ReportKind::All),
+    }
+}
+
+// The engine that the word says.
+fn engine_named(text: &str) -> Option<Engine>
+    ensures { result ≡ Values.engine text.now }
+{
+    match text {
+        "rounds" => Some(Engine::Rounds),
+        "marks" => Some(Engine::Marks),
+        _ => None,
+    }
+}
+
+/// The engine that the word says, or rounds.
+pub fn engine_or_rounds(text: Option<&str>) -> Option<Engine>
+    ensures { result ≡ said_or Rounds Values.engine (option_map (λ t. t.now) text.entry) }
+{
+    match text {
+        Some(text) => engine_named(text),
+        None => Some(Engine::Rounds),
     }
 }
 

@@ -9,7 +9,10 @@ ghost use Rattle.command_line.specs.Words.{bytes_of, job_of};
 use crate::file_name::FileName;
 pub use crate::grammar::WordsFault;
 use crate::grammar::{CommandRule, read};
-use crate::values::{kind_or_all, miller_if_said, net_count, number, worker_count, workers_or_one};
+use crate::values::{
+    Engine, engine_or_rounds, kind_or_all, miller_if_said, net_count, number, worker_count,
+    workers_or_one,
+};
 use clap::ArgMatches;
 use report_kind::ReportKind;
 use std::alloc::{AllocError, Global};
@@ -39,14 +42,15 @@ pub struct BlockFiles {
     pub sdc: FileName,
 }
 
-/// A block to link and to solve: by how many workers, which report of it, and by which Miller numbers in place of the
-/// classical ones.
+/// A block to link and to solve: by how many workers, which report of it, by which Miller numbers in place of the
+/// classical ones, and by which engine.
 #[derive(Debug, Drop)]
 pub struct ReportJob {
     pub files: BlockFiles,
     pub workers: u32,
     pub kind: ReportKind,
     pub miller: Option<Miller>,
+    pub engine: Engine,
 }
 
 /// A block to link, and by which Miller numbers in place of the classical ones.
@@ -56,13 +60,15 @@ pub struct LinkJob {
     pub miller: Option<Miller>,
 }
 
-/// A linked text to solve: by how many workers, which report of it, and by which Miller numbers in place of its own.
+/// A linked text to solve: by how many workers, which report of it, by which Miller numbers in place of its own, and by
+/// which engine.
 #[derive(Debug, Drop)]
 pub struct SolveJob {
     pub file: FileName,
     pub workers: u32,
     pub kind: ReportKind,
     pub miller: Option<Miller>,
+    pub engine: Engine,
 }
 
 /// A linked text to solve: by how many workers, from 1 to 64, from which number their order is picked, and by which
@@ -99,12 +105,12 @@ const BLOCK: &'static [&'static str] = &["lib", "netlist", "spef", "sdc"];
 
 const REPORT: CommandRule = CommandRule {
     positionals: BLOCK,
-    options: &["workers", "kind", "miller"],
+    options: &["workers", "kind", "miller", "engine"],
 };
 
 const SOLVE: CommandRule = CommandRule {
     positionals: &["file"],
-    options: &["workers", "kind", "miller"],
+    options: &["workers", "kind", "miller", "engine"],
 };
 
 const REPLAY: CommandRule = CommandRule {
@@ -194,6 +200,7 @@ fn report_job(files: Option<BlockFiles>, given: &ArgMatches) -> Option<Job>
         workers: workers_or_one(given.get_str("workers"))?,
         kind: kind_or_all(given.get_str("kind"))?,
         miller: miller_if_said(given.get_str("miller"))?,
+        engine: engine_or_rounds(given.get_str("engine"))?,
     }))
 }
 
@@ -216,6 +223,7 @@ fn solve_job(file: Option<FileName>, given: &ArgMatches) -> Option<Job>
         workers: workers_or_one(given.get_str("workers"))?,
         kind: kind_or_all(given.get_str("kind"))?,
         miller: miller_if_said(given.get_str("miller"))?,
+        engine: engine_or_rounds(given.get_str("engine"))?,
     }))
 }
 

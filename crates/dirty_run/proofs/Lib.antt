@@ -8,3 +8,4 @@ mod Parts
 mod Rounds
 mod Still
 mod Ended
+mod OneList

@@ -1,5 +1,5 @@
 -- The parts of a visit, over plain data.
-use Rattle.std.proofs.Common.{◌≡◌, ℕ, zero, suc, ◌+◌, ◌*◌, ◌/◌, ◌%◌, ◌<◌, ◌≤◌, min, max, ◌==◌, nat_lt, Bool, true, false, inl, inr, refl, sym, ap, subst, ◌∙◌, List, [], ◌∷◌, ◌++◌, length, set, Contains, Some, ℤ, length-append, arith}
+use Rattle.std.proofs.Common.{◌≡◌, ℕ, zero, suc, ◌+◌, ◌*◌, ◌/◌, ◌%◌, ◌<◌, ◌≤◌, min, max, ◌==◌, nat_lt, Bool, true, false, inl, inr, refl, sym, ap, subst, ◌∙◌, List, [], ◌∷◌, ◌++◌, length, set, get_or, Contains, Some, ℤ, length-append, arith}
 use Rattle.std.specs.Prelude.{slice_index, IsTrue, IsFalse}
 use Rattle.std.proofs.lemmas.Bool.{cases_lt}
 use Rattle.std.proofs.lemmas.Bool.Decides.{nat_tests}
@@ -18,10 +18,10 @@ use Rattle.xt_meaning.specs.Words.{bound_in, number_for, number_at, bounds_in, o
 use Rattle.xt_meaning.proofs.Steps.{bound_trans}
 use Rattle.xt_meaning.proofs.Numbers.{bound_there, further_first, further_second, onward_mono_at}
 use Rattle.xt_meaning.proofs.Growth.{wired}
-use Rattle.net_eval.specs.ReadLists.{AreReadLists, reads_of}
+use Rattle.net_eval.specs.ReadLists.{AreReadLists, ids, reads_of}
 use Rattle.chaos_core.specs.Boards.{nets_of, IsSeen}
 use Rattle.chaos_core.specs.Tasks.{list_of, place_of, word_to_load, loaded_bounds, evaluated, bound_at}
-use Rattle.chaos_core.proofs.Places.{ids_count, placed, word_placed, nets_read, load_there}
+use Rattle.chaos_core.proofs.Places.{id_at, ids_count, placed, word_placed, nets_read, load_there}
 use Rattle.chaos_core.proofs.Sight.{are_refl, are_trans, further_down, further_up, number_here, seen_onward}
 use Rattle.chaos_core.proofs.Loads.{none_loaded, loaded_more, last_at, bound_onward}
 use Rattle.chaos_core.proofs.Stages.{bound_in_range}
@@ -97,21 +97,27 @@ module _ (u : DirtyView) (net : ℕ) (numbers : List ℕ) (w : DirtyView) (loadi
                 subst (λ b. IsBoundNoFurther a (word_to_load reads i % 2) (bounds_in u.base.seen (word_to_load reads i)) (bound_in b)) (sym (last_at numbers n i at)) moved
           ]
 
--- where words are left, by what the code counts
-pub words_left : (lists : List (List NetId)) (net : ℕ) (numbers : List ℕ) (reads : List NetId) (given : List ℕ) → reads ≡ reads_of lists net → given ≡ numbers → length given < 8 * length reads → length numbers < 8 * length (list_of lists net)
-words_left lists net numbers reads given is same h =
-    let n = ids_count (reads_of lists net) in
-    let e = ap length is in
-    let g = ap length same in
-    omega (arith, n, e, g, h)
+-- the word at a place of a net of the read list, where all words before it are loaded
+module _ (lists : List (List NetId)) (net : ℕ) (numbers : List ℕ) (reads : List NetId) (i place : ℕ) (same : reads ≡ reads_of lists net) (inside : i < length reads) (few : place < 8) (count : length numbers ≡ 8 * i + place) where
+  pub words_left : length numbers < 8 * length (list_of lists net)
+  words_left =
+      let n = ids_count (reads_of lists net) in
+      let e = ap length same in
+      omega (arith, n, e, inside, few, count)
 
-pub none_left : (lists : List (List NetId)) (net : ℕ) (numbers : List ℕ) (reads : List NetId) (given : List ℕ) → reads ≡ reads_of lists net → given ≡ numbers → 8 * length reads ≤ length given → length numbers ≤ 8 * length (list_of lists net)
-    → length numbers ≡ 8 * length (list_of lists net)
-none_left lists net numbers reads given is same h most =
+  pub word_left : (x : NetId) → 8 * (get_or reads i x).0 + place ≡ word_to_load (list_of lists net) (length numbers)
+  word_left x =
+      let list = list_of lists net in
+      let here : (get_or reads i x).0 ≡ get_or list i 0 = sym (id_at reads i x inside) ∙ ap (λ (ns : List NetId). get_or (ids ns) i 0) same in
+      let at : i ≡ length numbers / 8 = omega (arith, count, few) in
+      let rest : place ≡ length numbers % 8 = omega (arith, count, few) in
+      ap (λ n. 8 * n + place) here ∙ (ap (λ j. 8 * get_or list j 0 + place) at ∙ ap (λ r. 8 * get_or list (length numbers / 8) 0 + r) rest)
+
+pub none_left : (lists : List (List NetId)) (net : ℕ) (numbers : List ℕ) (reads : List NetId) (i : ℕ) → reads ≡ reads_of lists net → i ≡ length reads → length numbers ≡ 8 * i → length numbers ≡ 8 * length (list_of lists net)
+none_left lists net numbers reads i same end count =
     let n = ids_count (reads_of lists net) in
-    let e = ap length is in
-    let g = ap length same in
-    omega (arith, n, e, g, h, most)
+    let e = ap length same in
+    omega (arith, n, e, end, count)
 
 -- the word that is loaded next, by its place in the read list
 module _ (u : DirtyView) (net : ℕ) (numbers : List ℕ) (w : DirtyView) (loading : IsLoading u net numbers w) (lists : List (List NetId)) (same : u.lists ≡ lists) (whole : AreReadLists u.base.setting.design lists) (there : net < nets_of u.base.setting)

@@ -86,7 +86,6 @@ pub fn settle_dirty_in<R: Threads + Sync, G: Gate>(
     requires free { IsFree first.old.view }
     requires design { board.now.run.setting.design ≡ design.now }
     requires direction { board.now.run.setting.way ≡ direction }
-    requires same { board.now.run.lists ≡ lists.now }
     requires lists { AreReadLists design.now lists.now }
     requires readers { AreReaders lists.now readers.now }
     requires some { 1 ≤ workers_in room }
@@ -106,6 +105,8 @@ pub fn settle_dirty_in<R: Threads + Sync, G: Gate>(
     ensures consistent { direction ≡ Narrow → (xs : List Transition) → AreConsistent design.now xs
         → LieWithin (assigned result.windows) xs }
 {
+    // The read lists with which the board was opened are those of its design, and a design has one read list a net.
+    board.has_read_lists();
     let DirtyRoom {
         workers,
         windows,
@@ -135,8 +136,7 @@ pub fn settle_dirty_in<R: Threads + Sync, G: Gate>(
 /// in narrowing all transitions that explain one another lie within them. The run makes at most one round more than the
 /// design's bound, since marks may be left where the words are closed: each round but the last began at words that were
 /// not closed. None publishes more than the words of all nets once a round. All memory is taken before the first look:
-/// where there is none, nothing was done. The read lists are the design's, with which the board was opened, and the
-/// readers are theirs.
+/// where there is none, nothing was done. The read lists are the design's, and the readers are theirs.
 pub fn settle_dirty<R: Threads + Sync, G: Gate>(
     rt: &R,
     alloc: Global,
@@ -154,7 +154,6 @@ pub fn settle_dirty<R: Threads + Sync, G: Gate>(
     requires free { IsFree first.old.view }
     requires design { board.now.run.setting.design ≡ design.now }
     requires direction { board.now.run.setting.way ≡ direction }
-    requires same { board.now.run.lists ≡ lists.now }
     requires lists { AreReadLists design.now lists.now }
     requires readers { AreReaders lists.now readers.now }
     requires some { 1 ≤ workers }

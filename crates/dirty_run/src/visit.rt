@@ -41,12 +41,11 @@ fn load_all(
 {
     // What the pass has seen, where there is no word to load.
     pass.respects();
-    let reads = lists.of(net);
     loaded.clear();
-    'words: while loaded.as_slice().len() < 8 * reads.len() {
-        let place = loaded.as_slice().len();
-        let number = board.load(pass, 8 * reads[place / 8].0 as usize + place % 8);
-        loaded.push_reserved(number);
+    for read in lists.of(net) {
+        for place in 0..8 {
+            loaded.push_reserved(board.load(pass, 8 * read.0 as usize + place));
+        }
     }
 }
 

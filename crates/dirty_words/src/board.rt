@@ -39,6 +39,7 @@ pub struct DirtyBoard {
 
 impl Model for DirtyBoard {
     ghost use Rattle.std.specs.Prelude.{◌≡◌};
+    ghost use Rattle.net_eval.specs.ReadLists.{AreReadLists};
     ghost use Rattle.chaos_core.specs.Boards.{nets_of};
     ghost use Rattle.dirty_words.specs.Boards.{DirtyId, HasWords, run_at};
 
@@ -47,7 +48,8 @@ impl Model for DirtyBoard {
     ghost view = { λ b. record { table = b.table.shared.table_id; run = run_at b.table.shared.key } };
 
     ghost invariant = { λ b. HasWords b.table.shared.table_id (run_at b.table.shared.key).setting
-        × (b.nets ≡ nets_of (run_at b.table.shared.key).setting) };
+        × (b.nets ≡ nets_of (run_at b.table.shared.key).setting)
+        × AreReadLists (run_at b.table.shared.key).setting.design (run_at b.table.shared.key).lists };
 }
 
 /// The right to work on the words of a board, and what its holder knows of them. It takes no bytes, and may go to any
@@ -110,6 +112,13 @@ impl DirtyBoard {
         };
         let (table, seat) = Table::of_words(alloc, words.as_slice(), &key)?;
         Ok((DirtyBoard { alloc, table, nets }, DirtyPass { seat }))
+    }
+
+    /// A law, the clause of a call that does nothing: the read lists with which the board was opened are the design's.
+    pub fn has_read_lists(&self)
+        ensures { AreReadLists self.now.run.setting.design self.now.run.lists }
+    {
+        let _table = &self.table;
     }
 
     /// Which word is the mark of a net.

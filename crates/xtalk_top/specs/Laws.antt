@@ -2,6 +2,7 @@
 use Rattle.std.specs.Prelude.{◌≡◌, ℕ, List, Option, option_map}
 use Rattle.xt_io.specs.Outside.{appended}
 use Rattle.report_kind.specs.declared.kind.ReportKind.TheVariants.{All}
+use Rattle.command_line.specs.declared.values.Engine.TheVariants.{Rounds}
 use Rattle.command_line.specs.Words.{Text, job_of}
 use Rattle.command_line.specs.declared.words.Job.{Job}
 use Rattle.command_line.specs.declared.words.Job.TheVariants.{Report, Solve, Replay, Link, Gen}
@@ -10,15 +11,17 @@ use Rattle.xtalk_top.specs.Call.{AreKnown, HadNoFault, IsCall, Means, Shows, Wri
 
 -- ---- words that ask for one text
 
--- a job as one worker does it: `replay` is then `solve` with the whole report
+-- a job as one worker does it by rounds: `replay` is then `solve` with the whole report
 abbrev pub by_one_worker : Job → Job
-by_one_worker (Report job) = Report (record job { workers = 1 })
-by_one_worker (Solve job) = Solve (record job { workers = 1 })
-by_one_worker (Replay job) = Solve (record { file = job.file; workers = 1; kind = All; miller = job.miller })
+by_one_worker (Report job) = Report (record job { workers = 1; engine = Rounds })
+by_one_worker (Solve job) = Solve (record job { workers = 1; engine = Rounds })
+by_one_worker (Replay job) =
+    Solve (record { file = job.file; workers = 1; kind = All; miller = job.miller; engine = Rounds })
 by_one_worker (Link job) = Link job
 by_one_worker (Gen job) = Gen (record job { workers = 1 })
 
--- words that differ in the workers that they ask for and in the order in which these take turns, if in anything
+-- words that differ in the workers that they ask for, in the order in which these take turns and in the engine, if in
+-- anything
 abbrev pub AskAlike : List Text → List Text → Type 0
 AskAlike words others = option_map by_one_worker (job_of words) ≡ option_map by_one_worker (job_of others)
 

@@ -1,5 +1,6 @@
 pub mod Outcome
 pub mod Linking
+pub mod Runs
 pub mod Report
 pub mod Solve
 pub mod Replay

@@ -19,7 +19,8 @@ pub fn one_outcome_is_meant()
         → Means words content (prints a) → Means words content (refuses b) → ⊥ }
 {}
 
-/// What words mean depends neither on how many workers they ask for nor on the order in which these take turns.
+/// What words mean depends neither on how many workers they ask for, nor on the order in which these take turns, nor on
+/// the engine.
 pub fn workers_change_nothing()
     ensures { (words others : List Text) (content : Contents) (outcome : Outcome) → AskAlike words others
         → Means words content outcome → Means others content outcome }

@@ -20,7 +20,7 @@ mod top;
 mod warm_run;
 
 pub use command_line::{
-    BlockFiles, FileName, GenJob, Job, LinkJob, ReplayJob, ReportJob, SolveJob, WordsFault,
+    BlockFiles, Engine, FileName, GenJob, Job, LinkJob, ReplayJob, ReportJob, SolveJob, WordsFault,
     parse_words,
 };
 pub use laws::{calls_agree, one_outcome_is_meant, workers_change_nothing};

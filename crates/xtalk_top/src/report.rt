@@ -36,10 +36,11 @@ pub fn report_of_block<R: Threads + Sync, F: Files, G: Gate>(
         workers,
         kind,
         miller,
+        engine,
     } = job;
     let design = read_block(alloc, files, block)?;
     let design = counted_by(design, miller);
-    let turns = Turns::InThreads;
+    let turns = Turns::by(engine);
     let runs = Runs { workers, turns };
     report(rt, alloc, gate, &design, kind, runs)
 }

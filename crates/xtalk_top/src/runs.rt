@@ -1,6 +1,6 @@
 //! How the runs of a design are made, and the windows in which they end.
 
-ghost use Rattle.std.specs.Prelude.{ℕ, ◌≤◌, IfOk};
+ghost use Rattle.std.specs.Prelude.{◌≡◌, ℕ, ◌≤◌, IfOk};
 ghost use Rattle.xt_model.specs.declared.direction.Direction.TheVariants.{Narrow, Widen};
 ghost use Rattle.xt_model.specs.Build.{IsRoundBound};
 ghost use Rattle.xt_meaning.specs.Barrier.{IsFittingStart};
@@ -8,9 +8,12 @@ ghost use Rattle.xt_meaning.specs.Fixpoint.{IsLeastFixpoint, IsGreatestFixpoint}
 ghost use Rattle.xt_meaning.specs.Laws.{IsExtremeFixpoint};
 ghost use Rattle.net_eval.specs.ReadLists.{AreReadLists};
 ghost use Rattle.command_line.specs.Words.{IsWorkerCount};
+ghost use Rattle.xtalk_top.specs.Runs.{most_rounds, turns_by};
 
 use chaos_core::{Gate, Settled, settle_picked};
 use chaos_run::{Both, settle_from};
+use command_line::Engine;
+use dirty_run::settle_dirty_from;
 use net_eval::ReadLists;
 use std::alloc::Global;
 use std::thread::Threads;
@@ -23,6 +26,21 @@ pub enum Turns {
     InThreads,
     /// All in this thread, as a source that starts at this number picks them.
     Picked(u64),
+    /// In threads of their own, which pass a gate in each round, by marks: a net is evaluated again only where something
+    /// that it reads moved.
+    ByMarks,
+}
+
+impl Turns {
+    /// The turns of workers in threads, by an engine.
+    pub fn by(engine: Engine) -> Turns
+        ensures { result ≡ turns_by engine }
+    {
+        match engine {
+            Engine::Rounds => Turns::InThreads,
+            Engine::Marks => Turns::ByMarks,
+        }
+    }
 }
 
 /// How the runs of a design are made: by how many workers, from 1 to 64, and how these take turns.
@@ -47,7 +65,8 @@ fn run_from<R: Threads + Sync, G: Gate>(
     requires lists { AreReadLists design.now lists.now }
     requires workers { IsWorkerCount runs.workers }
     ensures extreme { IfOk result (λ settled. IsExtremeFixpoint direction design.now settled.windows) }
-    ensures few { IfOk result (λ settled. (bound : ℕ) → IsRoundBound design.now.nets bound → settled.rounds ≤ bound) }
+    ensures few { IfOk result (λ settled. (bound : ℕ) → IsRoundBound design.now.nets bound
+        → settled.rounds ≤ most_rounds runs.turns bound) }
 {
     let Runs { workers, turns } = runs;
     match turns {
@@ -55,11 +74,14 @@ fn run_from<R: Threads + Sync, G: Gate>(
         Turns::Picked(number) => settle_picked(
             alloc, design, lists, direction, start, workers, number,
         ),
+        Turns::ByMarks => {
+            settle_dirty_from(rt, alloc, design, lists, direction, start, workers, gate)
+        }
     }
 }
 
 /// Runs twice, wider from `low` and narrower from `high`: to the least and the greatest windows of a design, in rounds
-/// within its bound. Fails only for want of memory.
+/// within its bound, or by marks within one more. Fails only for want of memory.
 pub fn both_from<R: Threads + Sync, G: Gate>(
     rt: &R,
     alloc: Global,
@@ -77,7 +99,7 @@ pub fn both_from<R: Threads + Sync, G: Gate>(
     ensures least { IfOk result (λ found. IsLeastFixpoint design.now found.low) }
     ensures greatest { IfOk result (λ found. IsGreatestFixpoint design.now found.high) }
     ensures few { IfOk result (λ found. (bound : ℕ) → IsRoundBound design.now.nets bound
-        → (found.low_rounds ≤ bound) × (found.high_rounds ≤ bound)) }
+        → (found.low_rounds ≤ most_rounds runs.turns bound) × (found.high_rounds ≤ most_rounds runs.turns bound)) }
 {
     let least = run_from(rt, alloc, gate, design, lists, Direction::Widen, low, runs)?;
     let greatest = run_from(

@@ -35,8 +35,9 @@ pub fn solve<R: Threads + Sync, F: Files, G: Gate>(
         workers,
         kind,
         miller,
+        engine,
     } = job;
-    let turns = Turns::InThreads;
+    let turns = Turns::by(engine);
     let runs = Runs { workers, turns };
     report_of_text(rt, alloc, gate, files, file, miller, kind, runs)
 }

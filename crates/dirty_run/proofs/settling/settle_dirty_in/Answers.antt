@@ -2,13 +2,26 @@ use Rattle.std.proofs.Common.{◌≡◌, sym, ap, subst, ◌∙◌, List, ℕ, l
 use Rattle.xt_model.specs.declared.direction.Direction.{Direction}
 use Rattle.xt_model.specs.Parts.{Parts}
 use Rattle.xt_meaning.specs.Laws.{IsExtremeFixpoint}
+use Rattle.net_eval.specs.ReadLists.{AreReadLists}
 use Rattle.run_laws.proofs.Hulls.{within_greatest}
 use Rattle.chaos_core.specs.Boards.{nets_of}
 use Rattle.dirty_words.specs.Views.{Run}
 use Rattle.dirty_words.specs.declared.view.DirtyView.{DirtyView}
 use Rattle.dirty_run.specs.Rounds.{AreMarkedTurns}
+use Rattle.dirty_run.proofs.OneList.{one_list}
 use Rattle.dirty_run.proofs.Ended.{range_found, ends_extreme, ends_fit}
 use Rattle.dirty_run.proofs.settling.settle_dirty_in.Goals as goal
+
+pub run_rounds-rounds-requires-clause-run : goal.run_rounds-rounds-requires-clause-run
+run_rounds-rounds-requires-clause-run g c = λ _ _.
+    let board = c.args.board.now.run in
+    record {
+      design = c.requires.design;
+      way = c.requires.direction;
+      own = one_list c.args.design.now board.lists c.args.lists.now (subst (λ (d : Parts). AreReadLists d board.lists) c.requires.design c.has_read_lists.ensures) c.requires.lists;
+      whole = c.requires.lists;
+      reversed = c.requires.readers;
+    }
 
 pub load_words-requires-clause-room : goal.load_words-requires-clause-room
 load_words-requires-clause-room g c =
