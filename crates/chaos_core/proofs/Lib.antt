@@ -24,3 +24,6 @@ pub mod Settling
 mod OnlyWorker
 mod LookLaws
 mod PassLaws
+mod Deciding
+mod Telling
+mod Listing

@@ -9,3 +9,6 @@ pub mod Rounds
 pub mod OnlyWorker
 pub mod Looks
 pub mod Passes
+pub mod Alike
+pub mod TurnMarks
+pub mod Knowing

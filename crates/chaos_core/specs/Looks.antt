@@ -4,16 +4,6 @@ use Rattle.std.specs.List.{Contains, slice_index_or}
 use Rattle.xt_model.specs.declared.edge.Edge.{Edge}
 use Rattle.xt_model.specs.declared.quad.Pair.{Pair}
 use Rattle.xt_model.specs.Assign.{assigned}
-use Rattle.xt_meaning.specs.Barrier.{IsFittingStart}
-use Rattle.xt_meaning.specs.Words.{numbers_of}
-use Rattle.chaos_core.specs.Boards.{nets_of}
-use Rattle.chaos_core.specs.Memories.{Memory}
-
--- the windows of a board, and others for as many nets
-pub record IsLookRoom (board : Memory) (v w : List Pair) : Type 0 where
-  pub numbers : numbers_of v ≡ board.words
-  pub fits : IsFittingStart board.setting.way board.setting.design v
-  pub others : length w ≡ nets_of board.setting
 
 -- windows that are the same at each of several nets
 abbrev pub AreSameAt : List Pair → List Pair → List ℕ → Type 0

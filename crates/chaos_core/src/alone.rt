@@ -1,23 +1,26 @@
 //! A round of one worker. Nobody moves the words between its loads, so that it evaluates each net on the words as they
-//! are, and makes the picks of a net's loads in one go. It passes over a net that is marked, with all nets that the
-//! operator looks at for it: an evaluation would give back the words that the net has.
+//! are, and makes the picks of a net's loads in one go. It passes over a net where nothing that decides it has changed
+//! since it was evaluated: an evaluation would give back the words that the net has.
 
 ghost use Rattle.std.specs.Prelude.{◌≡◌, ℕ, ◌<◌, ◌≤◌, List, length, slice_index, IsTrue};
 ghost use Rattle.std.specs.List.{All};
 ghost use Rattle.xt_model.specs.Levels.{IsOrder};
 ghost use Rattle.xt_model.specs.Quads.{IsPairInRange};
 ghost use Rattle.xt_meaning.specs.Words.{bounds_in, top_number};
-ghost use Rattle.net_eval.specs.ReadLists.{AreReadLists, reads_of};
+ghost use Rattle.net_eval.specs.ReadLists.{AreReadLists};
 ghost use Rattle.drawn_numbers.specs.Draws.{after};
 ghost use Rattle.chaos_core.specs.Steps.{FitsPublishing};
 ghost use Rattle.chaos_core.specs.Boards.{nets_of};
-ghost use Rattle.chaos_core.specs.Memories.{knowledge_of};
+ghost use Rattle.chaos_core.specs.Memories.{IsKept, knowledge_of};
 ghost use Rattle.chaos_core.specs.Rounds.{IsRound, pause_at};
 ghost use Rattle.chaos_core.specs.OnlyWorker.{IsTurn, made_of, published};
-ghost use Rattle.chaos_core.specs.Passes.{AreCalm, HasUnmarked, HoldPair, IsCalm};
+ghost use Rattle.chaos_core.specs.Passes.{HoldPair};
+ghost use Rattle.chaos_core.specs.TurnMarks.{AreListed, AreMarks};
 
+use crate::answers::tell;
+use crate::listed::NetLists;
 use crate::loaded;
-use crate::look::are_marked;
+use crate::marks::TurnMarks;
 use crate::memory::MemoryBoard;
 use crate::steps::publish;
 use crate::words::number_in;
@@ -27,8 +30,8 @@ use xt_model::{Bounds, Design, Direction, NetId, Pair};
 
 /// The words of all nets, as a view of bounds.
 #[derive(Drop)]
-struct AllWords<'a> {
-    numbers: &'a [u64],
+pub(crate) struct AllWords<'a> {
+    pub numbers: &'a [u64],
     ghost range: { All (λ n. n ≤ top_number) numbers.now },
 }
 
@@ -57,6 +60,7 @@ fn made(board: &MemoryBoard, design: &Design, net: NetId) -> Pair
     requires net { net.0 < length design.now.nets }
     ensures value { result ≡ made_of design.now board.now.words net.0 }
     ensures fits { FitsPublishing (knowledge_of board.now) net.0 result 0 }
+    ensures kept { IsKept board.now }
 {
     let numbers = board.words();
     let view = AllWords { numbers };
@@ -100,36 +104,33 @@ fn hold_pair(board: &MemoryBoard, net: NetId, pair: &Pair) -> bool
     true
 }
 
-/// Publishes all words of a net, and takes its mark away, unless its words are those of the pair already.
+/// Moves a net to the windows of a pair, and notes that it moves and which answers turn.
 fn move_to(
     board: &mut MemoryBoard,
+    design: &Design,
+    listed: &NetLists,
     direction: Direction,
     net: NetId,
     pair: &Pair,
-    marks: &mut [bool],
+    marks: &mut TurnMarks,
 )
+    requires design { board.old.setting.design ≡ design.now }
     requires direction { board.old.setting.way ≡ direction }
+    requires listed { AreListed design.now listed.now }
+    requires net { net.0 < length design.now.nets }
+    requires made { pair.now ≡ made_of design.now board.old.words net.0 }
     requires fits { FitsPublishing (knowledge_of board.old) net.0 pair.now 0 }
-    requires marks { net.0 < length marks.old }
+    requires kept { IsKept board.old }
+    requires marks { AreMarks design.now board.old.words marks.old }
     ensures setting { board.new.setting ≡ board.old.setting }
     ensures words { board.new.words ≡ published direction net.0 pair.now board.old.words 8 }
-    ensures marks { HasUnmarked net.0 board.old.words marks.old board.new.words marks.new }
+    ensures marks { AreMarks design.now board.new.words marks.new }
+    ensures turn { marks.new.turn ≡ marks.old.turn }
 {
-    if hold_pair(board, net, pair) {
-        return;
-    }
+    tell(board, design, listed, direction, net, pair, marks);
+    marks.note_look(net);
+    marks.note_move(net);
     publish_all(board, direction, net, pair);
-    marks[net.0 as usize] = false;
-}
-
-/// Whether a net and all nets of its read list are marked.
-fn is_calm(marks: &[bool], lists: &ReadLists, net: NetId) -> bool
-    requires net { net.0 < length lists.now }
-    requires marks { net.0 < length marks.now }
-    requires inside { All (λ read. read.0 < length marks.now) (reads_of lists.now net.0) }
-    ensures { IsTrue result → IsCalm lists.now marks.now net.0 }
-{
-    marks[net.0 as usize] && are_marked(marks, lists.of(net))
 }
 
 /// The turn of the only worker at a net: it draws the net's place, loads the words of its read list and publishes.
@@ -137,51 +138,60 @@ fn turn(
     board: &mut MemoryBoard,
     design: &Design,
     lists: &ReadLists,
+    listed: &NetLists,
     direction: Direction,
     net: NetId,
     source: &mut Source,
-    marks: &mut [bool],
+    marks: &mut TurnMarks,
 )
     requires design { board.old.setting.design ≡ design.now }
     requires direction { board.old.setting.way ≡ direction }
     requires lists { AreReadLists design.now lists.now }
+    requires listed { AreListed design.now listed.now }
     requires net { net.0 < length design.now.nets }
-    requires calm { AreCalm design.now lists.now board.old.words marks.old }
+    requires marks { AreMarks design.now board.old.words marks.old }
     ensures setting { board.new.setting ≡ board.old.setting }
     ensures turn { (order : List ℕ) (place : ℕ) → place < length design.now.nets → slice_index order place ≡ net.0
         → IsTurn board.old.setting lists.now order place (pause_at source.old.state board.old)
         (pause_at source.new.state board.new) }
-    ensures calm { AreCalm design.now lists.now board.new.words marks.new }
+    ensures marks { AreMarks design.now board.new.words marks.new }
 {
     pick_only(source, 1);
     pick_only(source, 8 * lists.of(net).len());
     pick_only(source, 8);
-    if is_calm(marks, lists, net) {
+    marks.begin_turn();
+    if marks.is_settled(net, design.net(net.0 as usize)) {
         return;
     }
     let pair = made(board, design, net);
-    move_to(board, direction, net, &pair, marks);
+    if hold_pair(board, net, &pair) {
+        marks.note_look(net);
+        return;
+    }
+    move_to(board, design, listed, direction, net, &pair, marks);
 }
 
-/// One round of one worker, turn by turn. Where a net and all nets of its read list are marked, the words of the net
-/// are what the operator makes of it; a net that moves loses its mark. Takes no memory.
+/// One round of one worker, turn by turn. Where nothing that decides a net has changed since it was evaluated, its
+/// words are what the operator makes of it. Takes no memory.
 pub(crate) fn round_alone(
     board: &mut MemoryBoard,
     design: &Design,
     lists: &ReadLists,
+    listed: &NetLists,
     direction: Direction,
     source: &mut Source,
-    marks: &mut [bool],
+    marks: &mut TurnMarks,
 )
     requires design { board.old.setting.design ≡ design.now }
     requires direction { board.old.setting.way ≡ direction }
     requires lists { AreReadLists design.now lists.now }
-    requires calm { AreCalm design.now lists.now board.old.words marks.old }
+    requires listed { AreListed design.now listed.now }
+    requires marks { AreMarks design.now board.old.words marks.old }
     ensures setting { board.new.setting ≡ board.old.setting }
     ensures round { (order : List ℕ) → IsOrder design.now.nets order
         → IsRound board.old.setting lists.now order 1 (pause_at source.old.state board.old)
         (pause_at source.new.state board.new) }
-    ensures marks { length marks.new ≡ length marks.old }
+    ensures marks { AreMarks design.now board.new.words marks.new }
 {
     let order = design.order();
     for place in 0..order.len() {
@@ -189,6 +199,7 @@ pub(crate) fn round_alone(
             board,
             design,
             lists,
+            listed,
             direction,
             NetId(order[place]),
             source,

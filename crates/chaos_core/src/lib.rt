@@ -3,11 +3,15 @@
 #![tactic(auto)]
 
 mod alone;
+mod answers;
 mod board;
 mod gate;
+mod known;
 mod laws;
+mod listed;
 mod loaded;
 mod look;
+mod marks;
 mod memory;
 mod round;
 mod run;
@@ -15,6 +19,7 @@ mod schedule;
 mod setting;
 mod settle;
 mod steps;
+mod unmoved;
 mod words;
 mod worker;
 

@@ -12,9 +12,7 @@ ghost use Rattle.chaos_core.specs.Steps.{IsFitting};
 ghost use Rattle.chaos_core.specs.Memories.{knowledge_of};
 ghost use Rattle.chaos_core.specs.Machine.{count_open};
 ghost use Rattle.chaos_core.specs.Rounds.{HasOpen, HasRoom, IsPick, IsPicked, IsRound, pause_at, play_at};
-ghost use Rattle.chaos_core.specs.Passes.{AreCalm};
 
-use crate::alone::round_alone;
 use crate::memory::MemoryBoard;
 use crate::run::is_done;
 use crate::steps::worker_step;
@@ -121,7 +119,7 @@ fn pick(
     worker_step(board, &mut workers[place], design, lists, direction);
 }
 
-/// One round. One worker passes over nets by the marks; several look at none. Takes no memory.
+/// One round, pick by pick. Takes no memory.
 pub(crate) fn round(
     board: &mut MemoryBoard,
     workers: &mut [Worker],
@@ -129,26 +127,19 @@ pub(crate) fn round(
     lists: &ReadLists,
     direction: Direction,
     source: &mut Source,
-    marks: &mut [bool],
 )
     requires design { board.old.setting.design ≡ design.now }
     requires direction { board.old.setting.way ≡ direction }
     requires lists { AreReadLists design.now lists.now }
     requires few { length workers.old ≤ most_workers }
     requires rooms { All (HasRoom lists.now) workers.old }
-    requires calm { AreCalm design.now lists.now board.old.words marks.old }
     ensures setting { board.new.setting ≡ board.old.setting }
     ensures count { length workers.new ≡ length workers.old }
     ensures rooms { All (HasRoom lists.now) workers.new }
     ensures round { (order : List ℕ) → IsOrder design.now.nets order
         → IsRound board.old.setting lists.now order (length workers.old)
         (pause_at source.old.state board.old) (pause_at source.new.state board.new) }
-    ensures marks { length marks.new ≡ length marks.old }
 {
-    if workers.len() == 1 {
-        round_alone(board, design, lists, direction, source, marks);
-        return;
-    }
     board.restart();
     reset_all(workers);
     'picks: while any_open(workers) {

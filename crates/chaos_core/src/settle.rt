@@ -13,14 +13,13 @@ ghost use Rattle.xt_meaning.specs.Words.{numbers_of};
 ghost use Rattle.run_laws.specs.Transitions.{Transition, AreConsistent};
 ghost use Rattle.run_laws.specs.Laws.{LieWithin};
 ghost use Rattle.net_eval.specs.ReadLists.{AreReadLists};
-ghost use Rattle.chaos_core.specs.Looks.{IsLookRoom};
-ghost use Rattle.chaos_core.specs.Passes.{AreCalm};
+ghost use Rattle.chaos_core.specs.Knowing.{IsKnown};
 ghost use Rattle.chaos_core.specs.Memories.{IsKept};
 ghost use Rattle.chaos_core.specs.Rounds.{HasRoom, Settles};
 
-use crate::look::closed_after;
+use crate::known::Known;
 use crate::memory::MemoryBoard;
-use crate::round::{new_workers, round};
+use crate::round::new_workers;
 use crate::worker::Worker;
 use drawn_numbers::Source;
 use net_eval::{ReadLists, closed};
@@ -34,31 +33,12 @@ pub struct Settled {
     pub rounds: u64,
 }
 
-/// The windows of a board before and after a round: what a look at its words takes.
-#[derive(Drop)]
-struct LookRoom {
-    before: Windows,
-    after: Windows,
-}
-
-impl LookRoom {
-    /// With the windows of a board twice.
-    fn new(alloc: Global, board: &MemoryBoard) -> Result<LookRoom, NoMemory>
-        ensures room { IfOk result (λ room. IsLookRoom board.now room.before room.after) }
-        ensures kept { IfOk result (λ _. IsKept board.now) }
-    {
-        let before = board.windows(alloc)?;
-        let after = board.windows(alloc)?;
-        Ok(LookRoom { before, after })
-    }
-}
-
 /// Makes rounds on a board at its start until the words are closed. Takes no memory.
 fn settle_on(
     board: &mut MemoryBoard,
     workers: &mut [Worker],
-    room: LookRoom,
-    marks: &mut [bool],
+    windows: Windows,
+    known: Known,
     design: &Design,
     lists: &ReadLists,
     direction: Direction,
@@ -68,8 +48,9 @@ fn settle_on(
     requires direction { board.old.setting.way ≡ direction }
     requires start { board.old.words ≡ numbers_of board.old.setting.start }
     requires kept { IsKept board.old }
-    requires room { IsLookRoom board.old room.before room.after }
-    requires calm { AreCalm design.now lists.now board.old.words marks.old }
+    requires numbers { numbers_of windows ≡ board.old.words }
+    requires fits { IsFittingStart direction design.now windows }
+    requires known { IsKnown design.now (length workers.old) board.old.words known }
     requires lists { AreReadLists design.now lists.now }
     requires some { 0 < length workers.old }
     requires few { length workers.old ≤ most_workers }
@@ -79,19 +60,21 @@ fn settle_on(
         → Settles board.old.setting lists.now order (length workers.old) number result.windows result.rounds }
     ensures few { (bound : ℕ) → IsRoundBound design.now.nets bound → result.rounds ≤ bound }
 {
-    let LookRoom { before, after } = room;
-    let mut windows = before;
-    let mut later = after;
+    let mut windows = windows;
+    let mut known = known;
     let mut source = Source::new(number);
     let mut done = closed(design, &windows);
     let mut rounds: u64 = 0;
     'rounds: while !done {
-        round(board, workers, design, lists, direction, &mut source, marks);
-        board.load_into(&mut later);
-        done = closed_after(design, lists, marks, &windows, &later);
-        let spare = windows;
-        windows = later;
-        later = spare;
+        done = known.round(
+            board,
+            workers,
+            design,
+            lists,
+            direction,
+            &mut source,
+            &mut windows,
+        );
         prove!(rounds < design.bound());
         rounds += 1;
     }
@@ -125,14 +108,14 @@ pub fn settle_picked(
         → AreConsistent design.now xs → LieWithin (assigned settled.windows) xs) }
 {
     let mut board = MemoryBoard::new(alloc, design, direction, start)?;
+    let windows = board.windows(alloc)?;
+    let known = Known::new(alloc, &board, design, workers)?;
     let mut workers = new_workers(alloc, lists, workers)?;
-    let room = LookRoom::new(alloc, &board)?;
-    let mut marks = vec![in alloc; false; design.nets().len()]?;
     Ok(settle_on(
         &mut board,
         workers.as_mut_slice(),
-        room,
-        marks.as_mut_slice(),
+        windows,
+        known,
         design,
         lists,
         direction,

@@ -1,18 +1,27 @@
-use Rattle.std.proofs.Common.{refl, sym, inl, inr, arith}
-use Rattle.chaos_core.proofs.PassLaws.{published_same}
+use Rattle.std.proofs.Common.{ap, ◌∙◌, length, arith}
+use Rattle.chaos_core.specs.TurnMarks.{Marks}
+use Rattle.chaos_core.proofs.Telling.{marks_moved}
 use Rattle.chaos_core.proofs.alone.move_to.Goals as goal
 
-pub hold_pair-requires-clause-net : goal.hold_pair-requires-clause-net
-hold_pair-requires-clause-net c = c.requires.fits.there
+pub tell-requires-clause-range : goal.tell-requires-clause-range
+tell-requires-clause-range c = c.requires.fits.range
 
-pub hold_pair-requires-clause-range : goal.hold_pair-requires-clause-range
-hold_pair-requires-clause-range c = c.requires.fits.range
+pub tell-requires-clause-marks : goal.tell-requires-clause-marks
+tell-requires-clause-marks c = c.requires.marks.counts.answers
 
-pub returns-then-hold_pair-clause-words : goal.returns-then-hold_pair-clause-words
-returns-then-hold_pair-clause-words c = sym (published_same c.args.direction c.args.net.0 c.args.pair.now c.args.board.now.words 8 (omega arith) (c.hold_pair.ensures c.if-hold_pair.true))
+pub note_look-requires : goal.note_look-requires
+note_look-requires c =
+    let e = ap (λ (m : Marks). length m.seen) c.tell.ensures.rest in let n = c.requires.marks.counts.seen in let h = c.requires.net in omega (arith, e, n, h)
 
-pub returns-then-hold_pair-clause-marks : goal.returns-then-hold_pair-clause-marks
-returns-then-hold_pair-clause-marks c = inl (refl, refl)
+pub note_move-requires : goal.note_move-requires
+note_move-requires c =
+    let e = ap (λ (m : Marks). length m.moved) c.tell.ensures.rest in let f = ap (λ (m : Marks). length m.moved) c.note_look.ensures in
+    let n = c.requires.marks.counts.moved in let h = c.requires.net in omega (arith, e, f, n, h)
+
+pub returns-clause-turn : goal.returns-clause-turn
+returns-clause-turn c = ap (λ (m : Marks). m.turn) c.note_move.ensures ∙ (ap (λ (m : Marks). m.turn) c.note_look.ensures ∙ ap (λ (m : Marks). m.turn) c.tell.ensures.rest)
 
 pub returns-clause-marks : goal.returns-clause-marks
-returns-clause-marks c = inr refl
+returns-clause-marks c =
+    marks_moved c.args.board.now c.args.design.now c.publish_all.new.board.words c.args.net.0 c.args.pair.now c.args.direction c.args.marks.now c.tell.new.marks c.note_look.new.self c.note_move.new.self
+    c.requires.kept.words c.requires.design c.requires.direction c.requires.net c.requires.fits.range c.requires.made c.requires.marks c.tell.ensures.told c.tell.ensures.rest c.note_look.ensures c.note_move.ensures c.publish_all.ensures.words

@@ -20,7 +20,7 @@ turn-requires-clause-net c =
     order_there c.args.design.now c.order-order.result.now c.loop-place.place o (let n = o.2.count in let h = c.loop-place-test.true in omega (arith, n, h))
 
 pub loop-place-init : goal.loop-place-init
-loop-place-init c = record { setting = refl; calm = c.requires.calm; path = λ order o. (0, refl) }
+loop-place-init c = record { setting = refl; marks = c.requires.marks; path = λ order o. (0, refl) }
 
 pub loop-place-preserved : goal.loop-place-preserved
 loop-place-preserved c =
@@ -29,7 +29,7 @@ loop-place-preserved c =
     let mine = c.order-order.result.now in
     record {
       setting = c.turn.ensures.setting ∙ inv.setting;
-      calm = c.turn.ensures.calm;
+      marks = c.turn.ensures.marks;
       path = λ order o.
           let m = c.order-order.ensures.value in
           let same = one_order d.nets mine order m o in
@@ -48,6 +48,3 @@ returns-clause-round c = λ order o.
     let path = inv.path order o in
     turns_done c.args.board.now.setting c.args.lists.now order path.0 (pause_at c.loop-place.source.state c.loop-place.board) (pause_at c.pick_only.new.source.state c.loop-place.board) c.loop-place.place
     (let n = m.2.count in let h = c.loop-place-test.false in let own = ap (λ (x : Parts). length x.nets) c.requires.design in omega (arith, n, h, own)) c.pick_only.ensures refl (pause_at c.args.source.now.state c.args.board.now) path.1
-
-pub returns-clause-marks : goal.returns-clause-marks
-returns-clause-marks c = c.loop-place.invariant.calm.count ∙ sym c.requires.calm.count

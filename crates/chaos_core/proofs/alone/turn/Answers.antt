@@ -1,39 +1,86 @@
-use Rattle.std.proofs.Common.{◌≡◌, sym, refl, ◌∙◌, ap, length, arith}
+use Rattle.std.proofs.Common.{◌≡◌, sym, refl, ◌∙◌, ap, subst, length, arith}
+use Rattle.std.specs.Prelude.{Option, IfSome}
+use Rattle.xt_model.specs.declared.net.Net.{Net}
+use Rattle.xt_model.specs.declared.quad.Pair.{Pair}
+use Rattle.xt_model.specs.Quads.{IsPairInRange}
 use Rattle.net_eval.specs.ReadLists.{reads_of}
 use Rattle.chaos_core.specs.Tasks.{list_of}
 use Rattle.chaos_core.specs.OnlyWorker.{made_of}
+use Rattle.chaos_core.specs.Passes.{HoldPair}
+use Rattle.chaos_core.specs.TurnMarks.{AreMarks, IsSettledNet, Marks}
 use Rattle.chaos_core.proofs.Places.{ids_count}
-use Rattle.chaos_core.proofs.LookLaws.{reads_inside}
 use Rattle.chaos_core.proofs.OnlyWorker.{turn_there}
-use Rattle.chaos_core.proofs.PassLaws.{calm_after, published_same}
+use Rattle.chaos_core.proofs.PassLaws.{published_same}
+use Rattle.chaos_core.proofs.Telling.{inputs_there, marks_begun, marks_seen}
 use Rattle.chaos_core.proofs.alone.turn.Goals as goal
 
 pub of-requires : goal.of-requires
 of-requires c = let n = c.requires.lists.count in let h = c.requires.net in omega (arith, n, h)
 
-pub is_calm-requires-clause-net : goal.is_calm-requires-clause-net
-is_calm-requires-clause-net c = let n = c.requires.lists.count in let h = c.requires.net in omega (arith, n, h)
+pub is_settled-requires-clause-seen : goal.is_settled-requires-clause-seen
+is_settled-requires-clause-seen c = let e = ap (λ (m : Marks). length m.seen) c.begin_turn.ensures.rest in let n = c.requires.marks.counts.seen in let h = c.requires.net in omega (arith, e, n, h)
 
-pub is_calm-requires-clause-marks : goal.is_calm-requires-clause-marks
-is_calm-requires-clause-marks c = let n = c.requires.calm.count in let h = c.requires.net in omega (arith, n, h)
+pub is_settled-requires-clause-answers : goal.is_settled-requires-clause-answers
+is_settled-requires-clause-answers c = let e = ap (λ (m : Marks). length m.answers) c.begin_turn.ensures.rest in let n = c.requires.marks.counts.answers in let h = c.requires.net in omega (arith, e, n, h)
 
-pub is_calm-requires-clause-inside : goal.is_calm-requires-clause-inside
-is_calm-requires-clause-inside c = reads_inside c.args.design.now c.args.lists.now c.args.net.0 _ _ c.requires.lists.sound c.requires.lists c.requires.net c.requires.calm.count refl
+pub is_settled-requires-clause-inputs : goal.is_settled-requires-clause-inputs
+is_settled-requires-clause-inputs c =
+    let e = ap (λ (m : Marks). length m.moved) c.begin_turn.ensures.rest in
+    inputs_there c.args.design.now c.args.net.0 c.net.result.now _ (e ∙ c.requires.marks.counts.moved) c.net.ensures.sound
 
-pub move_to-requires-clause-marks : goal.move_to-requires-clause-marks
-move_to-requires-clause-marks c = let n = c.requires.calm.count in let h = c.requires.net in omega (arith, n, h)
+pub is_settled-requires-clause-inputs_answers : goal.is_settled-requires-clause-inputs_answers
+is_settled-requires-clause-inputs_answers c =
+    let e = ap (λ (m : Marks). length m.answers) c.begin_turn.ensures.rest in
+    inputs_there c.args.design.now c.args.net.0 c.net.result.now _ (e ∙ c.requires.marks.counts.answers) c.net.ensures.sound
 
--- the words that a net has are what it would publish
-pub returns-then-is_calm-clause-turn : goal.returns-then-is_calm-clause-turn
-returns-then-is_calm-clause-turn c = λ order place h at.
+-- a settled net has the words that it would publish
+pub returns-then-is_settled-clause-turn : goal.returns-then-is_settled-clause-turn
+returns-then-is_settled-clause-turn c = λ order place h at.
     let b = c.args.board.now in
     let d = c.args.design.now in
     let lists = c.args.lists.now in
     let net = c.args.net.0 in
     let size : length c.of.result.now ≡ length (list_of lists net) = ap length c.of.ensures ∙ sym (ids_count (reads_of lists net)) in
-    let hold = c.requires.calm.each net c.requires.net (c.is_calm.ensures c.if-is_calm.true) in
+    let settled = subst (λ (o : Option Net). IfSome o (IsSettledNet c.begin_turn.new.self net)) (sym c.net.ensures.there) (c.is_settled.ensures c.if-is_settled.true) in
+    let hold = ((marks_begun c.args.design.now c.args.board.now.words c.args.marks.now c.begin_turn.new.self c.begin_turn.ensures.later c.begin_turn.ensures.rest c.requires.marks).settled net c.requires.net settled).hold in
     turn_there b d lists order place net (length c.of.result.now) (made_of d b.words net) c.args.direction c.args.source.now.state _ _ _ _ c.requires.design c.requires.direction c.requires.lists
     c.requires.lists.sound h c.requires.net at size c.pick_only.ensures c.pick_only-2.ensures c.pick_only-3.ensures refl (sym (published_same c.args.direction net (made_of d b.words net) b.words 8 (omega arith) hold))
+
+pub returns-then-is_settled-clause-marks : goal.returns-then-is_settled-clause-marks
+returns-then-is_settled-clause-marks c = marks_begun c.args.design.now c.args.board.now.words c.args.marks.now c.begin_turn.new.self c.begin_turn.ensures.later c.begin_turn.ensures.rest c.requires.marks
+
+pub hold_pair-requires-clause-net : goal.hold_pair-requires-clause-net
+hold_pair-requires-clause-net c = c.made-pair.ensures.fits.there
+
+pub hold_pair-requires-clause-range : goal.hold_pair-requires-clause-range
+hold_pair-requires-clause-range c = c.made-pair.ensures.fits.range
+
+pub note_look-requires : goal.note_look-requires
+note_look-requires c = let n = (marks_begun c.args.design.now c.args.board.now.words c.args.marks.now c.begin_turn.new.self c.begin_turn.ensures.later c.begin_turn.ensures.rest c.requires.marks).counts.seen in let h = c.requires.net in omega (arith, n, h)
+
+pub returns-then-hold_pair-clause-turn : goal.returns-then-hold_pair-clause-turn
+returns-then-hold_pair-clause-turn c = λ order place h at.
+    let b = c.args.board.now in
+    let lists = c.args.lists.now in
+    let net = c.args.net.0 in
+    let size : length c.of.result.now ≡ length (list_of lists net) = ap length c.of.ensures ∙ sym (ids_count (reads_of lists net)) in
+    turn_there b c.args.design.now lists order place net (length c.of.result.now) c.made-pair.result c.args.direction c.args.source.now.state _ _ _ _ c.requires.design c.requires.direction c.requires.lists
+    c.requires.lists.sound h c.requires.net at size c.pick_only.ensures c.pick_only-2.ensures c.pick_only-3.ensures c.made-pair.ensures.value
+    (sym (published_same c.args.direction net c.made-pair.result b.words 8 (omega arith) (c.hold_pair.ensures c.if-hold_pair.true)))
+
+pub returns-then-hold_pair-clause-marks : goal.returns-then-hold_pair-clause-marks
+returns-then-hold_pair-clause-marks c =
+    let d = c.args.design.now in
+    let words = c.args.board.now.words in
+    let net = c.args.net.0 in
+    let hold : HoldPair words net (made_of d words net) = subst (λ (p : Pair). HoldPair words net p) c.made-pair.ensures.value (c.hold_pair.ensures c.if-hold_pair.true) in
+    subst (AreMarks d words) (sym c.note_look.ensures) (marks_seen d words c.begin_turn.new.self net (marks_begun c.args.design.now c.args.board.now.words c.args.marks.now c.begin_turn.new.self c.begin_turn.ensures.later c.begin_turn.ensures.rest c.requires.marks) (record { hold = hold; range = subst IsPairInRange c.made-pair.ensures.value c.made-pair.ensures.fits.range }))
+
+pub move_to-requires-clause-kept : goal.move_to-requires-clause-kept
+move_to-requires-clause-kept c = c.made-pair.ensures.kept
+
+pub move_to-requires-clause-marks : goal.move_to-requires-clause-marks
+move_to-requires-clause-marks c = marks_begun c.args.design.now c.args.board.now.words c.args.marks.now c.begin_turn.new.self c.begin_turn.ensures.later c.begin_turn.ensures.rest c.requires.marks
 
 pub returns-clause-turn : goal.returns-clause-turn
 returns-clause-turn c = λ order place h at.
@@ -42,7 +89,3 @@ returns-clause-turn c = λ order place h at.
     let size : length c.of.result.now ≡ length (list_of lists net) = ap length c.of.ensures ∙ sym (ids_count (reads_of lists net)) in
     turn_there c.args.board.now c.args.design.now lists order place net (length c.of.result.now) c.made-pair.result c.args.direction c.args.source.now.state _ _ _ _ c.requires.design c.requires.direction c.requires.lists
     c.requires.lists.sound h c.requires.net at size c.pick_only.ensures c.pick_only-2.ensures c.pick_only-3.ensures c.made-pair.ensures.value c.move_to.ensures.words
-
-pub returns-clause-calm : goal.returns-clause-calm
-returns-clause-calm c =
-    calm_after c.args.design.now c.args.lists.now c.args.board.now.words _ c.args.marks.now _ c.args.direction c.args.net.0 c.made-pair.result c.requires.lists c.requires.calm c.move_to.ensures.words c.move_to.ensures.marks

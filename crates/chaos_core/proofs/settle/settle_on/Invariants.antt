@@ -7,7 +7,7 @@ use Rattle.xt_meaning.specs.Measure.{room}
 use Rattle.xt_meaning.specs.Words.{numbers_of}
 use Rattle.chaos_core.specs.Memories.{AreKept}
 use Rattle.chaos_core.specs.Rounds.{HasRoom, AreRounds, pause_at}
-use Rattle.chaos_core.specs.Passes.{AreCalm}
+use Rattle.chaos_core.specs.Knowing.{IsKnown}
 use Rattle.chaos_core.proofs.Settling.{IsSteady}
 use Rattle.chaos_core.proofs.settle.settle_on.Given as goal
 
@@ -18,8 +18,7 @@ invariant-rounds l = record {
   rooms : All (HasRoom l.lists) l.workers;
   fits : IsFittingStart l.direction l.design l.windows;
   numbers : numbers_of l.windows ≡ l.board.words;
-  later : length l.later ≡ length l.design.nets;
-  calm : AreCalm l.design l.lists l.board.words l.marks;
+  known : IsKnown l.design (length l.fn.workers) l.board.words l.known;
   steady : IsTrue l.done ↔ IsSteady l.design l.windows;
   kept : AreKept l.fn.board.setting l.board.words;
   path : (order : List ℕ) → IsOrder l.design.nets order

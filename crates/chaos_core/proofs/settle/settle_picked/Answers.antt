@@ -1,10 +1,7 @@
 use Rattle.std.proofs.Common.{◌≡◌, ℕ, subst, ap, ◌∙◌, List, length}
 use Rattle.xt_model.specs.Levels.{IsOrder}
 use Rattle.xt_model.specs.declared.direction.Direction.{Direction}
-use Rattle.xt_model.specs.Assign.{assigned}
 use Rattle.xt_meaning.specs.Laws.{IsExtremeFixpoint}
-use Rattle.run_laws.specs.Transitions.{Transition, AreConsistent}
-use Rattle.run_laws.specs.Laws.{LieWithin}
 use Rattle.run_laws.proofs.Hulls.{within_greatest}
 use Rattle.chaos_core.specs.declared.setting.Setting.{Setting}
 use Rattle.chaos_core.specs.Memories.{Memory}

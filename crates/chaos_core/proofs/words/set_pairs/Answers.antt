@@ -1,10 +1,8 @@
-use Rattle.std.proofs.Common.{◌≡◌, ◌*◌, ◌<◌, sym, ap, subst, ◌∙◌, length, length-set, arith}
+use Rattle.std.proofs.Common.{◌<◌, sym, ap, subst, ◌∙◌, length, length-set, arith}
 use Rattle.std.specs.List.{All}
-use Rattle.std.proofs.lemmas.List.{take_all}
 use Rattle.std.proofs.lemmas.List.Elements.{All-set}
 use Rattle.xt_model.specs.declared.quad.Pair.{Pair}
 use Rattle.xt_model.specs.Quads.{IsPairInRange}
-use Rattle.xt_meaning.specs.Words.{numbers_of}
 use Rattle.chaos_core.proofs.Numbered.{pairs_set, all_pairs}
 use Rattle.chaos_core.proofs.words.set_pairs.Goals as goal
 

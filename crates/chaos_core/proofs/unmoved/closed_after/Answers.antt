@@ -1,6 +1,6 @@
-use Rattle.std.proofs.Common.{◌<◌, refl, length, arith, ap, ◌∙◌}
+use Rattle.std.proofs.Common.{◌<◌, refl, length, arith, ◌∙◌}
 use Rattle.net_eval.proofs.Steady.{steady_more, steady_all}
-use Rattle.chaos_core.proofs.look.closed_after.Goals as goal
+use Rattle.chaos_core.proofs.unmoved.closed_after.Goals as goal
 
 pub is_steady-requires-clause-marks : goal.is_steady-requires-clause-marks
 is_steady-requires-clause-marks c = c.mark_unmoved.ensures.count ∙ c.requires.before

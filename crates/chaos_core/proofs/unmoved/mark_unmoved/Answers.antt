@@ -1,12 +1,9 @@
-use Rattle.std.proofs.Common.{◌≡◌, ℕ, suc, ◌+◌, ◌<◌, ◌≤◌, subst, sym, ap, ◌∙◌, arith, length, length-set, get_or, false, inl, inr}
+use Rattle.std.proofs.Common.{◌≡◌, ℕ, suc, ◌<◌, ◌∙◌, arith, length, length-set}
 use Rattle.std.specs.Prelude.{IsTrue}
-use Rattle.std.proofs.lemmas.Bool.{cases_lt}
-use Rattle.std.proofs.lemmas.List.{get_or_past}
 use Rattle.xt_model.specs.declared.edge.Edge.{Edge}
 use Rattle.xt_model.specs.Assign.{assigned}
-use Rattle.chaos_core.proofs.Places.{no_lie}
 use Rattle.chaos_core.proofs.LookLaws.{marks_all, marks_set, same_pairs}
-use Rattle.chaos_core.proofs.look.mark_unmoved.Goals as goal
+use Rattle.chaos_core.proofs.unmoved.mark_unmoved.Goals as goal
 
 pub loop-net-preserved : goal.loop-net-preserved
 loop-net-preserved c =

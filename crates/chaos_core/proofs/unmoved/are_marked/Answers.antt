@@ -6,7 +6,7 @@ use Rattle.std.proofs.lemmas.List.Elements.{Contains-get_or}
 use Rattle.net_eval.specs.ReadLists.{ids}
 use Rattle.chaos_core.proofs.LookLaws.{marked_all}
 use Rattle.chaos_core.proofs.Places.{ids_count, no_lie}
-use Rattle.chaos_core.proofs.look.are_marked.Goals as goal
+use Rattle.chaos_core.proofs.unmoved.are_marked.Goals as goal
 
 pub loop-place-preserved : goal.loop-place-preserved
 loop-place-preserved c = λ i lt. elim (cases_lt i c.loop-place.place) [

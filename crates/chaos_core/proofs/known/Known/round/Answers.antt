@@ -1,0 +1,33 @@
+use Rattle.std.proofs.Common.{refl, length}
+use Rattle.chaos_core.specs.Rounds.{pause_at}
+use Rattle.chaos_core.proofs.LookLaws.{steady_kept}
+use Rattle.chaos_core.proofs.PassLaws.{steady_from_hold}
+use Rattle.chaos_core.proofs.Settling.{carried, fits_under}
+use Rattle.chaos_core.proofs.known.Known.round.Goals as goal
+
+-- a net that is settled has the words that the operator makes
+pub closed_by-requires-clause-settled : goal.closed_by-requires-clause-settled
+closed_by-requires-clause-settled c = λ net there settled.
+    let d = c.args.design.now in
+    let load = c.load_into.ensures in
+    let after = fits_under c.args.board.now.setting c.round_alone.new.board.setting d c.args.direction c.load_into.new.windows c.round_alone.ensures.setting c.requires.design c.requires.direction load.fits in
+    let held = c.round_alone.ensures.marks.settled net there settled in
+    steady_from_hold d c.round_alone.new.board.words c.load_into.new.windows net after.windows.in_range load.numbers held.hold held.range
+
+-- a net whose reads the round did not move is steady after it
+pub closed_after-requires-clause-kept : goal.closed_after-requires-clause-kept
+closed_after-requires-clause-kept c = λ net there alike.
+    let a = c.args.board.now.setting in
+    let d = c.args.design.now in
+    let lists = c.args.lists.now in
+    let way = c.args.direction in
+    let order = c.requires.lists.ordered.0 in
+    let o = c.requires.lists.ordered.1 in
+    let v = c.load_into-in-Moves.new.windows in
+    let w = c.load_into-in-Moves-2.new.windows in
+    let p = pause_at c.args.source.now.state c.args.board.now in
+    let q = pause_at c.round.new.source.state c.round.new.board in
+    let carry = carried a d lists order (length c.args.workers.now) p q c.requires.design c.requires.some c.requires.lists o c.requires.kept (c.round.ensures.round order o) in
+    let before = fits_under a a d way v refl c.requires.design c.requires.direction c.load_into-in-Moves.ensures.fits in
+    let after = fits_under a c.round.new.board.setting d way w c.round.ensures.setting c.requires.design c.requires.direction c.load_into-in-Moves-2.ensures.fits in
+    steady_kept a d way lists v w p.words q.words c.requires.design c.requires.direction c.requires.lists before after c.load_into-in-Moves.ensures.numbers c.load_into-in-Moves-2.ensures.numbers carry net there alike
