@@ -167,9 +167,6 @@ module _ (a : Setting) (lists : List (List NetId)) (order : List ℕ) (s : State
         n,
         record {
           found = record { respects = good.words.seen.respects word; past = are_refl a.way (bounds_in s.words) word; alone = λ h. refl };
-          made = 0;
-          least = omega arith;
-          once = omega arith;
           after = refl;
         },
       ) in

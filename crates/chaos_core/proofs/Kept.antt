@@ -93,7 +93,7 @@ loads_there m word number kept is = record {
 
 pub publishes_there : (m : Memory) (word number left : ℕ) → IsKept m → number ≡ number_at m.words word
     → Publishes (knowledge_of m) word number left (knowledge_of (record m { words = set m.words word left }))
-publishes_there m word number left kept is = record { found = found_there m word number kept is; made = 0; least = omega arith; once = omega arith; after = refl }
+publishes_there m word number left kept is = record { found = found_there m word number kept is; after = refl }
 
 pub read_number : (words : List ℕ) (word number : ℕ) → word < length words → number ≡ get_or words word number → number ≡ number_at words word
 read_number words word number h e = e ∙ get_or_default words word number _ h

@@ -193,9 +193,6 @@ module _ (a : Setting) (lists : List (List NetId)) (order : List ℕ) (before no
       let was : IsPast k net pair × HasPassed k l net place = subst (IsBusy lists k l) at (gone.busy pick) in
       let h : Publishes l word n left m = record {
         found = record { respects = gone.good.words.seen.respects word; past = are_refl a.way (bounds_in now.words) word; alone = λ h. refl };
-        made = 0;
-        least = omega arith;
-        once = omega arith;
         after = refl;
       } in
       let sound = gone.good.words.seen.sound in

@@ -1,6 +1,6 @@
 -- A worker's run, step by step.
 use Rattle.std.proofs.Common.{◌≡◌, ℕ, suc, ◌+◌, ◌-◌, ◌*◌, ◌/◌, ◌%◌, ◌<◌, ◌≤◌, nat_lt, true, ◌⊎◌, inl, inr, refl, sym, ap, subst, ◌∙◌, List, [], ◌∷◌, ◌++◌, length, max, arith}
-use Rattle.std.specs.Prelude.{slice_index}
+use Rattle.std.specs.Prelude.{Bool, false, slice_index}
 use Rattle.std.specs.List.{All, Contains}
 use Rattle.std.proofs.lemmas.Bool.{cases_lt}
 use Rattle.std.proofs.lemmas.List.{get_or_append_left, length-append}
@@ -18,7 +18,7 @@ use Rattle.xt_meaning.proofs.Numbers.{onward_mono_at, further_second, bound_ther
 use Rattle.net_eval.specs.ReadLists.{AreReadLists}
 use Rattle.chaos_core.specs.declared.setting.Setting.{Setting}
 use Rattle.chaos_core.specs.declared.worker.Moved.{Moved}
-use Rattle.chaos_core.specs.Boards.{nets_of, Knowledge, Loads, Publishes, Draws, late_after}
+use Rattle.chaos_core.specs.Boards.{nets_of, Knowledge, Loads, Publishes, Draws, counted, late_after}
 use Rattle.chaos_core.specs.Tasks.{Task, idle, loading, publishing, done, list_of, place_of, word_to_load, loaded_bounds, evaluated, bound_at, with_loaded, moved_on}
 use Rattle.chaos_core.specs.Steps.{FitsLoading, FitsPublishing, Fits, Steps}
 use Rattle.chaos_core.specs.Runs.{IsDone, count_below, HasPassed, Ran}
@@ -70,11 +70,30 @@ pub record Running (lists : List (List NetId)) (order : List ℕ) (k l : Knowled
   pub onward : AreNoFurther k.setting.way (bounds_in k.seen) (bounds_in l.seen)
   pub drawn : (n : ℕ) → Contains l.drawn n → n < nets_of k.setting → IsAt t (slice_index order n) ⊎ HasPassed k l (slice_index order n) 8
   pub busy : IsBusy lists k l t
-  pub rose : k.made ≤ l.made
-  pub made : l.made + left_of t ≤ k.made + 8 * count_below (nets_of k.setting) l.drawn
+  pub made : l.made + counted k.alone (left_of t) ≡ k.made + counted k.alone (8 * count_below (nets_of k.setting) l.drawn)
   pub late : (IsDone t → ⊥) → 0 < l.late
   pub few : (IsDone t → ⊥) → above l.drawn ≤ nets_of k.setting
   pub last : IsDone t → (n : ℕ) × Contains l.drawn n × (nets_of k.setting ≤ n)
+
+-- ---- publications
+made_none : (alone : Bool) (base below : ℕ) → below ≡ 0 → base + counted alone 0 ≡ base + counted alone (8 * below)
+made_none true base below none = omega arith
+made_none false base below none = omega (arith, none)
+
+made_all : (alone : Bool) (base now some : ℕ) → now + counted alone 0 ≡ base + counted alone some → now ≡ base + counted alone some
+made_all true base now some h = omega (arith, h)
+made_all false base now some h = omega (arith, h)
+
+-- none are counted for none
+made_still : (alone : Bool) (now : ℕ) → now ≡ now + counted alone 0
+made_still true now = omega arith
+made_still false now = omega arith
+
+-- after some publications more as many less are left, but for those of a net that was drawn
+made_on : (alone : Bool) (base before after left later below more moved : ℕ) → before + counted alone left ≡ base + counted alone (8 * below) → after ≡ before + counted alone moved
+    → later + moved + 8 * below ≡ left + 8 * more → after + counted alone later ≡ base + counted alone (8 * more)
+made_on true base before after left later below more moved h step rest = omega (arith, h, step)
+made_on false base before after left later below more moved h step rest = omega (arith, h, step, rest)
 
 pub runs_from : (lists : List (List NetId)) (order : List ℕ) (k : Knowledge) → k.drawn ≡ [] → 0 < k.late → Running lists order k k idle
 runs_from lists order k none late = record {
@@ -84,8 +103,7 @@ runs_from lists order k none late = record {
   onward = are_refl k.setting.way (bounds_in k.seen);
   drawn = λ n h lt. absurd (empty n (subst (λ xs. Contains xs n) none h));
   busy = tt;
-  rose = omega arith;
-  made = omega arith;
+  made = made_none k.alone k.made (count_below (nets_of k.setting) k.drawn) (ap (count_below (nets_of k.setting)) none);
   late = λ h. late;
   few = λ h. let P : List ℕ → Type 0 = λ xs. above xs ≤ nets_of k.setting in subst P (sym none) (omega arith);
   last = λ h. absurd h;
@@ -104,8 +122,7 @@ ran lists order k l done d r = record {
   onward = r.onward;
   last = r.last tt;
   passed = λ n h lt. elim (r.drawn n h lt) [ inl a ↦ absurd a | inr p ↦ p ];
-  rose = r.rose;
-  made = let m = r.made in omega (arith, m);
+  made = made_all k.alone k.made l.made (8 * count_below (nets_of k.setting) l.drawn) r.made;
 }
 
 -- ---- numbers drawn
@@ -193,8 +210,8 @@ module _ (lists : List (List NetId)) (order : List ℕ) (k l m : Knowledge) (sou
       let more = above_more l.drawn n most in
       let count = count_more (nets_of k.setting) l.drawn n in
       let one : count_below (nets_of k.setting) (n ∷ []) ≡ 1 = rw t refl in
-      let made = r.made in
       let left = b.left in
+      let drawn_now = count_below (nets_of k.setting) (l.drawn ++ n ∷ []) in
       subst P (sym h.after) (record {
         setting = r.setting;
         home = r.home;
@@ -205,8 +222,7 @@ module _ (lists : List (List NetId)) (order : List ℕ) (k l m : Knowledge) (sou
           | inr e ↦ inl (subst (λ j. IsAt u (slice_index order j)) e b.here)
         ];
         busy = b.busy;
-        rose = r.rose;
-        made = omega (arith, made, left, count, one);
+        made = made_on k.alone k.made l.made l.made 0 (left_of u) (count_below (nets_of k.setting) l.drawn) drawn_now 0 r.made (made_still k.alone l.made) (omega (arith, left, count, one));
         late = λ go. rw tl (r.late (λ h. h));
         few = λ go. omega (arith, more, lt);
         last = λ dn. absurd (b.more dn);
@@ -218,7 +234,7 @@ module _ (lists : List (List NetId)) (order : List ℕ) (k l m : Knowledge) (sou
       let t = not_below n (nets_of k.setting) ge in
       let count = count_more (nets_of k.setting) l.drawn n in
       let none : count_below (nets_of k.setting) (n ∷ []) ≡ 0 = rw t refl in
-      let made = r.made in
+      let drawn_now = count_below (nets_of k.setting) (l.drawn ++ n ∷ []) in
       subst P (sym h.after) (record {
         setting = r.setting;
         home = r.home;
@@ -229,8 +245,7 @@ module _ (lists : List (List NetId)) (order : List ℕ) (k l m : Knowledge) (sou
           | inr e ↦ absurd (omega (arith, e, lti, ge))
         ];
         busy = tt;
-        rose = r.rose;
-        made = omega (arith, made, count, none);
+        made = made_on k.alone k.made l.made l.made 0 0 (count_below (nets_of k.setting) l.drawn) drawn_now 0 r.made (made_still k.alone l.made) (omega (arith, count, none));
         late = λ go. absurd (go tt);
         few = λ go. absurd (go tt);
         last = λ dn. (n, Contains-push l.drawn n, ge);
@@ -273,8 +288,8 @@ module _ (lists : List (List NetId)) (order : List ℕ) (k l m : Knowledge) (sou
       let made : m.made ≡ l.made = ap (λ (x : Knowledge). x.made) h.after in
       let drawn : m.drawn ≡ l.drawn = ap (λ (x : Knowledge). x.drawn) h.after in
       let late : m.late ≡ l.late = ap (λ (x : Knowledge). x.late) h.after in
-      let was = r.made in
       let left = b.left in
+      let same : count_below (nets_of k.setting) m.drawn ≡ count_below (nets_of k.setting) l.drawn = ap (count_below (nets_of k.setting)) drawn in
       record {
         setting = ap (λ (x : Knowledge). x.setting) h.after ∙ r.setting;
         home = ap (λ (x : Knowledge). x.home) h.after ∙ r.home;
@@ -285,8 +300,8 @@ module _ (lists : List (List NetId)) (order : List ℕ) (k l m : Knowledge) (sou
           | inr p ↦ inr (passed_later on (slice_index order i) 8 p)
         ];
         busy = b.busy;
-        rose = let rose = r.rose in omega (arith, made, rose);
-        made = rw drawn (omega (arith, made, was, left));
+        made =
+            made_on k.alone k.made l.made m.made 8 (left_of u) (count_below (nets_of k.setting) l.drawn) (count_below (nets_of k.setting) m.drawn) 0 r.made (made ∙ made_still k.alone l.made) (omega (arith, left, same));
         late = λ go. let z = r.late (λ h. h) in omega (arith, z, late);
         few = λ go. rw drawn (r.few (λ h. h));
         last = λ dn. absurd (b.more dn);
@@ -322,12 +337,10 @@ module _ (lists : List (List NetId)) (order : List ℕ) (k l m : Knowledge) (sou
       let value = number_for (bound_at pair place) in
       let inside : w < length l.seen = let c = fits.seen.count in omega (arith, c, there, most) in
       let on = own_way r.setting (publish_onward l m w value inside (n, h)) in
-      let made : m.made ≡ h.made = ap (λ (x : Knowledge). x.made) h.after in
-      let least = h.least in
-      let once = h.once in
+      let made : m.made ≡ l.made + counted k.alone 1 = ap (λ (x : Knowledge). x.made) h.after ∙ ap (λ alone. l.made + counted alone 1) r.alone in
       let drawn : m.drawn ≡ l.drawn = ap (λ (x : Knowledge). x.drawn) h.after in
       let late : m.late ≡ l.late = ap (λ (x : Knowledge). x.late) h.after in
-      let was = r.made in
+      let same : count_below (nets_of k.setting) m.drawn ≡ count_below (nets_of k.setting) l.drawn = ap (count_below (nets_of k.setting)) drawn in
       let passed : HasPassed k m net (place + 1) = λ i lt. elim (cases_lt i place) [
         | inl p ↦ passed_later on net place r.busy.1 i p
         | inr p ↦
@@ -345,8 +358,8 @@ module _ (lists : List (List NetId)) (order : List ℕ) (k l m : Knowledge) (sou
           onward = later;
           drawn = λ i has lti. elim (before i has lti) [ inl a ↦ inl a | inr q ↦ inr (passed_later on (slice_index order i) 8 q) ];
           busy = (r.busy.0, passed);
-          rose = let rose = r.rose in omega (arith, made, least, rose);
-          made = rw drawn (omega (arith, made, once, was, most));
+          made =
+              made_on k.alone k.made l.made m.made (8 - place) (8 - (place + 1)) (count_below (nets_of k.setting) l.drawn) (count_below (nets_of k.setting) m.drawn) 1 r.made made (omega (arith, same, most));
           late = λ go. let z = r.late (λ h. h) in omega (arith, z, late);
           few = λ go. rw drawn (r.few (λ h. h));
           last = λ dn. absurd dn;
@@ -361,8 +374,8 @@ module _ (lists : List (List NetId)) (order : List ℕ) (k l m : Knowledge) (sou
             | inr q ↦ inr (passed_later on (slice_index order i) 8 q)
           ];
           busy = tt;
-          rose = let rose = r.rose in omega (arith, made, least, rose);
-          made = rw drawn (omega (arith, made, once, was, most));
+          made =
+              made_on k.alone k.made l.made m.made (8 - place) 0 (count_below (nets_of k.setting) l.drawn) (count_below (nets_of k.setting) m.drawn) 1 r.made made (omega (arith, same, most, p));
           late = λ go. let z = r.late (λ h. h) in omega (arith, z, late);
           few = λ go. rw drawn (r.few (λ h. h));
           last = λ dn. absurd dn;

@@ -1,5 +1,5 @@
 -- Shared words, as one of those who work on them knows them.
-use Rattle.std.specs.Prelude.{◌≡◌, ℕ, ◌+◌, ◌-◌, ◌*◌, ◌<◌, ◌≤◌, ◌%◌, nat_lt, Bool, IsTrue, ℤ}
+use Rattle.std.specs.Prelude.{◌≡◌, ℕ, ◌+◌, ◌-◌, ◌*◌, ◌<◌, ◌≤◌, ◌%◌, nat_lt, Bool, true, false, IsTrue, ℤ}
 use Rattle.std.specs.Prelude.{List, [], ◌∷◌, ◌++◌, length, slice_set}
 use Rattle.std.specs.Prelude.{if◌then◌else◌}
 use Rattle.std.specs.List.{All}
@@ -17,8 +17,8 @@ abbrev pub started : Setting → ℕ → ℤ
 started a = words_of (assigned a.start)
 
 -- what a holder of a board knows: the run that the words are of, the name of the table of words, the number seen in
--- each word, the numbers drawn since the last restart, how many words were published, how many numbers at or past the
--- net count may still be drawn, and whether nobody else can move the words
+-- each word, the numbers drawn since the last restart, how many publications were counted, how many numbers at or past
+-- the net count may still be drawn, and whether nobody else can move the words
 pub record Knowledge : Type 0 where
   pub setting : Setting
   pub home : List ℕ
@@ -52,13 +52,15 @@ pub record Loads (k : Knowledge) (word number : ℕ) (l : Knowledge) : Type 0 wh
   pub found : IsFound k word number
   pub after : l ≡ with_seen k word number k.made
 
--- from k to l: a number is found in a word, `left` is left in it and seen, and one publication or none is counted
+-- how many publications are counted for some: each, where others can move the words too, and none where nobody can
+abbrev pub counted : Bool → ℕ → ℕ
+counted true count = 0
+counted false count = count
+
+-- from k to l: a number is found in a word, `left` is left in it and seen, and the publication is counted
 pub record Publishes (k : Knowledge) (word number left : ℕ) (l : Knowledge) : Type 0 where
   pub found : IsFound k word number
-  pub made : ℕ
-  pub least : k.made ≤ made
-  pub once : made ≤ k.made + 1
-  pub after : l ≡ with_seen k word left made
+  pub after : l ≡ with_seen k word left (k.made + counted k.alone 1)
 
 -- from k to l: a word is moved to a value, where that is further than the number that is found there
 abbrev pub HasPublished : Knowledge → ℕ → ℕ → Knowledge → Type 0

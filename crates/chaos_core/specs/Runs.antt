@@ -4,7 +4,7 @@ use Rattle.std.specs.Prelude.{if◌then◌else◌}
 use Rattle.std.specs.List.{Contains}
 use Rattle.xt_meaning.specs.Barrier.{IsBoundNoFurther}
 use Rattle.xt_meaning.specs.Words.{bounds_in, onward, AreNoFurther}
-use Rattle.chaos_core.specs.Boards.{nets_of, Knowledge}
+use Rattle.chaos_core.specs.Boards.{nets_of, Knowledge, counted}
 use Rattle.chaos_core.specs.Tasks.{Task, idle, loading, publishing, done}
 
 abbrev pub IsDone : Task → Type 0
@@ -25,7 +25,7 @@ HasPassed k l net most = (i : ℕ) → i < most
     (bounds_in l.seen (8 * net + i))
 
 -- from k to l a worker evaluated the net at each place of the order that it drew, published it at least as far as the
--- operator makes it of what was seen in k, and then drew a number at or past the net count
+-- operator makes it of what was seen in k, by eight publications, and then drew a number at or past the net count
 pub record Ran (order : List ℕ) (k l : Knowledge) : Type 0 where
   pub setting : l.setting ≡ k.setting
   pub home : l.home ≡ k.home
@@ -33,5 +33,4 @@ pub record Ran (order : List ℕ) (k l : Knowledge) : Type 0 where
   pub onward : AreNoFurther k.setting.way (bounds_in k.seen) (bounds_in l.seen)
   pub last : (n : ℕ) × Contains l.drawn n × (nets_of k.setting ≤ n)
   pub passed : (n : ℕ) → Contains l.drawn n → n < nets_of k.setting → HasPassed k l (slice_index order n) 8
-  pub rose : k.made ≤ l.made
-  pub made : l.made ≤ k.made + 8 * count_below (nets_of k.setting) l.drawn
+  pub made : l.made ≡ k.made + counted k.alone (8 * count_below (nets_of k.setting) l.drawn)

@@ -1,17 +1,17 @@
 -- What a round leaves, once the first pass has loaded a word: the words are at or past what the operator makes of those
--- before, and no more is published than eight words for each net.
-use Rattle.std.proofs.Common.{ℕ, ◌+◌, ◌*◌, ◌<◌, ◌≤◌, ap, subst, ◌∙◌, List, arith}
+-- before, and eight words are published for each net.
+use Rattle.std.proofs.Common.{◌≡◌, ℕ, ◌+◌, ◌*◌, ◌<◌, ap, subst, ◌∙◌, List, arith}
 use Rattle.xt_model.specs.Levels.{IsOrder}
 use Rattle.xt_meaning.proofs.Passes.{all_turned}
 use Rattle.chaos_core.specs.declared.setting.Setting.{Setting}
 use Rattle.chaos_core.specs.Boards.{nets_of}
-use Rattle.chaos_core.specs.Runs.{HasPassed, Ran}
+use Rattle.chaos_core.specs.Runs.{count_below, HasPassed, Ran}
 use Rattle.chaos_core.specs.Memories.{AreKept}
 use Rattle.chaos_core.specs.Rounds.{HasCarried}
 use Rattle.chaos_core.proofs.Carrying.{all_words}
 use Rattle.window_words.specs.Boards.{Holding, knowledge_of}
 use Rattle.window_words.specs.Steps.{IsRested}
-use Rattle.window_words.proofs.Drawn.{all_drawn, few_below}
+use Rattle.window_words.proofs.Drawn.{all_drawn, all_below}
 
 module _ (order : List ℕ) (h g : Holding) (o : IsOrder h.view.setting.design.nets order) (ran : Ran order (knowledge_of h) (knowledge_of g)) (rest : IsRested g.view) where
   net_passed : (net : ℕ) → net < nets_of h.view.setting → HasPassed (knowledge_of h) (knowledge_of g) net 8
@@ -30,8 +30,8 @@ module _ (order : List ℕ) (h g : Holding) (o : IsOrder h.view.setting.design.n
     onward = ran.onward;
   }
 
-  pub made_few : g.view.made ≤ h.view.made + 8 * nets_of h.view.setting
-  made_few =
-      let few = few_below g.view.drawn rest.next (nets_of h.view.setting) rest.drawn in
-      let made = ran.made in
-      omega (arith, few, made)
+  pub made_each : g.view.made ≡ h.view.made + 8 * nets_of h.view.setting
+  made_each =
+      let each = all_below g.view.drawn rest.next (nets_of h.view.setting) ran.last.0 rest.drawn ran.last.1 ran.last.2 in
+      let made : g.view.made ≡ h.view.made + 8 * count_below (nets_of h.view.setting) g.view.drawn = ran.made in
+      omega (arith, each, made)

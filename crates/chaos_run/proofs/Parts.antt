@@ -52,7 +52,6 @@ ran_as order h g count r = record {
   onward = r.onward;
   last = r.last;
   passed = r.passed;
-  rose = r.rose;
   made = r.made;
 }
 

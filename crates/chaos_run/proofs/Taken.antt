@@ -8,7 +8,7 @@ use Rattle.xt_meaning.specs.Barrier.{IsBoundNoFurther}
 use Rattle.xt_meaning.specs.Words.{bounds_in, onward, AreNoFurther}
 use Rattle.xt_meaning.proofs.Steps.{bound_trans}
 use Rattle.chaos_core.specs.declared.setting.Setting.{Setting}
-use Rattle.chaos_core.specs.Boards.{nets_of, Knowledge, IsSeen}
+use Rattle.chaos_core.specs.Boards.{nets_of, Knowledge, IsSeen, counted}
 use Rattle.chaos_core.specs.Runs.{count_below, HasPassed, Ran}
 use Rattle.chaos_core.proofs.Sight.{are_refl, are_trans}
 use Rattle.window_words.specs.declared.view.View.{View}
@@ -26,8 +26,7 @@ pub record HasTaken (order : List ℕ) (joined : ℕ) (k l : Knowledge) : Type 0
   pub onward : AreNoFurther k.setting.way (bounds_in k.seen) (bounds_in l.seen)
   pub last : 0 < joined → (n : ℕ) × Contains l.drawn n × (nets_of k.setting ≤ n)
   pub passed : (n : ℕ) → Contains l.drawn n → n < nets_of k.setting → HasPassed k l (slice_index order n) 8
-  pub rose : k.made ≤ l.made
-  pub made : l.made ≤ k.made + 8 * count_below (nets_of k.setting) l.drawn
+  pub made : l.made ≡ k.made + counted k.alone (8 * count_below (nets_of k.setting) l.drawn)
 
 pub all_taken : (order : List ℕ) (joined : ℕ) (k l : Knowledge) → 0 < joined → HasTaken order joined k l → Ran order k l
 all_taken order joined k l some t = record {
@@ -37,7 +36,6 @@ all_taken order joined k l some t = record {
   onward = t.onward;
   last = t.last some;
   passed = t.passed;
-  rose = t.rose;
   made = t.made;
 }
 
@@ -89,11 +87,10 @@ module _ (order : List ℕ) (joined : ℕ) (h now other : Holding) (t : HasTaken
       | inl old ↦ passed_on now.view.seen (slice_index order n) past_own (t.passed n old lt)
       | inr new ↦ passed_on other.view.seen (slice_index order n) past_other (r.passed n new lt)
     ];
-    rose = let rose = t.rose in omega (arith, rose);
     made =
         let count = count_both (nets_of a') now.view.drawn other.view.drawn in
-        let own = t.made in
-        let there = r.made in
+        let own : now.view.made ≡ h.view.made + 8 * count_below (nets_of a') now.view.drawn = t.made in
+        let there : other.view.made ≡ 0 + 8 * count_below (nets_of a') other.view.drawn = r.made in
         omega (arith, count, own, there);
   }
 
@@ -112,8 +109,7 @@ none_taken order h none = record {
   onward = are_refl h.view.setting.way (bounds_in h.view.seen);
   last = λ lie. absurd (omega arith);
   passed = λ n has lt. absurd (not_there n (subst (λ xs. Contains xs n) none has));
-  rose = omega arith;
-  made = omega arith;
+  made = let c = ap (count_below (nets_of h.view.setting)) none in omega (arith, c);
 }
   where
     not_there : (n : ℕ) → Contains [] n → ⊥

@@ -19,7 +19,7 @@ use Rattle.chaos_core.proofs.Kept.{start_kept}
 use Rattle.chaos_core.proofs.Settling.{closed_from, steady_from}
 use Rattle.window_words.specs.Boards.{Holding, knowledge_of}
 use Rattle.chaos_run.specs.Rounds.{IsRested}
-use Rattle.chaos_run.proofs.Carried.{carried, made_few}
+use Rattle.chaos_run.proofs.Carried.{carried, made_each}
 
 -- ---- a round
 module _ (a : Setting) (d : Parts) (order : List ℕ) (h g : Holding) (under : h.view.setting ≡ a) (own : a.design ≡ d) (o : IsOrder d.nets order)
@@ -30,13 +30,21 @@ module _ (a : Setting) (d : Parts) (order : List ℕ) (h g : Holding) (under : h
   pub turn_carries : HasCarried a h.view.seen g.view.seen
   turn_carries = subst (λ (x : Setting). HasCarried x h.view.seen g.view.seen) under (carried order h g order_here ran rest)
 
-  pub turn_made : g.view.made ≤ h.view.made + 8 * length d.nets
+  pub turn_made : g.view.made ≡ h.view.made + 8 * length d.nets
   turn_made =
-      let few = made_few order h g order_here ran rest in
+      let each = made_each order h g order_here ran rest in
       let same : length h.view.setting.design.nets ≡ length d.nets = ap (λ (x : Parts). length x.nets) (ap (λ (x : Setting). x.design) under ∙ own) in
-      omega (arith, few, same)
+      omega (arith, each, same)
 
 -- ---- all rounds
+-- the publications of one round more
+pub made_more : (begin before after nets rounds : ℕ) → before ≡ begin + 8 * nets * rounds → after ≡ before + 8 * nets → after ≡ begin + 8 * nets * (rounds + 1)
+made_more begin before after nets rounds h k =
+    let e : 8 * nets * (rounds + 1) ≡ 8 * nets * rounds + 8 * nets = next (8 * nets) rounds in
+    omega (arith, h, k, e) where
+      next : (m n : ℕ) → m * (n + 1) ≡ m * n + m
+      next m n = omega arith
+
 closed_own : (a : Setting) (d : Parts) (words : List ℕ) → a.design ≡ d → (AreClosed d words → ⊥) → AreClosed a.design words → ⊥
 closed_own a d words own open_words closed = open_words (subst (λ x. AreClosed x words) own closed)
 

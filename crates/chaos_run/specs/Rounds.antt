@@ -3,11 +3,13 @@ use Rattle.std.specs.Prelude.{◌≡◌, ℕ, ◌+◌, ◌≤◌, List, [], leng
 use Rattle.std.specs.List.{All}
 use Rattle.xt_model.specs.declared.direction.Direction.{Direction}
 use Rattle.xt_model.specs.declared.net.NetId.{NetId}
+use Rattle.xt_model.specs.declared.quad.Pair.{Pair}
 use Rattle.xt_model.specs.Parts.{Parts}
 use Rattle.xt_model.specs.Levels.{IsOrder}
 use Rattle.net_eval.specs.ReadLists.{AreReadLists}
+use Rattle.chaos_core.specs.declared.setting.Setting.{Setting}
 use Rattle.chaos_core.specs.Runs.{Ran}
-use Rattle.chaos_core.specs.Rounds.{HasRoom}
+use Rattle.chaos_core.specs.Rounds.{HasRoom, Settles}
 use Rattle.window_words.specs.declared.view.View.{View}
 use Rattle.window_words.specs.Views.{sent_out}
 pub use Rattle.window_words.specs.Steps.{IsRested}
@@ -67,6 +69,10 @@ pub record IsBack (board : BoardId) (d : Parts) (lists : List (List NetId)) (fir
   pub ran : (order : List ℕ) → IsOrder d.nets order
       → Ran order (knowledge_of (sent_of first)) (knowledge_of w.seated.pass)
   pub room : HasRoom lists w.worker
+
+-- one worker alone settles from the start in this many rounds of the machine, and in no fewer
+abbrev pub SettlesAlone : Setting → List (List NetId) → List Pair → ℕ → Type 0
+SettlesAlone a lists windows rounds = (order : List ℕ) → IsOrder a.design.nets order → Settles a lists order 1 0 windows rounds
 
 -- how many workers a room is for
 abbrev pub workers_in : RunRoom → ℕ

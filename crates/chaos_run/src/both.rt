@@ -13,6 +13,7 @@ ghost use Rattle.run_laws.specs.Transitions.{Transition, AreConsistent};
 ghost use Rattle.run_laws.specs.Laws.{LieWithin};
 ghost use Rattle.net_eval.specs.ReadLists.{AreReadLists};
 ghost use Rattle.chaos_core.specs.Rounds.{AreTurns};
+ghost use Rattle.chaos_run.specs.Rounds.{SettlesAlone};
 
 use crate::settling::settle;
 use chaos_core::{Gate, Settled, settle_picked};
@@ -36,7 +37,8 @@ pub struct Both {
 /// board that they share, and pass the gate in each round; one alone takes its turns on words in memory, and passes no
 /// gate. The windows are then the least fixpoint in widening and the greatest in narrowing, whatever the workers, and
 /// in narrowing all transitions that explain one another lie within them. The run makes no more rounds than the
-/// design's bound, and none just where its start is a fixpoint. Fails only for want of memory.
+/// design's bound, and none just where its start is a fixpoint; one worker alone makes the fewest of the machine's after
+/// which the words are closed. Fails only for want of memory.
 pub fn settle_from<R: Threads + Sync, G: Gate>(
     rt: &R,
     alloc: Global,
@@ -57,6 +59,8 @@ pub fn settle_from<R: Threads + Sync, G: Gate>(
     ensures turns { IfOk result (λ settled. AreTurns
         (record { design = design.now; way = direction; start = start.now }) settled.rounds
         (numbers_of start.now) (numbers_of settled.windows)) }
+    ensures alone { workers ≡ 1 → IfOk result (λ settled. SettlesAlone
+        (record { design = design.now; way = direction; start = start.now }) lists.now settled.windows settled.rounds) }
     ensures consistent { direction ≡ Narrow → IfOk result (λ settled. (xs : List Transition)
         → AreConsistent design.now xs → LieWithin (assigned settled.windows) xs) }
 {
@@ -101,6 +105,11 @@ pub fn run_both<R: Threads + Sync, G: Gate>(
     ensures high_turns { IfOk result (λ both. AreTurns
         (record { design = design.now; way = Narrow; start = top.now }) both.high_rounds
         (numbers_of top.now) (numbers_of both.high)) }
+    ensures low_alone { workers ≡ 1 → IfOk result (λ both. SettlesAlone
+        (record { design = design.now; way = Widen; start = quiet_windows design.now }) lists.now both.low
+        both.low_rounds) }
+    ensures high_alone { workers ≡ 1 → IfOk result (λ both. SettlesAlone
+        (record { design = design.now; way = Narrow; start = top.now }) lists.now both.high both.high_rounds) }
     ensures consistent { IfOk result (λ both. (xs : List Transition) → AreConsistent design.now xs
         → LieWithin (assigned both.high) xs) }
 {

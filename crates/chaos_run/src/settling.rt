@@ -49,7 +49,7 @@ fn run_rounds<'a, R: Threads + Sync, G: Gate>(
     ensures closed { (result ≡ 0) ↔ AreClosed run.now.design.now first.old.view.seen }
     ensures split { 0 < result → first.new.view.split ≡ length workers.old.idle.items }
     ensures few { (bound : ℕ) → IsRoundBound run.now.design.now.nets bound → result ≤ bound }
-    ensures made { first.new.view.made ≤ first.old.view.made + 8 * length run.now.design.now.nets * result }
+    ensures made { first.new.view.made ≡ first.old.view.made + 8 * length run.now.design.now.nets * result }
     ensures turns { AreTurns run.now.board.now.setting result first.old.view.seen first.new.view.seen }
 {
     let shares = workers.idle.as_slice().len() as u32;
@@ -90,7 +90,7 @@ pub fn settle_in<'a, R: Threads + Sync, G: Gate>(
     ensures closed { (result.rounds ≡ 0) ↔ AreClosed design.now first.old.view.seen }
     ensures split { 0 < result.rounds → first.new.view.split ≡ workers_in room.entry }
     ensures few { (bound : ℕ) → IsRoundBound design.now.nets bound → result.rounds ≤ bound }
-    ensures made { first.new.view.made ≤ first.old.view.made + 8 * length design.now.nets * result.rounds }
+    ensures made { first.new.view.made ≡ first.old.view.made + 8 * length design.now.nets * result.rounds }
     ensures turns { AreTurns board.now.setting result.rounds first.old.view.seen (numbers_of result.windows) }
     ensures consistent { direction ≡ Narrow → (xs : List Transition) → AreConsistent design.now xs
         → LieWithin (assigned result.windows) xs }
@@ -112,9 +112,9 @@ pub fn settle_in<'a, R: Threads + Sync, G: Gate>(
 /// Looks at all words of a board by its first pass, and while they are not closed makes a round of this many workers in
 /// threads of their own. The windows that then are in the words are the least fixpoint in widening and the greatest
 /// in narrowing, whatever the workers do when, and in narrowing all transitions that explain one another lie within
-/// them. No run makes more rounds than the design's bound, and none publishes more than the words of all nets once a
-/// round. Its count is one of steps from the words at the call to those at the end, each from words that are not closed
-/// and as far as the operator carries them at least, as each round is: fewer of these would have left the words open.
+/// them. No run makes more rounds than the design's bound, and each publishes the words of all nets once: so its count is
+/// that of the publications that the pass then knows more, eight a net. It is one of steps from the words at the call to
+/// those at the end, each from words that are not closed and as far as the operator carries them at least.
 /// All memory is taken before the first look: where there is none, nothing was done.
 pub fn settle<R: Threads + Sync, G: Gate>(
     rt: &R,
@@ -142,7 +142,7 @@ pub fn settle<R: Threads + Sync, G: Gate>(
     ensures split { IfOk result (λ settled. 0 < settled.rounds → first.new.view.split ≡ workers) }
     ensures few { IfOk result (λ settled. (bound : ℕ) → IsRoundBound design.now.nets bound → settled.rounds ≤ bound) }
     ensures made { IfOk result (λ settled. first.new.view.made
-        ≤ first.old.view.made + 8 * length design.now.nets * settled.rounds) }
+        ≡ first.old.view.made + 8 * length design.now.nets * settled.rounds) }
     ensures turns { IfOk result (λ settled. AreTurns board.now.setting settled.rounds first.old.view.seen
         (numbers_of settled.windows)) }
     ensures consistent { direction ≡ Narrow → IfOk result (λ settled. (xs : List Transition)

@@ -87,6 +87,22 @@ once_each xs once (suc bound) =
 pub few_below : (xs : List ℕ) (next bound : ℕ) → ((y : ℕ) → times y xs ≡ once_below next y) → count_below bound xs ≤ bound
 few_below xs next bound drawn = once_each xs (λ y. let d = drawn y in let m = once_most next y in omega (arith, d, m)) bound
 
+exactly_below : (xs : List ℕ) (bound : ℕ) → ((y : ℕ) → y < bound → times y xs ≡ 1) → count_below bound xs ≡ bound
+exactly_below xs zero once = none_below xs
+exactly_below xs (suc bound) once =
+    let h = exactly_below xs bound (λ y lt. once y (omega (arith, lt))) in
+    let m = count_more bound xs in
+    let o = once bound (omega arith) in
+    omega (arith, h, m, o)
+
+-- where a number at or past a bound was drawn, as many were drawn below the bound as there are
+pub all_below : (xs : List ℕ) (next bound last : ℕ) → ((y : ℕ) → times y xs ≡ once_below next y) → Contains xs last → bound ≤ last → count_below bound xs ≡ bound
+all_below xs next bound last drawn has past =
+    let a = some_times xs last has in
+    let b = drawn last in
+    let inside = once_inside next last (omega (arith, a, b)) in
+    exactly_below xs bound (λ y lt. let c = once_there next y (omega (arith, inside, past, lt)) in let d = drawn y in omega (arith, c, d))
+
 pub count_both : (bound : ℕ) (xs ys : List ℕ) → count_below bound (xs ++ ys) ≡ count_below bound xs + count_below bound ys
 count_both bound [] ys = omega arith
 count_both bound (x ∷ xs) ys = let h = count_both bound xs ys in omega (arith, h)

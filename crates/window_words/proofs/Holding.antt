@@ -81,9 +81,6 @@ knows_loaded b h l word number own again step = record {
 pub knows_published : (b : BoardId) (h l : Holding) (word number left : ℕ) → IsOf b h → IsOf b l → Published h.view word number left l.view → Publishes (knowledge_of h) word number left (knowledge_of l)
 knows_published b h l word number left own again step = record {
   found = record { respects = step.found.respects; past = step.found.past; alone = λ alone. absurd (not_alone false refl alone) };
-  made = h.view.made + 1;
-  least = omega arith;
-  once = omega arith;
   after = λ i. knowledge_of (record { table = table_kept b h l own again i; view = step.after i });
 }
 

@@ -6,10 +6,10 @@ use Rattle.xt_meaning.specs.Barrier.{IsFittingStart}
 use Rattle.chaos_core.specs.Memories.{AreKept}
 use Rattle.chaos_core.specs.Rounds.{AreClosed, AreTurns}
 use Rattle.chaos_core.proofs.NoNets.{some_nets}
-use Rattle.chaos_core.proofs.Settling.{closed_from, closed_extreme, made_more, run_nearer}
+use Rattle.chaos_core.proofs.Settling.{closed_from, closed_extreme, run_nearer}
 use Rattle.window_words.specs.declared.view.View.{View}
 use Rattle.window_words.specs.Boards.{IsAlone}
-use Rattle.chaos_run.proofs.Turned.{turn_carries, turn_made, turn_more, turns_few, turns_fewer, none_made}
+use Rattle.chaos_run.proofs.Turned.{turn_carries, turn_made, turn_more, made_more, turns_few, turns_fewer, none_made}
 use Rattle.chaos_run.proofs.settling.run_rounds.Goals as goal
 
 pub prove-unreachable-requires : goal.prove-unreachable-requires

@@ -21,7 +21,7 @@ invariant-rounds g l = record {
   closed : IsTrue l.done ↔ AreClosed l.run.design.now l.first.view.seen;
   steps : AreTurns l.run.board.now.setting l.rounds l.fn.first.view.seen l.first.view.seen;
   split : 0 < l.rounds → l.first.view.split ≡ length l.fn.workers.idle.items;
-  made : l.first.view.made ≤ l.fn.first.view.made + 8 * length l.run.design.now.nets * l.rounds;
+  made : l.first.view.made ≡ l.fn.first.view.made + 8 * length l.run.design.now.nets * l.rounds;
 }
 
 abbrev pub decreases-rounds : goal.decreases-rounds
