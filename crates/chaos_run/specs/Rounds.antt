@@ -72,7 +72,8 @@ pub record IsBack (board : BoardId) (d : Parts) (lists : List (List NetId)) (fir
 
 -- one worker alone settles from the start in this many rounds of the machine, and in no fewer
 abbrev pub SettlesAlone : Setting → List (List NetId) → List Pair → ℕ → Type 0
-SettlesAlone a lists windows rounds = (order : List ℕ) → IsOrder a.design.nets order → Settles a lists order 1 0 windows rounds
+SettlesAlone a lists windows rounds =
+    (order : List ℕ) → IsOrder a.design.nets order → Settles a lists order 1 0 windows rounds
 
 -- how many workers a room is for
 abbrev pub workers_in : RunRoom → ℕ

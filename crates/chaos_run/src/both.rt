@@ -37,8 +37,8 @@ pub struct Both {
 /// board that they share, and pass the gate in each round; one alone takes its turns on words in memory, and passes no
 /// gate. The windows are then the least fixpoint in widening and the greatest in narrowing, whatever the workers, and
 /// in narrowing all transitions that explain one another lie within them. The run makes no more rounds than the
-/// design's bound, and none just where its start is a fixpoint; one worker alone makes the fewest of the machine's after
-/// which the words are closed. Fails only for want of memory.
+/// design's bound, and none just where its start is a fixpoint; one worker alone makes the fewest of the machine's
+/// after which the words are closed. Fails only for want of memory.
 pub fn settle_from<R: Threads + Sync, G: Gate>(
     rt: &R,
     alloc: Global,

@@ -112,9 +112,9 @@ pub fn settle_in<'a, R: Threads + Sync, G: Gate>(
 /// Looks at all words of a board by its first pass, and while they are not closed makes a round of this many workers in
 /// threads of their own. The windows that then are in the words are the least fixpoint in widening and the greatest
 /// in narrowing, whatever the workers do when, and in narrowing all transitions that explain one another lie within
-/// them. No run makes more rounds than the design's bound, and each publishes the words of all nets once: so its count is
-/// that of the publications that the pass then knows more, eight a net. It is one of steps from the words at the call to
-/// those at the end, each from words that are not closed and as far as the operator carries them at least.
+/// them. No run makes more rounds than the design's bound. Each round publishes the words of all nets once, so the pass
+/// then knows of exactly eight publications more for each net and round that is counted. Each began at words that are
+/// not closed, and carries them at least as far as the operator does.
 /// All memory is taken before the first look: where there is none, nothing was done.
 pub fn settle<R: Threads + Sync, G: Gate>(
     rt: &R,

@@ -1,4 +1,4 @@
-use Rattle.std.proofs.Common.{◌≡◌, ◌↔◌, ◌+◌, ◌*◌, ◌<◌, ◌≤◌, length}
+use Rattle.std.proofs.Common.{◌≡◌, ◌↔◌, ◌+◌, ◌*◌, ◌<◌, length}
 use Rattle.std.specs.Prelude.{IsTrue}
 use Rattle.xt_meaning.specs.Barrier.{IsFittingStart}
 use Rattle.xt_meaning.specs.Measure.{room}
