@@ -10,16 +10,18 @@ use indexmap::IndexSet;
 use liberty_groups::Span;
 use liberty_tables::{content, first_item};
 use name_numbers::TextKey;
+use smallvec::SmallVec;
 use std::alloc::{AllocError, Global};
 use std::marker::Model;
 use text_forms::is_name;
 use xt_lex::TextFault;
 use xt_model::{Code, Name};
 
-/// Names that were seen, with their own bytes; contracts see the list of these. A look-up is by hash.
+/// Names that were seen, with their own bytes; contracts see the list of these. One of at most 16 bytes takes no block
+/// of memory. A look-up is by hash.
 #[derive(Drop)]
 pub struct SeenNames {
-    set: IndexSet<Vec<u8>, TextKey>,
+    set: IndexSet<SmallVec<u8, 16>, TextKey>,
 }
 
 impl Model for SeenNames {
@@ -45,7 +47,7 @@ impl SeenNames {
         ensures fresh { IfOk result (λ fresh. fresh ≡ not (has_name name.now self.old)) }
         ensures entered { OnOk result (self.new ≡ with_name name.now self.old) }
     {
-        let kept = Vec::from_slice(alloc, name)?;
+        let kept = SmallVec::from_slice(alloc, name)?;
         let (_, fresh) = self.set.insert_full(kept)?;
         Ok(fresh)
     }

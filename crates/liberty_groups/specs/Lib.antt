@@ -1,5 +1,6 @@
 pub mod Sorts
 pub mod Grammar
+pub mod Values
 pub mod Trees
 pub mod Building
 pub mod View

@@ -59,13 +59,13 @@ with_group t (node head attributes inner) = node head attributes (followed_by in
 
 -- what an attribute of the code stands for
 abbrev pub entry_of : Attribute → Entry
-entry_of a = record { name = a.name; values = a.values.items; line = a.line }
+entry_of a = record { name = a.name; values = a.values; line = a.line }
 
 -- a group of the code whose inner groups stand for these trees
 abbrev pub tree_step : Group-F Tree → Tree
 tree_step g =
     node (record { name = g.name; values = g.args.items; line = g.line })
-    (map entry_of g.attributes.items) (forest g.groups.items)
+    (map entry_of g.attributes) (forest g.groups.items)
 
 -- what a group of the code stands for
 unfoldable pub tree_of : Group → Tree

@@ -10,6 +10,7 @@ ghost use Rattle.liberty_groups.specs.View.{unfinished, innermost_first, first};
 use crate::group::{Attribute, Group};
 use crate::item::{FormRead, Item};
 use crate::span::Span;
+use crate::values::Values;
 use std::alloc::{AllocError, Global};
 use std::mem;
 use xt_lex::TextFault;
@@ -43,13 +44,17 @@ fn put_innermost(groups: &mut Vec<Group>, group: Group) -> Result<(), AllocError
 }
 
 /// What the last name with its values is, where it opened no group: an attribute of the innermost group.
-fn settle(groups: &mut Vec<Group>, entry: Option<Attribute>) -> Result<(), AllocError>
+fn settle(
+    alloc: Global,
+    groups: &mut Vec<Group>,
+    entry: Option<Attribute>,
+) -> Result<(), AllocError>
     ensures { OnOk result (innermost_first groups.new.items
         ≡ settled (option_map entry_of entry) (innermost_first groups.old.items)) }
 {
     if let Some(attribute) = entry {
         if let Some(mut group) = take_innermost(groups) {
-            group.add_attribute(attribute)?;
+            group.add_attribute(alloc, attribute)?;
             put_innermost(groups, group)?;
         }
     }
@@ -62,7 +67,7 @@ fn open(alloc: Global, groups: &mut Vec<Group>, entry: Option<Attribute>) -> Res
         ≡ opened (option_map entry_of entry) (innermost_first groups.old.items)) }
 {
     if let Some(head) = entry {
-        put_innermost(groups, Group::new(alloc, head))?;
+        put_innermost(groups, Group::new(alloc, head)?)?;
     }
     Ok(())
 }
@@ -83,11 +88,11 @@ fn close(groups: &mut Vec<Group>) -> Result<(), AllocError>
 }
 
 /// One more value after the last name.
-fn add_value(entry: &mut Option<Attribute>, value: Span) -> Result<(), AllocError>
+fn add_value(alloc: Global, entry: &mut Option<Attribute>, value: Span) -> Result<(), AllocError>
     ensures { OnOk result (option_map entry_of entry.new ≡ with_value value (option_map entry_of entry.old)) }
 {
     if let Some(attribute) = entry {
-        attribute.values.push(value)?;
+        attribute.values.push(alloc, value)?;
     }
     Ok(())
 }
@@ -114,16 +119,16 @@ impl Building {
             Item::Named(name, line) => {
                 let named = Attribute {
                     name,
-                    values: Vec::new(alloc),
+                    values: Values::none(),
                     line,
                 };
                 let entry = mem::replace(&mut self.entry, Some(named));
-                settle(&mut self.groups, entry)?;
+                settle(alloc, &mut self.groups, entry)?;
             }
-            Item::Value(value) => add_value(&mut self.entry, value)?,
+            Item::Value(value) => add_value(alloc, &mut self.entry, value)?,
             Item::Ends => {
                 let entry = mem::take(&mut self.entry);
-                settle(&mut self.groups, entry)?;
+                settle(alloc, &mut self.groups, entry)?;
             }
             Item::Opens => {
                 let entry = mem::take(&mut self.entry);
@@ -137,7 +142,7 @@ impl Building {
             }
             Item::Closes => {
                 let entry = mem::take(&mut self.entry);
-                settle(&mut self.groups, entry)?;
+                settle(alloc, &mut self.groups, entry)?;
                 close(&mut self.groups)?;
             }
         }

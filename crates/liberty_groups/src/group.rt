@@ -1,10 +1,12 @@
 //! The groups of a library.
 
-ghost use Rattle.std.specs.Prelude.{◌≡◌, [], OnOk, map};
+ghost use Rattle.std.specs.Prelude.{◌≡◌, [], ◌∷◌, ◌++◌, IfOk, OnOk, map};
 ghost use Rattle.liberty_groups.specs.Trees.{node, no_trees, tree_of, entry_of, with_attribute, with_group};
 ghost use Rattle.liberty_groups.specs.Trees.{head_of, attributes_of, groups_of};
 
+use crate::few::Few;
 use crate::span::Span;
+use crate::values::Values;
 use std::alloc::{AllocError, Global};
 
 /// An attribute, simple or complex: its name, its values in the order of the text (of a complex one without the
@@ -12,19 +14,31 @@ use std::alloc::{AllocError, Global};
 #[derive(Debug, Drop)]
 pub struct Attribute {
     pub name: Span,
-    pub values: Vec<Span>,
+    pub values: Values,
     pub line: u32,
 }
 
 /// A group: its name, its arguments without the separators, the line of its name, counted from 1, its attributes and
-/// its inner groups, each in the order of the text.
+/// its inner groups, each in the order of the text. A group of which nothing is said, and one inner group, take no room
+/// to spare.
 #[derive(Debug, Drop)]
 pub struct Group {
     pub name: Span,
-    pub args: Vec<Span>,
+    args: Vec<Span>,
     pub line: u32,
-    pub attributes: Vec<Attribute>,
-    pub groups: Vec<Group>,
+    attributes: Few<Attribute>,
+    groups: Vec<Group>,
+}
+
+/// One more group, with no room to spare where it is the first.
+fn push_group(groups: &mut Vec<Group>, group: Group) -> Result<(), AllocError>
+    ensures { OnOk result (groups.new.items ≡ groups.old.items ++ group ∷ []) }
+{
+    if groups.is_empty() {
+        groups.reserve_exact(1)?;
+    }
+    groups.push(group)?;
+    Ok(())
 }
 
 impl Attribute {
@@ -38,16 +52,16 @@ impl Attribute {
 
 impl Group {
     /// A group with nothing in it yet, by its name and its arguments.
-    pub fn new(alloc: Global, head: Attribute) -> Group
-        ensures { tree_of result ≡ node (entry_of head) [] no_trees }
+    pub fn new(alloc: Global, head: Attribute) -> Result<Group, AllocError>
+        ensures { IfOk result (λ g. tree_of g ≡ node (entry_of head) [] no_trees) }
     {
-        Group {
+        Ok(Group {
             name: head.name,
-            args: head.values,
+            args: head.values.into_vec(alloc)?,
             line: head.line,
-            attributes: Vec::new(alloc),
+            attributes: Few::none(),
             groups: Vec::new(alloc),
-        }
+        })
     }
 
     /// The group's name.
@@ -91,10 +105,10 @@ impl Group {
     }
 
     /// The group with one more attribute.
-    pub fn add_attribute(&mut self, attribute: Attribute) -> Result<(), AllocError>
+    pub fn add_attribute(&mut self, alloc: Global, attribute: Attribute) -> Result<(), AllocError>
         ensures { OnOk result (tree_of self.new ≡ with_attribute (entry_of attribute) (tree_of self.old)) }
     {
-        self.attributes.push(attribute)?;
+        self.attributes.push(alloc, attribute)?;
         Ok(())
     }
 
@@ -102,7 +116,7 @@ impl Group {
     pub fn add_group(&mut self, group: Group) -> Result<(), AllocError>
         ensures { OnOk result (tree_of self.new ≡ with_group (tree_of group) (tree_of self.old)) }
     {
-        self.groups.push(group)?;
+        push_group(&mut self.groups, group)?;
         Ok(())
     }
 }

@@ -3,14 +3,17 @@
 
 mod building;
 mod context;
+mod few;
 mod forms;
 mod group;
 mod item;
 mod reading;
 mod sort;
 mod span;
+mod values;
 
 pub use forms::MOST_OPEN;
 pub use group::{Attribute, Group};
 pub use reading::read_groups;
 pub use span::Span;
+pub use values::Values;

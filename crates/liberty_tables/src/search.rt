@@ -47,7 +47,7 @@ pub fn attribute<'b>(bytes: &[u8], word: &[u8], group: &'b Group) -> Option<&'b 
 {
     let mut seen = None;
     let mut rest = group.attributes();
-    'attributes: while let [attribute, more @ ..] = rest {
+    'attributes: while let Some((attribute, more)) = rest.split_first() {
         if text_in(bytes, attribute.name) == word {
             seen = Some(attribute);
         }

@@ -4,4 +4,4 @@ use Rattle.liberty_groups.proofs.TreeLaws.{rolled, opened}
 use Rattle.liberty_groups.proofs.group.Group.add_attribute.Goals as goal
 
 pub returns : goal.returns
-returns c = rw (rolled, opened c.args.self.now, c.in_ok-push.ensures.items, map-append) refl
+returns c = rw (rolled, opened c.args.self.now, c.in_ok-push.ensures, map-append) refl
