@@ -1,3 +1,5 @@
+//! Lists of which most have no item.
+
 ghost use Rattle.std.specs.Prelude.{◌≡◌};
 
 use std::alloc::{AllocError, Global};

@@ -1,4 +1,4 @@
-//! Lists of spans of which most have one, and lists of which most have none.
+//! Lists of spans of which most have one.
 
 ghost use Rattle.std.specs.Prelude.{◌≡◌};
 
