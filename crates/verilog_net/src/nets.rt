@@ -1,6 +1,6 @@
 //! The nets of a module by their names.
 
-ghost use Rattle.std.specs.Prelude.{◌≡◌, ℕ, ◌+◌, ◌<◌, ◌≤◌, [], length, IfSome, IfOk, OnOk};
+ghost use Rattle.std.specs.Prelude.{◌≡◌, ℕ, ◌+◌, ◌-◌, ◌<◌, ◌≤◌, ◌==◌, [], length, slice_index, IfSome, IfOk, OnOk};
 ghost use Rattle.name_numbers.specs.Names.{with_value};
 ghost use Rattle.verilog_net.specs.Nets.{number_of, closed_number, bit_from, has_bit, named_bit};
 ghost use Rattle.verilog_net.specs.Nets.{same_range, joined_role, is_directed, is_port, most_bit};
@@ -54,11 +54,22 @@ fn closed_number(bytes: &[u8]) -> Option<u32>
     }
 }
 
+/// Whether the last byte is a `]`, as that of a bit's name is.
+fn ends_bit(name: &[u8]) -> bool
+    ensures { result ≡ (slice_index name.now (length name.now - 1) == 93) }
+{
+    matches!(name, [.., b']'])
+}
+
 /// Where the `[` of a bit's name is, and the number of the bit.
 fn bit_place(name: &[u8]) -> Option<(usize, u32)>
     ensures value { result ≡ bit_from 0 name.now }
     ensures within { IfSome result (λ p. p.0 < length name.now) }
 {
+    // Most names are no bit's, which their last byte shows.
+    if !ends_bit(name) {
+        return None;
+    }
     let mut at: usize = 0;
     let mut rest = name;
     'bytes: while let [byte, more @ ..] = rest {
