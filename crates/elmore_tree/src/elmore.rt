@@ -36,7 +36,7 @@ fn load(tree: &Tree) -> i64
 fn grounds(alloc: Global, tree: &Tree) -> Result<Vec<u64>, AllocError>
     ensures { IfOk result (λ caps. caps.items ≡ map unsigned_abs tree.now.ground) }
 {
-    let mut caps = Vec::new(alloc);
+    let mut caps = Vec::with_capacity(alloc, tree.ground().len())?;
     for ground in tree.ground() {
         caps.push(ground.unsigned_abs())?;
     }
@@ -70,7 +70,7 @@ fn sink_form(
     requires reached { (k : ℕ) → is_needed tree.now k ≡ true → is_visited tree.now steps.now k ≡ true }
     ensures { IfOk result (λ form. form ≡ sink_sums tree.now (path_of steps.now) sink) }
 {
-    let mut coefs = Vec::new(alloc);
+    let mut coefs = Vec::with_capacity(alloc, tree.taps().len())?;
     for tap in tree.taps() {
         let place = order.place(tap.node);
         let common = row[place];
@@ -101,7 +101,7 @@ fn forms_by(
     requires reached { (k : ℕ) → is_needed tree.now k ≡ true → is_visited tree.now steps.now k ≡ true }
     ensures { IfOk result (λ forms. forms.items ≡ map (sink_sums tree.now (path_of steps.now)) tree.now.sinks) }
 {
-    let mut forms = Vec::new(alloc);
+    let mut forms = Vec::with_capacity(alloc, sinks.len())?;
     for sink in sinks {
         order.fill(tree, steps, *sink, row);
         let base = bases[*sink as usize];

@@ -28,7 +28,7 @@ pub fn resistors_in(resistors: &[Resistor], reached: &[bool]) -> usize
 fn charged_nodes(alloc: Global, tree: &Tree) -> Result<Vec<bool>, AllocError>
     ensures { IfOk result (λ marks. marks.items ≡ map (λ g. int_lt (pos 0) g) tree.now.ground) }
 {
-    let mut marks = Vec::new(alloc);
+    let mut marks = Vec::with_capacity(alloc, tree.ground().len())?;
     for ground in tree.ground() {
         marks.push(*ground > 0)?;
     }

@@ -11,6 +11,7 @@ ghost use Rattle.elmore_tree.specs.Walks.{is_visited, node_at};
 
 use crate::part::Resistor;
 use crate::tree::Tree;
+use smallvec::SmallVec;
 use std::alloc::{AllocError, Global};
 use std::marker::Model;
 
@@ -22,10 +23,10 @@ pub struct Step {
     pub to: u32,
 }
 
-/// The numbers of the resistors that have an end at a node.
+/// The numbers of the resistors that have an end at a node. Few nodes have more than three.
 #[derive(Drop)]
 struct Around {
-    numbers: Vec<usize>,
+    numbers: SmallVec<usize, 3>,
 }
 
 impl Model for Around {
@@ -40,7 +41,7 @@ impl Around {
     fn new(alloc: Global) -> Around
         ensures { result ≡ [] }
     {
-        let numbers = Vec::new(alloc);
+        let numbers = SmallVec::new(alloc);
         Around { numbers }
     }
 
@@ -71,7 +72,7 @@ fn add_at(rows: &mut Vec<Around>, node: u32, number: usize) -> Result<(), AllocE
 fn resistors_around(alloc: Global, tree: &Tree) -> Result<Vec<Around>, AllocError>
     ensures { IfOk result (λ rows. AreRows tree.now rows.items) }
 {
-    let mut rows = Vec::new(alloc);
+    let mut rows = Vec::with_capacity(alloc, tree.nodes() as usize)?;
     for node in 0..tree.nodes() {
         rows.push(Around::new(alloc))?;
     }
@@ -107,10 +108,11 @@ impl Walk {
         ensures walk { IfOk result (λ w. IsWalk tree.now w.reached.items w.steps.items w.pending.items) }
         ensures steps { IfOk result (λ w. w.steps.items ≡ []) }
     {
-        let mut reached = vec![in alloc; false; tree.nodes() as usize]?;
+        let nodes = tree.nodes() as usize;
+        let mut reached = vec![in alloc; false; nodes]?;
         reached[tree.root() as usize] = true;
-        let steps = Vec::new(alloc);
-        let pending = Vec::new(alloc);
+        let steps = Vec::with_capacity(alloc, nodes)?;
+        let pending = Vec::with_capacity(alloc, nodes)?;
         Ok(Walk {
             reached,
             steps,
