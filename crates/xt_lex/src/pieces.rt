@@ -4,7 +4,7 @@ ghost use Rattle.std.specs.Prelude.{◌≡◌, ℕ, ◌+◌, ◌<◌, ◌≤◌,
 ghost use Rattle.xt_lex.specs.Bytes.{line_behind};
 ghost use Rattle.xt_lex.specs.Pieces.{front_of, is_inline};
 
-use crate::bytes::line_behind;
+use crate::bytes::{is_newline, line_behind};
 use crate::class::Class;
 use crate::front::Front;
 use crate::liberty::liberty_front;
@@ -68,9 +68,12 @@ fn line_past(class: Class, text: &[u8], line: u32) -> u32
     ensures bound { result ≤ line + length text.now }
 {
     if class.is_inline() {
-        line
-    } else {
-        line_behind(text, line)
+        return line;
+    }
+    // Most of the white space between tokens is a single byte.
+    match text {
+        [byte] => line + is_newline(*byte) as u32,
+        _ => line_behind(text, line),
     }
 }
 
