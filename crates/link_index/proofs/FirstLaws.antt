@@ -1,6 +1,6 @@
 -- Values by name of which the first counts.
 use Rattle.std.specs.Prelude.{◌≡◌, refl, ℕ, Bool, true, false, cond, List, [], ◌∷◌, length, Option, Some, None, option_map, is_some, not, position, find, drop, IfSome}
-use Rattle.std.specs.Prelude.{unwrap_or, ◌++◌, ◌||◌, suc}
+use Rattle.std.specs.Prelude.{unwrap_or, ◌++◌, ◌||◌}
 use Rattle.std.specs.List.{list_any, position_from, position_or_len, slice_get}
 use Rattle.std.specs.Option.{option_or}
 use Rattle.std.proofs.Common.{sym, ap, ◌∙◌, arith, get_or, take, ◌+◌, ◌-◌, ◌<◌, ◌≤◌, ltb, subst, ◌⊎◌, inl, inr}

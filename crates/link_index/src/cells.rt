@@ -75,7 +75,7 @@ impl<'a> CellIndex<'a> {
         ensures there { IsSomeAnd (slice_get self.now.cells cell)
             (λ c. IfSome result (λ place. place < length c.pins)) }
     {
-        self.kept[cell].pins.get(name).copied()
+        self.kept[cell].pins.get(name)
     }
 
     /// Whether the cell at a place is not taken.

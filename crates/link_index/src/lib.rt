@@ -8,6 +8,7 @@ mod first;
 mod index;
 mod names;
 mod odd;
+mod pin_places;
 mod places;
 mod split;
 mod wires;

@@ -7,6 +7,7 @@ ghost use Rattle.link_index.specs.Kept.{IsKept};
 
 use crate::first::set_first;
 use crate::odd::is_odd_cell;
+use crate::pin_places::PinPlaces;
 use liberty_cells::{Cell, Pin};
 use name_numbers::{Named, TextKey};
 use std::alloc::{AllocError, Global};
@@ -45,7 +46,7 @@ fn pin_places<'a>(
 /// What is kept of a cell: the places of its pins by name, and whether it is not taken.
 #[derive(Drop)]
 pub struct CellPlaces<'a> {
-    pub pins: Named<'a, usize>,
+    pub pins: PinPlaces<'a>,
     pub odd: bool,
 }
 
@@ -55,7 +56,10 @@ fn kept_of<'a>(alloc: Global, key: TextKey, cell: &'a Cell) -> Result<CellPlaces
 {
     let pins = pin_places(alloc, key, cell.pins.as_slice())?;
     let odd = is_odd_cell(cell, &pins);
-    Ok(CellPlaces { pins, odd })
+    Ok(CellPlaces {
+        pins: PinPlaces::new(alloc, pins)?,
+        odd,
+    })
 }
 
 /// What is kept of all cells.

@@ -25,9 +25,9 @@ returns-clause-place c =
     slice_get_read c.self.inside.kept.items _ c.args.cell kept refl
     (omega (arith, c.requires, ap (λ l. length l.cells) c.self.view_is, AllZip-long _ _ _ c.self.invariant.each)) c.index.ensures in
     let at = zipped_at IsKept cells c.self.inside.kept.items c.args.cell kept c.self.invariant.each here in
-    let value : c.copied.result ≡ value_of c.args.name.now kept.pins = c.copied.ensures ∙ c.get.ensures in
-    let P : Library → Type 0 = λ l. IsSomeAnd (slice_get l.cells c.args.cell) (λ x. c.copied.result ≡ pin_place x c.args.name.now) in
-    subst P c.self.view_is (some_and (λ x. IsKept x kept) (λ x. c.copied.result ≡ pin_place x c.args.name.now) (slice_get cells c.args.cell)
+    let value : c.get.result ≡ value_of c.args.name.now kept.pins = c.get.ensures in
+    let P : Library → Type 0 = λ l. IsSomeAnd (slice_get l.cells c.args.cell) (λ x. c.get.result ≡ pin_place x c.args.name.now) in
+    subst P c.self.view_is (some_and (λ x. IsKept x kept) (λ x. c.get.result ≡ pin_place x c.args.name.now) (slice_get cells c.args.cell)
     (λ x k. value ∙ k.pins.each c.args.name.now) at)
 
 pub returns-clause-named : goal.returns-clause-named
@@ -38,10 +38,10 @@ returns-clause-named c =
     slice_get_read c.self.inside.kept.items _ c.args.cell kept refl
     (omega (arith, c.requires, ap (λ l. length l.cells) c.self.view_is, AllZip-long _ _ _ c.self.invariant.each)) c.index.ensures in
     let at = zipped_at IsKept cells c.self.inside.kept.items c.args.cell kept c.self.invariant.each here in
-    let value : c.copied.result ≡ value_of c.args.name.now kept.pins = c.copied.ensures ∙ c.get.ensures in
-    let P : Library → Type 0 = λ l. IsSomeAnd (slice_get l.cells c.args.cell) (λ x. pin_named x c.args.name.now ≡ at_place x.pins c.copied.result) in
-    subst P c.self.view_is (some_and (λ x. IsKept x kept) (λ x. pin_named x c.args.name.now ≡ at_place x.pins c.copied.result) (slice_get cells c.args.cell)
-    (λ x k. find_at_place (λ p. bytes_eq c.args.name.now p.name) x.pins c.copied.result (sym (value ∙ k.pins.each c.args.name.now))) at)
+    let value : c.get.result ≡ value_of c.args.name.now kept.pins = c.get.ensures in
+    let P : Library → Type 0 = λ l. IsSomeAnd (slice_get l.cells c.args.cell) (λ x. pin_named x c.args.name.now ≡ at_place x.pins c.get.result) in
+    subst P c.self.view_is (some_and (λ x. IsKept x kept) (λ x. pin_named x c.args.name.now ≡ at_place x.pins c.get.result) (slice_get cells c.args.cell)
+    (λ x k. find_at_place (λ p. bytes_eq c.args.name.now p.name) x.pins c.get.result (sym (value ∙ k.pins.each c.args.name.now))) at)
 
 pub returns-clause-there : goal.returns-clause-there
 returns-clause-there c =
@@ -51,7 +51,7 @@ returns-clause-there c =
     slice_get_read c.self.inside.kept.items _ c.args.cell kept refl
     (omega (arith, c.requires, ap (λ l. length l.cells) c.self.view_is, AllZip-long _ _ _ c.self.invariant.each)) c.index.ensures in
     let at = zipped_at IsKept cells c.self.inside.kept.items c.args.cell kept c.self.invariant.each here in
-    let value : c.copied.result ≡ value_of c.args.name.now kept.pins = c.copied.ensures ∙ c.get.ensures in
-    let P : Library → Type 0 = λ l. IsSomeAnd (slice_get l.cells c.args.cell) (λ x. IfSome c.copied.result (λ place. place < length x.pins)) in
-    subst P c.self.view_is (some_and (λ x. IsKept x kept) (λ x. IfSome c.copied.result (λ place. place < length x.pins)) (slice_get cells c.args.cell)
-    (λ x k. places_within (λ p. bytes_eq c.args.name.now p.name) x.pins c.copied.result (sym (value ∙ k.pins.each c.args.name.now))) at)
+    let value : c.get.result ≡ value_of c.args.name.now kept.pins = c.get.ensures in
+    let P : Library → Type 0 = λ l. IsSomeAnd (slice_get l.cells c.args.cell) (λ x. IfSome c.get.result (λ place. place < length x.pins)) in
+    subst P c.self.view_is (some_and (λ x. IsKept x kept) (λ x. IfSome c.get.result (λ place. place < length x.pins)) (slice_get cells c.args.cell)
+    (λ x k. places_within (λ p. bytes_eq c.args.name.now p.name) x.pins c.get.result (sym (value ∙ k.pins.each c.args.name.now))) at)
