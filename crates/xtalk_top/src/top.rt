@@ -71,8 +71,8 @@ pub fn xtalk<R: Threads + Sync, F: Files, O: Sink, E: Sink>(
         → Shows result (λ text. O.written out.new ≡ appended (O.written out.old) text)
         (WritesLine (E.written err.old) (E.written err.new) (E.faults err.old) (E.faults err.new)) outcome }
 
-    // A first part of the files that the words name was opened, each once, in their order; all of them for 0.
-    ensures opened { OpensFirst (files_named (job_of (bytes_of words.now))) (result ≡ 0)
+    // A first part of the files that the words name was opened, each once, in their order; all of them for 0 and 7.
+    ensures opened { OpensFirst (files_named (job_of (bytes_of words.now))) ((result ≡ 0) ⊎ (result ≡ 7))
         (F.opened files.old) (F.opened files.new) }
 {
     xtalk_gated(rt, alloc, &OpenGate, words, files, out, err)
@@ -92,7 +92,7 @@ pub fn xtalk_gated<R: Threads + Sync, F: Files, O: Sink, E: Sink, G: Gate>(
     ensures call { IsCall O.written O.faults E.written E.faults (Means (bytes_of words.now) (F.content files.old))
         (AreKnown (bytes_of words.now) (F.content files.old)) (F.faults files.old) (F.faults files.new)
         out.old out.new err.old err.new result }
-    ensures opened { OpensFirst (files_named (job_of (bytes_of words.now))) (result ≡ 0)
+    ensures opened { OpensFirst (files_named (job_of (bytes_of words.now))) ((result ≡ 0) ⊎ (result ≡ 7))
         (F.opened files.old) (F.opened files.new) }
 {
     match text_of(rt, alloc, gate, words, files) {

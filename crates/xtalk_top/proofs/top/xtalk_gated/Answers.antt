@@ -1,4 +1,4 @@
-use Rattle.std.proofs.Common.{◌≡◌, ◌≢◌, ◌⊎◌, ◌∙◌, ℕ, zero, suc, inl, refl, arith}
+use Rattle.std.proofs.Common.{◌≡◌, ◌≢◌, ◌⊎◌, ◌∙◌, ℕ, zero, suc, inl, inr, refl, arith}
 use Rattle.xt_io.specs.Outside.{Rose, appended}
 use Rattle.xtalk_top.specs.declared.refusal.Refusal.TheVariants.{Words, File, Linking, Design}
 use Rattle.xtalk_top.specs.declared.refusal.Unlinked.TheVariants as unlinked
@@ -42,6 +42,18 @@ not_zero (Refused (Linking (unlinked.Beyond limit))) status e z = omega (arith, 
 not_zero (Refused (Design (Limit limit))) status e z = omega (arith, e, z)
 not_zero (Unread file) status e z = omega (arith, e, z)
 not_zero NoMemory status e z = omega (arith, e, z)
+
+-- nor 7
+not_seven : (stop : Stop) (status : ℕ) → status ≡ status_of (NoText stop) → status ≡ 7 → ⊥
+not_seven (Refused Words) status e z = omega (arith, e, z)
+not_seven (Refused (File file (Content (At line code)))) status e z = omega (arith, e, z)
+not_seven (Refused (File file (Content (Beyond limit)))) status e z = omega (arith, e, z)
+not_seven (Refused (File file TooLong)) status e z = omega (arith, e, z)
+not_seven (Refused (Linking (unlinked.Refused why))) status e z = omega (arith, e, z)
+not_seven (Refused (Linking (unlinked.Beyond limit))) status e z = omega (arith, e, z)
+not_seven (Refused (Design (Limit limit))) status e z = omega (arith, e, z)
+not_seven (Unread file) status e z = omega (arith, e, z)
+not_seven NoMemory status e z = omega (arith, e, z)
 
 pub returns-in-Ok-clause-call : goal.returns-in-Ok-clause-call
 returns-in-Ok-clause-call g c =
@@ -104,4 +116,7 @@ pub returns-in-Err-clause-opened : goal.returns-in-Err-clause-opened
 returns-in-Err-clause-opened g c =
     let opened = g.F.Files.opened in
     opens_same (files_named (job_of (bytes_of c.args.words.now))) _ _ (opened c.args.files.now) (opened c.text_of.new.files)
-    (λ whole. absurd (not_zero c.in-Err.stop c.refuse.result c.refuse.ensures.status whole)) c.in-Err.ensures.opened
+    (λ whole. elim whole [
+      | inl zero ↦ absurd (not_zero c.in-Err.stop c.refuse.result c.refuse.ensures.status zero)
+      | inr seven ↦ absurd (not_seven c.in-Err.stop c.refuse.result c.refuse.ensures.status seven)
+    ]) c.in-Err.ensures.opened
