@@ -150,3 +150,13 @@ pub const REPORT: &str = "\
     step n1 rise wire 0.000 delay 16.000\n\
     to wire 0.200\n\
     end\n";
+
+/// The four files, with their names.
+pub fn files() -> [(&'static str, &'static [u8]); 4] {
+    [
+        ("r.lib", LIB.as_bytes()),
+        ("r.v", NETLIST.as_bytes()),
+        ("r.spef", SPEF.as_bytes()),
+        ("r.sdc", SDC.as_bytes()),
+    ]
+}

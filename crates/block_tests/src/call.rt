@@ -2,7 +2,7 @@
 
 ghost use Rattle.std.specs.Prelude.{◌<◌};
 
-use crate::block::REPORT;
+use crate::block::{REPORT, files};
 use std::alloc::{AllocError, Global};
 use std::process::Abort;
 use std::test::Fail;
@@ -125,6 +125,17 @@ pub fn opened<R: Threads + Sync>(
         names.push_str(" ")?;
     }
     Ok(names)
+}
+
+/// What a call with these words on the block says.
+pub fn outcome_of_block<R: Threads + Sync>(
+    rt: &R,
+    alloc: Global,
+    words: &str,
+    outside: Outside,
+) -> Result<String, Fail> {
+    let files = files();
+    outcome(rt, alloc, words, files.as_slice(), outside)
 }
 
 /// Compares the outcome of a call with the one that is wanted; `place` tells it apart.

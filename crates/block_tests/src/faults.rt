@@ -3,41 +3,16 @@
 
 ghost use Rattle.std.specs.Prelude.{◌<◌};
 
-use crate::block::{LIB, NETLIST, REPORT, SDC, SPEF};
-use crate::call::{Outside, calm, compare, compare_line, compare_report, field, opened, outcome};
+use crate::block::{LIB, NETLIST, REPORT, SDC, SPEF, files};
+use crate::call::{
+    ROOM, calm, compare, compare_line, compare_report, field, opened, outcome, outcome_of_block,
+};
 use std::alloc::Global;
 use std::process::Abort;
 use std::test::Fail;
 use std::thread::Threads;
 
 const WORDS: &str = "report r.lib r.v r.spef r.sdc";
-
-/// What a call with these words on the block says where this goes wrong.
-fn outcome_of_block<R: Threads + Sync>(
-    rt: &R,
-    alloc: Global,
-    words: &str,
-    outside: Outside,
-) -> Result<String, Fail> {
-    let texts = [
-        ("r.lib", LIB.as_bytes()),
-        ("r.v", NETLIST.as_bytes()),
-        ("r.spef", SPEF.as_bytes()),
-        ("r.sdc", SDC.as_bytes()),
-    ];
-    outcome(rt, alloc, words, texts.as_slice(), outside)
-}
-
-/// The files that a call with these words on the block opens.
-fn opened_of_block<R: Threads + Sync>(rt: &R, alloc: Global, words: &str) -> Result<String, Fail> {
-    let texts = [
-        ("r.lib", LIB.as_bytes()),
-        ("r.v", NETLIST.as_bytes()),
-        ("r.spef", SPEF.as_bytes()),
-        ("r.sdc", SDC.as_bytes()),
-    ];
-    opened(rt, alloc, words, texts.as_slice())
-}
 
 /// The outcome of words on the block, and the words: files that are missing, that take the place of one of another
 /// format, that are empty, or more than one of these, of which the first counts.
@@ -132,9 +107,9 @@ report r.lib r.v r.spef
 
 #[test]
 fn files_are_opened_one_behind_another(rt: HostRuntime) -> Result<(), Fail> {
-    let alloc = rt.alloc();
+    let files = files();
     for row in OPENED.lines() {
-        let opened = opened_of_block(&rt, alloc, field(row, 0))?;
+        let opened = opened(&rt, rt.alloc(), field(row, 0), files.as_slice())?;
         compare(&rt, opened.as_str().trim(), field(row, 1), row);
     }
     Ok(())
@@ -151,22 +126,37 @@ fn fault_at(call: u64) -> Option<&'static str> {
     }
 }
 
-/// What the block's report says where the call of this number on the files fails.
-fn outcome_of_failed_read<R: Threads + Sync>(
+/// What words say of the block where the call of this number on the files, on the output or on the error stream fails,
+/// and the output takes this many bytes at a time.
+fn outcome_failing<R: Threads + Sync>(
     rt: &R,
     alloc: Global,
-    call: u64,
-) -> Result<String, Fail> {
+    words: &str,
+    failing: (Option<u64>, Option<u64>, Option<u64>),
+    most: usize,
+) -> Result<String, Fail>
+    requires { 0 < most }
+{
     let mut outside = calm(alloc);
-    outside.files.push(call)?;
-    outcome_of_block(rt, alloc, WORDS, outside)
+    let (files, out, err) = failing;
+    if let Some(call) = files {
+        outside.files.push(call)?;
+    }
+    if let Some(call) = out {
+        outside.out.push(call)?;
+    }
+    if let Some(call) = err {
+        outside.err.push(call)?;
+    }
+    outside.most = most;
+    outcome_of_block(rt, alloc, words, outside)
 }
 
 // Each call on the files fails in turn; there are twelve.
 #[test]
 fn a_failed_call_on_the_files_is_a_read_fault(rt: HostRuntime) -> Result<(), Fail> {
     for call in 0..21 {
-        let seen = outcome_of_failed_read(&rt, rt.alloc(), call)?;
+        let seen = outcome_failing(&rt, rt.alloc(), WORDS, (Some(call), None, None), ROOM)?;
         let seen = seen.as_str();
         match fault_at(call) {
             Some(line) => compare_line(&rt, seen, line, line),
@@ -176,54 +166,28 @@ fn a_failed_call_on_the_files_is_a_read_fault(rt: HostRuntime) -> Result<(), Fai
     Ok(())
 }
 
-/// What the block's report says where the call of this number on the output fails, which takes this many bytes at a
-/// time.
-fn outcome_of_failed_write<R: Threads + Sync>(
-    rt: &R,
-    alloc: Global,
-    call: u64,
-    most: usize,
-) -> Result<String, Fail>
-    requires { 0 < most }
-{
-    let mut outside = calm(alloc);
-    outside.out.push(call)?;
-    outside.most = most;
-    outcome_of_block(rt, alloc, WORDS, outside)
-}
-
 // A byte is taken at a time, and each call on the output fails in turn; then one that takes ten.
 #[test]
 fn a_failed_call_on_the_output_is_a_write_fault(rt: HostRuntime) -> Result<(), Fail> {
     for call in 0..41 {
-        let seen = outcome_of_failed_write(&rt, rt.alloc(), call as u64, 1)?;
+        let failing = (None, Some(call as u64), None);
+        let seen = outcome_failing(&rt, rt.alloc(), WORDS, failing, 1)?;
         let front = REPORT.get(..call).unwrap_or("?");
         assert!(rt;
             seen.as_str().strip_prefix("7 write fault\n") == Some(front),
             "{seen} at {call}"
         );
     }
-    let seen = outcome_of_failed_write(&rt, rt.alloc(), 1, 10)?;
+    let seen = outcome_failing(&rt, rt.alloc(), WORDS, (None, Some(1), None), 10)?;
     assert_eq!(rt; seen.as_str(), "7 write fault\nxtalk 1\nne");
     Ok(())
-}
-
-/// What words say of the block where the first call on the error stream fails.
-fn outcome_without_line<R: Threads + Sync>(
-    rt: &R,
-    alloc: Global,
-    words: &str,
-) -> Result<String, Fail> {
-    let mut outside = calm(alloc);
-    outside.err.push(0)?;
-    outcome_of_block(rt, alloc, words, outside)
 }
 
 // The status stays where its line can't be written.
 #[test]
 fn a_line_that_cannot_be_written_changes_no_status(rt: HostRuntime) -> Result<(), Fail> {
     for (words, want) in [("report a b c", "2 "), ("report r.v r.v r.v r.v", "3 ")] {
-        let seen = outcome_without_line(&rt, rt.alloc(), words)?;
+        let seen = outcome_failing(&rt, rt.alloc(), words, (None, None, Some(0)), ROOM)?;
         compare(&rt, seen.as_str(), want, words);
     }
     Ok(())

@@ -65,6 +65,10 @@ A load before resistors that are no tree | 5 limit: load a 70368744178664 | (a);
 The driver and 65,536 other nodes, before the load of their capacitors | 5 limit: nodes a 65537 | (a); input a; | \
     *D_NET a 0 *CAP⟨65536: 1 a:# 1099511627.776⟩ *END
 The same by resistors | 5 limit: nodes a 65537 | (a); input a; | *D_NET a 0 *RES⟨65536: 1 a a:# 1⟩ *END
+A million nodes, each with a name of its own | 5 limit: nodes a 1000001 | (a); input a; | \
+    *D_NET a 0 *CAP⟨1000000: 1 a:# 1⟩ *END
+A net with 262,143 sinks, and a loop of arcs | 4 link: K4 c | \
+    (a); input a; INV w (.A(c), .Y(c)), ⟨262142: u#(.A(a)),⟩ v(.A(a));
 As many nodes as there may be, and a loop of arcs | 4 link: K4 c | (a); input a; INV w (.A(c), .Y(c)); | \
     *D_NET a 0 *RES⟨65535: 1 a a:# 1⟩ *END
 Nodes of an earlier net after the wire of a later one: nets in order | 5 limit: nodes a 65537 | \
@@ -160,6 +164,8 @@ One check more | 5 limit: checks 1048577 | many arcs | \
     module m (a); input a; FLOP w(.D(a), .A(a)); FLOPS⟨1023: u#(.A(a), .D(a)),⟩ v(.A(a), .D(a)); endmodule
 2,500 instances of 20,000 arcs, of which none is made | 5 limit: arcs 50000000 | very many arcs | \
     module m (a); input a; MANY⟨2499: u#(.A(a), .Y(n#)),⟩ v(.A(a), .Y(n)); endmodule
+262,143 instances of 20,000 arcs: a sum beyond 32 bits | 5 limit: arcs 5242860000 | very many arcs | \
+    module m (a); input a; MANY⟨262142: u#(.A(a), .Y(n#)),⟩ v(.A(a), .Y(n)); endmodule
 A wire before arcs | 4 link: K5 n | very many arcs | \
     module m (a); input a; MANY⟨2499: u#(.A(a), .Y(n#)),⟩ v(.A(a), .Y(n)); endmodule | *D_NET n 0 *RES 1 v:Y v:Y 1 *END
 5,000 instances of 1,024 checks | 5 limit: checks 5120000 | many arcs | \

@@ -1,21 +1,10 @@
 //! The block's report, and the same one through its linked text.
 
-use crate::block::{LIB, NETLIST, REPORT, SDC, SPEF};
-use crate::call::{calm, compare, compare_report, field, outcome};
+use crate::block::REPORT;
+use crate::call::{calm, compare, compare_report, field, outcome, outcome_of_block};
 use std::alloc::{AllocError, Global};
 use std::test::Fail;
 use std::thread::Threads;
-
-/// What a call with these words on the block says.
-fn outcome_of_block<R: Threads + Sync>(rt: &R, alloc: Global, words: &str) -> Result<String, Fail> {
-    let texts = [
-        ("r.lib", LIB.as_bytes()),
-        ("r.v", NETLIST.as_bytes()),
-        ("r.spef", SPEF.as_bytes()),
-        ("r.sdc", SDC.as_bytes()),
-    ];
-    outcome(rt, alloc, words, texts.as_slice(), calm(alloc))
-}
 
 /// A report without the lines that a report of checks alone leaves out.
 fn checks_alone(alloc: Global, report: &str) -> Result<String, AllocError> {
@@ -42,19 +31,9 @@ report r.lib --kind all r.v --workers 3 r.spef --miller=0,4,8 r.sdc
 #[test]
 fn a_block_is_reported(rt: HostRuntime) -> Result<(), Fail> {
     for words in REPORTS.lines() {
-        let seen = outcome_of_block(&rt, rt.alloc(), words)?;
+        let seen = outcome_of_block(&rt, rt.alloc(), words, calm(rt.alloc()))?;
         compare_report(&rt, seen.as_str(), words);
     }
-    Ok(())
-}
-
-#[test]
-fn the_checks_of_a_block_are_reported_alone(rt: HostRuntime) -> Result<(), Fail> {
-    let checks = checks_alone(rt.alloc(), REPORT)?;
-    let words = "report r.lib r.v r.spef r.sdc --kind checks";
-    let seen = outcome_of_block(&rt, rt.alloc(), words)?;
-    let seen = seen.as_str();
-    assert!(rt; seen.strip_prefix("0 ") == Some(checks.as_str()), "{seen}");
     Ok(())
 }
 
@@ -72,9 +51,19 @@ end
 ";
 
 #[test]
-fn the_noise_of_a_block_is_reported(rt: HostRuntime) -> Result<(), Fail> {
+fn the_checks_and_the_noise_of_a_block_are_reported_alone(rt: HostRuntime) -> Result<(), Fail> {
+    let alloc = rt.alloc();
+    let checks = checks_alone(alloc, REPORT)?;
+    let words = "report r.lib r.v r.spef r.sdc --kind checks";
+    let seen = outcome_of_block(&rt, alloc, words, calm(alloc))?;
+    compare(
+        &rt,
+        seen.as_str().strip_prefix("0 ").unwrap_or("?"),
+        checks.as_str(),
+        words,
+    );
     let words = "report r.lib r.v r.spef r.sdc --kind noise";
-    let seen = outcome_of_block(&rt, rt.alloc(), words)?;
+    let seen = outcome_of_block(&rt, alloc, words, calm(alloc))?;
     compare(&rt, seen.as_str(), NOISE, words);
     Ok(())
 }
@@ -110,7 +99,7 @@ fn outcome_with<R: Threads + Sync>(
     options: &str,
 ) -> Result<String, Fail> {
     let words = format!(in alloc; "{command} r.lib r.v r.spef r.sdc {options}")?;
-    outcome_of_block(rt, alloc, words.as_str())
+    outcome_of_block(rt, alloc, words.as_str(), calm(alloc))
 }
 
 /// What `solve` says with these options of the text that `link` prints with those.
@@ -135,12 +124,7 @@ fn a_linked_block_is_solved_to_its_report(rt: HostRuntime) -> Result<(), Fail> {
         assert!(rt; solved.starts_with("0 xtalk 1\n"), "{solved} at {row}");
         compare(&rt, solved.as_str(), reported.as_str(), row);
     }
-    Ok(())
-}
-
-#[test]
-fn a_linked_block_is_solved_to_the_worked_report(rt: HostRuntime) -> Result<(), Fail> {
-    let solved = outcome_of_linked(&rt, rt.alloc(), "", "")?;
+    let solved = outcome_of_linked(&rt, alloc, "", "")?;
     compare_report(&rt, solved.as_str(), "solve");
     Ok(())
 }

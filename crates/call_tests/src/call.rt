@@ -2,7 +2,9 @@
 
 ghost use Rattle.std.specs.Prelude.{◌<◌};
 
+use crate::patterns::text_of;
 use std::alloc::{AllocError, Global};
+use std::process::Abort;
 use std::test::Fail;
 use std::thread::Threads;
 use xt_io::{MemoryFiles, MemorySink};
@@ -132,6 +134,56 @@ pub fn refuses<R: Threads + Sync>(
 ) -> Result<bool, Fail> {
     let ended = run(rt, alloc, words, text, calm(alloc))?;
     Ok(ended.status == status && ended.out.bytes().is_empty() && ended.err.bytes() == line)
+}
+
+/// What a call with these words says where `one.xt` has this text: its status, then its line on the error stream, then
+/// its output, of 64 MiB at most.
+fn outcome<R: Threads + Sync>(
+    rt: &R,
+    alloc: Global,
+    words: &str,
+    text: &str,
+) -> Result<String, Fail> {
+    let mut outside = calm(alloc);
+    outside.room = 1 << 26;
+    let ended = run(rt, alloc, words, text.as_bytes(), outside)?;
+    let line = str::from_utf8(ended.err.bytes()).unwrap_or("?");
+    let out = str::from_utf8(ended.out.bytes()).unwrap_or("?");
+    let status = ended.status;
+    Ok(format!(in alloc; "{status} {line}{out}")?)
+}
+
+/// The patterns of the text of `one.xt` and of what a call says of it, for the rows of a table, whose field of number 0
+/// is the words.
+pub type Table = (&'static str, &'static str, &'static str);
+
+/// What a row of a table says and what it is to say.
+fn seen_and_wanted<R: Threads + Sync>(
+    rt: &R,
+    alloc: Global,
+    table: &Table,
+    row: &str,
+) -> Result<(String, String), Fail> {
+    let (text, wanted, _) = table;
+    let text = text_of(alloc, text, row)?;
+    let seen = outcome(rt, alloc, field(row, 0), text.as_str())?;
+    Ok((seen, text_of(alloc, wanted, row)?))
+}
+
+/// Compares what each row of the tables says with what it is to say.
+pub fn compare<R: Threads + Sync + Abort>(
+    rt: &R,
+    alloc: Global,
+    tables: &[Table],
+) -> Result<(), Fail> {
+    for table in tables {
+        let (_, _, rows) = table;
+        for row in rows.lines() {
+            let (seen, wanted) = seen_and_wanted(rt, alloc, table, row)?;
+            assert!(rt; seen.as_str() == wanted.as_str(), "{row}");
+        }
+    }
+    Ok(())
 }
 
 /// Whether each of these lines of words prints this text where `one.xt` has that text.

@@ -1,7 +1,6 @@
 //! Designs with checks: slacks, idle checks, and the paths of the worst ones. All reports are worked out by hand.
 
-use crate::call::each_prints;
-use std::test::Fail;
+use crate::solving::Printed;
 
 /// One net that rises at 1.000 to 1.200 ps and never falls, with 0.002 ps of wire to a port; a period of 10 ps.
 const PORTS: &[u8] = b"\
@@ -280,24 +279,18 @@ const PAIR_REPORT: &[u8] = b"\
     to wire 0.004\n\
     end\n";
 
-#[test]
-fn reports_slacks_and_their_paths(rt: HostRuntime) -> Result<(), Fail> {
-    let cases: [(&str, &[u8], &[u8]); 4] = [
-        (
-            "solve one.xt\nreplay one.xt --order=5 --workers=2",
-            PORTS,
-            PORTS_REPORT,
-        ),
-        ("solve one.xt --kind=checks", GATES, GATES_REPORT),
-        ("solve one.xt --kind=checks", PEAK, PEAK_REPORT),
-        (
-            "solve one.xt --workers=3\nreplay one.xt --order=9 --workers=7",
-            PAIR,
-            PAIR_REPORT,
-        ),
-    ];
-    for (lines, text, report) in cases {
-        assert!(rt; each_prints(&rt, rt.alloc(), lines, text, report)?);
-    }
-    Ok(())
-}
+/// Lines of words, the design of `one.xt`, and its report.
+pub const CHECKS: [Printed; 4] = [
+    (
+        "solve one.xt\nreplay one.xt --order=5 --workers=2",
+        PORTS,
+        PORTS_REPORT,
+    ),
+    ("solve one.xt --kind=checks", GATES, GATES_REPORT),
+    ("solve one.xt --kind=checks", PEAK, PEAK_REPORT),
+    (
+        "solve one.xt --workers=3\nreplay one.xt --order=9 --workers=7",
+        PAIR,
+        PAIR_REPORT,
+    ),
+];

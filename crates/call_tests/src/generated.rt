@@ -1,7 +1,7 @@
 //! The summaries of generated designs. The expected ones are those of `bench/gen.py`, a plain program from the
 //! definition alone.
 
-use crate::call::{calm, each_prints, prints, run};
+use crate::call::{calm, prints, run};
 use std::alloc::Global;
 use std::test::Fail;
 use std::thread::Threads;
@@ -113,6 +113,33 @@ greatest 258575.148
 end
 ";
 
+/// Words, each in another order, for the summary of the one net of number 7.
+const ORDERS: &str = "\
+gen --nets=01 --workers 8 --number 7
+xtalk gen 1
+nets 1 couplings 0 pairs 0 levels 1 bound 1
+live 2 wider 0 guilty 0
+least 24.000
+greatest 24.000
+end
+
+gen --workers=1 --number=00007 --nets 1
+xtalk gen 1
+nets 1 couplings 0 pairs 0 levels 1 bound 1
+live 2 wider 0 guilty 0
+least 24.000
+greatest 24.000
+end
+
+gen --number 7 --nets=1 --workers=64
+xtalk gen 1
+nets 1 couplings 0 pairs 0 levels 1 bound 1
+live 2 wider 0 guilty 0
+least 24.000
+greatest 24.000
+end
+";
+
 /// Whether the words of the first line print the summary after it.
 fn summarises<R: Threads + Sync>(rt: &R, alloc: Global, row: &str) -> Result<bool, Fail> {
     let (words, summary) = row.split_once('\n').unwrap_or((row, ""));
@@ -123,30 +150,11 @@ fn summarises<R: Threads + Sync>(rt: &R, alloc: Global, row: &str) -> Result<boo
 
 #[test]
 fn summarises_designs_of_a_number(rt: HostRuntime) -> Result<(), Fail> {
-    for row in SUMMARIES.split("\n\n") {
-        assert!(rt; summarises(&rt, rt.alloc(), row)?, "{row}");
+    for rows in [SUMMARIES, ORDERS] {
+        for row in rows.split("\n\n") {
+            assert!(rt; summarises(&rt, rt.alloc(), row)?, "{row}");
+        }
     }
-    Ok(())
-}
-
-/// Words, each in another order, for the summary of the one net of number 7.
-const ORDERS: &str = "\
-gen --nets=01 --workers 8 --number 7
-gen --workers=1 --number=00007 --nets 1
-gen --number 7 --nets=1 --workers=64
-";
-
-const SEVEN_OF_ONE: &[u8] = b"\
-    xtalk gen 1\n\
-    nets 1 couplings 0 pairs 0 levels 1 bound 1\n\
-    live 2 wider 0 guilty 0\n\
-    least 24.000\n\
-    greatest 24.000\n\
-    end\n";
-
-#[test]
-fn takes_options_of_gen_in_any_order(rt: HostRuntime) -> Result<(), Fail> {
-    assert!(rt; each_prints(&rt, rt.alloc(), ORDERS, b"", SEVEN_OF_ONE)?);
     Ok(())
 }
 

@@ -1,6 +1,8 @@
-//! Large designs: a long chain of nets, many checks, and a design and its report as files of the system.
+//! Large designs: a long chain of nets, many checks, many coupled gates in threads, as many nets as there may be, and a
+//! design and its report as files of the system.
 
-use crate::call::{calm, run};
+use crate::call::{Table, compare};
+use crate::patterns::text_of;
 use std::alloc::{AllocError, Global};
 use std::fs::File;
 use std::test::Fail;
@@ -8,154 +10,215 @@ use std::thread::Threads;
 use std::{fs, process};
 use xtalk_edge::{Ended, run as run_edge};
 
-/// The first lines of a chain of this many nets, to those of its two tables: a delay of 1 fs and a slew of 0.
-fn head_of_chain(alloc: Global, count: u32) -> Result<String, AllocError> {
-    let table = "table 1 1\nslews 0\nloads 0\n";
-    format!(in alloc;
-        "xtalk-design 1\ncounts 2 {count} 0\nperiod none\n{table}row 1\n{table}row 0\n"
-    )
-}
-
-/// The line that declares a net of a chain: the first is an input, the last has no sink.
-fn net_of_chain(alloc: Global, number: u32, count: u32) -> Result<String, AllocError> {
-    let next = number.saturating_add(1);
-    let sinks = if next < count { 1 } else { 0 };
-    if number == 0 {
-        return format!(in alloc; "net n0 i 0 0 {sinks} 0\n");
-    }
-    format!(in alloc; "net n{number} w 0 0 {sinks} 1\n")
-}
-
-/// The lines of the parts of a net of a chain: the windows of the first, a sink, the arc from the net before.
-fn parts_of_chain(alloc: Global, number: u32, count: u32) -> Result<String, AllocError> {
-    let before = number.saturating_sub(1);
-    let is_last = number.saturating_add(1) == count;
-    match (number, is_last) {
-        (0, true) => format!(in alloc; "rise 0 0 0 0\nfall quiet\n"),
-        (0, false) => format!(in alloc; "rise 0 0 0 0\nfall quiet\nsink s0 0\n"),
-        (_, true) => format!(in alloc; "arc {before} 0 rise rise 0 1\n"),
-        (_, false) => format!(in alloc; "sink s{number} 0\narc {before} 0 rise rise 0 1\n"),
-    }
-}
-
-/// A chain of nets, the first of which rises at 0 and never falls; each later one rises 1 fs after the one before it.
-fn chain(alloc: Global, count: u32) -> Result<String, AllocError> {
-    let mut text = head_of_chain(alloc, count)?;
-    for number in 0..count {
-        let line = net_of_chain(alloc, number, count)?;
-        text.push_str(line.as_str())?;
-    }
-    for number in 0..count {
-        let lines = parts_of_chain(alloc, number, count)?;
-        text.push_str(lines.as_str())?;
-    }
-    text.push_str("end\n")?;
-    Ok(text)
-}
-
-/// The lines of a net of a chain in its report.
-fn reported_of_chain(alloc: Global, number: u32) -> Result<String, AllocError> {
-    let (ps, tenths, hundredths, fs) = (
-        number / 1000,
-        number / 100 % 10,
-        number / 10 % 10,
-        number % 10,
-    );
-    let at = format!(in alloc; "{ps}.{tenths}{hundredths}{fs}")?;
-    let at = at.as_str();
-    format!(in alloc;
-        "net n{number} rise least {at} {at} 0.000 0.000 greatest {at} {at} 0.000 0.000\n\
-        net n{number} fall quiet\n"
-    )
-}
+/// The first lines of a chain of nets after the first, to those of its two tables: a delay of 1 fs and a slew of 0.
+/// The first net rises at 0 and never falls; each later one rises 1 fs after the one before it.
+const CHAIN: &str = "\
+xtalk-design 1
+counts 2 ⟦2⟧ 0
+period none
+table 1 1
+slews 0
+loads 0
+row 1
+table 1 1
+slews 0
+loads 0
+row 0
+net n0 i 0 0 1 0
+⟨⟦1⟧:net n#1+1# w 0 0 1 1⏎⟩\
+net n⟦3⟧ w 0 0 0 1
+rise 0 0 0 0
+fall quiet
+sink s0 0
+⟨⟦1⟧:sink s#1+1# 0⏎arc ## 0 rise rise 0 1⏎⟩\
+arc ⟦1⟧ 0 rise rise 0 1
+end
+";
 
 /// The report of a chain: a net is as many fs late as there are nets before it, whatever runs look at.
-fn chain_report(alloc: Global, count: u32) -> Result<String, AllocError> {
-    let mut text = format!(in alloc;
-        "xtalk 1\nnets {count} couplings 0 pairs 0 levels {count} bound {count}\nperiod none\n"
-    )?;
-    for number in 0..count {
-        let lines = reported_of_chain(alloc, number)?;
-        text.push_str(lines.as_str())?;
-    }
-    text.push_str("end\n")?;
-    Ok(text)
-}
+const CHAIN_REPORT: &str = "\
+0 xtalk 1
+nets ⟦2⟧ couplings 0 pairs 0 levels ⟦2⟧ bound ⟦2⟧
+period none
+⟨⟦3⟧:net n## rise least #ps# #ps# 0.000 0.000 greatest #ps# #ps# 0.000 0.000⏎net n## fall quiet⏎⟩\
+net n⟦3⟧ rise least ⟦4⟧ ⟦4⟧ 0.000 0.000 greatest ⟦4⟧ ⟦4⟧ 0.000 0.000
+net n⟦3⟧ fall quiet
+end
+";
 
-/// Whether `solve` prints this report of a text, in 64 MiB at most.
-fn solves<R: Threads + Sync>(
-    rt: &R,
-    alloc: Global,
-    text: &str,
-    report: &str,
-) -> Result<bool, Fail> {
-    let mut outside = calm(alloc);
-    outside.room = 1 << 26;
-    let ended = run(rt, alloc, "solve one.xt", text.as_bytes(), outside)?;
-    Ok(ended.status == 0 && ended.out.bytes() == report.as_bytes() && ended.err.bytes().is_empty())
-}
+/// Words; how many nets lie between the first and the last of a chain, how many it has, how many before the last; and
+/// when the last rises.
+const CHAINS: &str = "\
+solve one.xt | 0 | 2 | 1 | 0.001
+solve one.xt | 1 | 3 | 2 | 0.002
+solve one.xt | 199998 | 200000 | 199999 | 199.999
+";
 
-/// Whether a chain of this many nets has its report.
-fn solves_chain<R: Threads + Sync>(rt: &R, alloc: Global, count: u32) -> Result<bool, Fail> {
-    let (text, report) = (chain(alloc, count)?, chain_report(alloc, count)?);
-    solves(rt, alloc, text.as_str(), report.as_str())
-}
+/// A chain of one net.
+const ALONE: &str = "\
+xtalk-design 1
+counts 2 1 0
+period none
+table 1 1
+slews 0
+loads 0
+row 1
+table 1 1
+slews 0
+loads 0
+row 0
+net n0 i 0 0 0 0
+rise 0 0 0 0
+fall quiet
+end
+";
 
-// The last of 200,000 nets rises at 199.999 ps.
-#[test]
-fn a_chain_is_as_late_as_it_is_long(rt: HostRuntime) -> Result<(), Fail> {
-    for count in [1, 3, 200_000] {
-        assert!(rt; solves_chain(&rt, rt.alloc(), count)?, "{count}");
-    }
-    Ok(())
-}
+/// Its report.
+const ALONE_REPORT: &str = "\
+0 xtalk 1
+nets 1 couplings 0 pairs 0 levels 1 bound 1
+period none
+net n0 rise least 0.000 0.000 0.000 0.000 greatest 0.000 0.000 0.000 0.000
+net n0 fall quiet
+end
+";
 
-/// One net with a port of this many sinks, each with a check that asks for 0.500 ps before the period's end.
-fn with_checks(alloc: Global, count: u32) -> Result<String, AllocError> {
-    let mut text = format!(in alloc;
-        "xtalk-design 1\ncounts 0 1 {count}\nperiod 10000\n\
-        net a i 0 0 {count} 0\nrise 1000 1200 0 0\nfall quiet\n"
-    )?;
-    for number in 0..count {
-        let line = format!(in alloc; "sink y{number} 0\n")?;
-        text.push_str(line.as_str())?;
-    }
-    for number in 0..count {
-        let line = format!(in alloc; "port setup y{number} 0 {number} 500 -\n")?;
-        text.push_str(line.as_str())?;
-    }
-    text.push_str("end\n")?;
-    Ok(text)
-}
+/// One net with a port of many sinks, each with a check that asks for 0.500 ps before the period's end.
+const PORTS: &str = "\
+xtalk-design 1
+counts 0 1 ⟦1⟧
+period 10000
+net a i 0 0 ⟦1⟧ 0
+rise 1000 1200 0 0
+fall quiet
+⟨⟦1⟧:sink y## 0⏎⟩⟨⟦1⟧:port setup y## 0 ## 500 -⏎⟩\
+end
+";
 
 /// Its report: each slack is 10.000 - 0.500 - 1.200 ps, and the first check is the worst.
-fn checks_report(alloc: Global, count: u32) -> Result<String, AllocError> {
-    let mut text = String::from_str(
-        alloc,
-        "xtalk 1\nnets 1 couplings 0 pairs 0 levels 1 bound 1\nperiod 10.000\n\
-        net a rise least 1.000 1.200 0.000 0.000 greatest 1.000 1.200 0.000 0.000\n\
-        net a fall quiet\n",
-    )?;
-    for number in 0..count {
-        let line = format!(in alloc; "check y{number} rise setup 8.300 8.300\n")?;
-        text.push_str(line.as_str())?;
-    }
-    text.push_str("path setup y0 rise 8.300\nfrom a rise 1.200\nto wire 0.000\nend\n")?;
-    Ok(text)
-}
+const PORTS_REPORT: &str = "\
+0 xtalk 1
+nets 1 couplings 0 pairs 0 levels 1 bound 1
+period 10.000
+net a rise least 1.000 1.200 0.000 0.000 greatest 1.000 1.200 0.000 0.000
+net a fall quiet
+⟨⟦1⟧:check y## rise setup 8.300 8.300⏎⟩\
+path setup y0 rise 8.300
+from a rise 1.200
+to wire 0.000
+end
+";
 
-/// Whether this many checks have their report.
-fn solves_checks<R: Threads + Sync>(rt: &R, alloc: Global, count: u32) -> Result<bool, Fail> {
-    let (text, report) = (with_checks(alloc, count)?, checks_report(alloc, count)?);
-    solves(rt, alloc, text.as_str(), report.as_str())
-}
+/// Words, and how many checks there are.
+const CHECKS: &str = "\
+solve one.xt | 1
+solve one.xt | 5000
+";
+
+/// Coupled gates as in LOAD_PAIR, many of them side by side: of each pair the sources p and q, and the gates a and b,
+/// which are coupled to each other.
+const PAIRS: &str = "\
+xtalk-design 1
+counts 2 5000 0
+period none
+table 1 2
+slews 0
+loads 0 10000
+row 800 2800
+table 1 1
+slews 0
+loads 0
+row 0
+⟨1250:net p## i 0 0 1 0⏎net q## i 0 0 1 0⏎net a## w 0 1 0 1⏎net b## w 0 1 0 1⏎⟩\
+⟨1250:rise 0 0 0 0⏎fall quiet⏎sink a##/A 0⏎rise quiet⏎fall 100 100 0 0⏎sink b##/A 0⏎\
+couple #4+3# 1000⏎arc #4+0# 0 rise rise 0 1⏎couple #4+2# 1000⏎arc #4+1# 0 fall fall 0 1⏎⟩\
+end
+";
+
+/// Their report: that of each pair, and a bound of 2 levels and 4 times 1,250 pairs, and 1 more.
+const PAIRS_REPORT: &str = "\
+0 xtalk 1
+nets 5000 couplings 2500 pairs 1250 levels 2 bound 10002
+period none
+⟨1250:\
+net p## rise least 0.000 0.000 0.000 0.000 greatest 0.000 0.000 0.000 0.000⏎\
+net p## fall quiet⏎\
+net q## rise quiet⏎\
+net q## fall least 0.100 0.100 0.000 0.000 greatest 0.100 0.100 0.000 0.000⏎\
+net a## rise least 1.000 1.000 0.000 0.000 greatest 1.000 1.200 0.000 0.000⏎\
+net a## fall quiet⏎\
+net b## rise quiet⏎\
+net b## fall least 1.100 1.100 0.000 0.000 greatest 1.100 1.300 0.000 0.000⏎⟩\
+⟨1250:\
+guilty a## rise b## 1.000 fast no slow possible⏎\
+guilty b## fall a## 1.000 fast no slow possible⏎⟩\
+end
+";
+
+/// Words: workers in threads of their own, and others that take turns.
+const WORKERS: &str = "\
+solve one.xt
+solve one.xt --workers 2
+solve one.xt --workers 7
+solve one.xt --workers 64
+replay one.xt --order 7 --workers 3
+";
+
+/// Nets that never switch: the beginning of their names, how many there are.
+const QUIET: &str = "\
+xtalk-design 1
+counts 0 ⟦2⟧ 0
+period none
+⟨⟦2⟧:net ⟦1⟧## w 0 0 0 0⏎⟩⟨⟦2⟧:rise quiet⏎fall quiet⏎⟩\
+end
+";
+
+/// The report of as many nets as there may be.
+const QUIET_REPORT: &str = "\
+0 xtalk 1
+nets ⟦2⟧ couplings 0 pairs 0 levels 1 bound 1
+period none
+⟨⟦2⟧:net ⟦1⟧## rise quiet⏎net ⟦1⟧## fall quiet⏎⟩\
+end
+";
+
+/// One net that never switches, whose name has this many letters.
+const NAMED: &str = "\
+xtalk-design 1
+counts 0 1 0
+period none
+net ⟨⟦1⟧:n⟩ w 0 0 0 0
+rise quiet
+fall quiet
+end
+";
+
+/// Its report.
+const NAMED_REPORT: &str = "\
+0 xtalk 1
+nets 1 couplings 0 pairs 0 levels 1 bound 1
+period none
+net ⟨⟦1⟧:n⟩ rise quiet
+net ⟨⟦1⟧:n⟩ fall quiet
+end
+";
+
+/// All tables. The last of 200,000 nets of a chain rises at 199.999 ps; a name may have 2,049 bytes, and a design
+/// 262,144 nets.
+const LARGE: [Table; 8] = [
+    (ALONE, ALONE_REPORT, "solve one.xt"),
+    (CHAIN, CHAIN_REPORT, CHAINS),
+    (PORTS, PORTS_REPORT, CHECKS),
+    (PAIRS, PAIRS_REPORT, WORKERS),
+    (QUIET, QUIET_REPORT, "solve one.xt | n | 262144"),
+    (QUIET, "5 limit: nets 262145⏎", "solve one.xt | n | 262145"),
+    (NAMED, NAMED_REPORT, "solve one.xt | 2049"),
+    (NAMED, "3 one.xt:4: X3⏎", "solve one.xt | 2050"),
+];
 
 #[test]
-fn many_checks_are_reported(rt: HostRuntime) -> Result<(), Fail> {
-    for count in [1, 5_000] {
-        assert!(rt; solves_checks(&rt, rt.alloc(), count)?, "{count}");
-    }
-    Ok(())
+fn large_designs_have_their_reports(rt: HostRuntime) -> Result<(), Fail> {
+    compare(&rt, rt.alloc(), &LARGE)
 }
 
 /// The path of a file of the system whose name has 200 bytes, and these first.
@@ -193,11 +256,10 @@ fn solves_file<R: Threads + Sync + Alloc<A = Global>>(
     Ok(status == 0 && printed.as_slice() == report.as_bytes() && err.into_stream().is_empty())
 }
 
-/// Whether a chain of this many nets is solved from a file of the system into another.
+/// Whether a chain of 20,000 nets is solved from a file of the system into another.
 fn solves_files<R: Threads + Sync + Alloc<A = Global>>(
     threads: &R,
     rt: HostRuntime,
-    count: u32,
 ) -> Result<bool, Fail> {
     let alloc = rt.alloc();
     let number = process::id(rt.process());
@@ -205,9 +267,14 @@ fn solves_files<R: Threads + Sync + Alloc<A = Global>>(
         long_path(alloc, number, "xtalk")?,
         long_path(alloc, number, "report")?,
     );
-    let (text, report) = (chain(alloc, count)?, chain_report(alloc, count)?);
+    let row = "| 19998 | 20000 | 19999 | 19.999";
+    let (text, report) = (
+        text_of(alloc, CHAIN, row)?,
+        text_of(alloc, CHAIN_REPORT, row)?,
+    );
     fs::write(&rt, path.as_str(), text.as_bytes())?;
-    let is_solved = solves_file(threads, rt, path.as_str(), into.as_str(), report.as_str())?;
+    let report = report.as_str().strip_prefix("0 ").unwrap_or("?");
+    let is_solved = solves_file(threads, rt, path.as_str(), into.as_str(), report)?;
     fs::remove_file(&rt, path.as_str())?;
     fs::remove_file(&rt, into.as_str())?;
     Ok(is_solved)
@@ -216,6 +283,6 @@ fn solves_files<R: Threads + Sync + Alloc<A = Global>>(
 // A text of 1.2 MB and a report of 2 MB, in files with names of 200 bytes.
 #[test]
 fn solves_a_file_of_the_system_into_another(rt: HostRuntime) -> Result<(), Fail> {
-    assert!(rt; solves_files(&rt, rt, 20_000)?);
+    assert!(rt; solves_files(&rt, rt)?);
     Ok(())
 }

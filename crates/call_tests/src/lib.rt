@@ -25,6 +25,8 @@ mod noise;
 #[cfg(test)]
 mod outside;
 #[cfg(test)]
+mod patterns;
+#[cfg(test)]
 mod refused_texts;
 #[cfg(test)]
 mod solving;

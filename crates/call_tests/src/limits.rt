@@ -1,12 +1,11 @@
 //! Texts that are refused, and texts at the ends of what is taken.
 
-use crate::call::{calm, prints, refuses, run};
+use crate::call::{prints, refuses};
 use crate::designs::{CROSS, CROSS_REPORT, ONE};
 use crate::refused_texts::{
     BACKWARD, CHECKED, LOOP, NEWER, PADDED, TOO_EARLY, TOO_LATE, TOO_SLOW, TWICE, UNENDED, UNKNOWN,
 };
-use itoa::Buffer;
-use std::alloc::{AllocError, Global};
+use std::alloc::Global;
 use std::test::Fail;
 use std::thread::Threads;
 
@@ -52,62 +51,6 @@ fn refuses_a_file_that_is_too_long(rt: HostRuntime) -> Result<(), Fail> {
     let zeros: Vec<u8> = vec![in alloc; 0; 268_435_457]?;
     let line = b"limit: file one.xt 268435457\n";
     assert!(rt; refuses(&rt, alloc, "solve one.xt", &zeros, 5, line)?);
-    Ok(())
-}
-
-/// A design of this many nets that never switch, each of whose names begins like this.
-fn quiet_nets(alloc: Global, count: u32, name: &[u8]) -> Result<Vec<u8>, AllocError> {
-    let mut text = Vec::new(alloc);
-    let mut digits = Buffer::new();
-    text.extend_from_slice(b"xtalk-design 1\ncounts 0 ")?;
-    text.extend_from_slice(digits.format(count).as_bytes())?;
-    text.extend_from_slice(b" 0\nperiod none\n")?;
-    for number in 0..count {
-        text.extend_from_slice(b"net ")?;
-        text.extend_from_slice(name)?;
-        text.extend_from_slice(digits.format(number).as_bytes())?;
-        text.extend_from_slice(b" w 0 0 0 0\n")?;
-    }
-    for _ in 0..count {
-        text.extend_from_slice(b"rise quiet\nfall quiet\n")?;
-    }
-    text.extend_from_slice(b"end\n")?;
-    Ok(text)
-}
-
-/// The status of solving this many nets whose names have this many letters before their numbers.
-fn status_of_nets<R: Threads + Sync>(
-    rt: &R,
-    alloc: Global,
-    letters: usize,
-    count: u32,
-) -> Result<u8, Fail> {
-    let name: Vec<u8> = vec![in alloc; b'n'; letters]?;
-    let text = quiet_nets(alloc, count, &name)?;
-    let mut outside = calm(alloc);
-    outside.room = 1 << 24;
-    let ended = run(rt, alloc, "solve one.xt", &text, outside)?;
-    Ok(ended.status)
-}
-
-// A name may have 2,049 bytes, the number among them; and a design 262,144 nets.
-#[test]
-fn takes_names_and_nets_up_to_their_limits(rt: HostRuntime) -> Result<(), Fail> {
-    for (letters, count, wanted) in [(2048, 1, 0), (2049, 1, 3), (1, 262_144, 0), (1, 262_145, 5)] {
-        assert_eq!(rt; status_of_nets(&rt, rt.alloc(), letters, count)?, wanted);
-    }
-    Ok(())
-}
-
-/// Whether one net more than a design may have is refused with its line.
-fn refuses_nets<R: Threads + Sync>(rt: &R, alloc: Global) -> Result<bool, Fail> {
-    let text = quiet_nets(alloc, 262_145, b"n")?;
-    refuses(rt, alloc, "solve one.xt", &text, 5, b"limit: nets 262145\n")
-}
-
-#[test]
-fn names_the_count_of_nets_past_the_limit(rt: HostRuntime) -> Result<(), Fail> {
-    assert!(rt; refuses_nets(&rt, rt.alloc())?);
     Ok(())
 }
 

@@ -2,33 +2,21 @@
 
 mod example;
 
-use crate::rows::{at_bar, in_words, with_lines};
-use liberty_cells::{Cell, Library, Pin, Role, Sense, Timing, TimingKind, read_library};
+use crate::rows::{Reader, Texts, answer, at_bar, compare, in_words, with_lines};
+use example::{EXAMPLE, EXAMPLE_SHOWN};
+use liberty_cells::{Cell, Library, Pin, Timing, read_library};
 use std::alloc::{AllocError, Global};
 use std::process::Abort;
 use std::test::*;
 use xt_lex::{MOST_BYTES, TextFault};
-use xt_model::{Name, Row, Table};
+use xt_model::{Name, Table};
 
 /// Reads a library.
-fn read(rt: &impl Abort, alloc: Global, text: &[u8]) -> Result<Library, TextFault> {
-    if text.len() > MOST_BYTES {
-        panic!(rt; "too long");
+fn read(alloc: Global, text: &[u8]) -> Result<Library, TextFault> {
+    if MOST_BYTES < text.len() {
+        return Err(TextFault::NoMemory);
     }
     read_library(alloc, text)
-}
-
-/// Compares what becomes of libraries with the content of each row, which begins on line 1.
-fn compare(rt: &impl Abort, alloc: Global, rows: &str) -> Result<(), Fail> {
-    for row in rows.lines() {
-        let (want, content) = at_bar(row)?;
-        let content = with_lines(alloc, content)?;
-        let content = content.as_str();
-        let text = format!(in alloc; "library (x) {{{content}}}")?;
-        let words = in_words(alloc, read(rt, alloc, text.as_bytes()))?;
-        assert!(rt; words.as_str() == want, "{words} at {row}");
-    }
-    Ok(())
 }
 
 /// The scales of time and of capacitance, after units.
@@ -40,17 +28,19 @@ const UNITS: &str = "\
 6 0 | time_unit : 5ps; time_unit : 1ns; capacitive_load_unit (1e-3, ff);
 ";
 
+/// The two scales of a library with this content.
+fn scales(alloc: Global, content: &str) -> Result<String, Fail> {
+    let text = format!(in alloc; "library (x) {{{content}}}")?;
+    let library = read(alloc, text.as_bytes())?;
+    let (time, cap) = (library.time_scale, library.cap_scale);
+    Ok(format!(in alloc; "{time} {cap}")?)
+}
+
 #[test]
 fn units_have_their_scales(rt: HostRuntime) -> Result<(), Fail> {
-    let alloc = rt.alloc();
     for row in UNITS.lines() {
         let (want, content) = at_bar(row)?;
-        let text = format!(in alloc; "library (x) {{{content}}}")?;
-        let Ok(library) = read(&rt, alloc, text.as_bytes()) else {
-            panic!(rt; "refused at {row}");
-        };
-        let (time, cap) = (library.time_scale, library.cap_scale);
-        let words = format!(in alloc; "{time} {cap}")?;
+        let words = scales(rt.alloc(), content)?;
         assert!(rt; words.as_str() == want, "{words} at {row}");
     }
     Ok(())
@@ -73,11 +63,6 @@ L1 2 | cell (A) { }⏎cell (A, B) { }
 read | cell (A) { } cell (\"\\A\\B\") { } cell (a) { }
 ";
 
-#[test]
-fn units_and_names_are_refused(rt: HostRuntime) -> Result<(), Fail> {
-    compare(&rt, rt.alloc(), NAMES)
-}
-
 /// Pins.
 const PINS: &str = "\
 L1 2 | cell (A) {⏎pin () { } }
@@ -94,108 +79,76 @@ L3 2 | cell (A) { pin (B) { timing () { }⏎capacitance : x; } }
 read | cell (A) { bundle (B) { pin () { } } }
 ";
 
-#[test]
-fn pins_are_refused(rt: HostRuntime) -> Result<(), Fail> {
-    compare(&rt, rt.alloc(), PINS)
+/// What comes before a name on line 2 and after it: that of a template, a cell, a pin and a related pin.
+const PLACES: [(&[u8], &[u8]); 4] = [
+    (b"library (x) {\nlu_table_template (", b") { } }"),
+    (b"library (x) {\ncell (", b") { } }"),
+    (b"library (x) {cell (A) {\npin (", b") { } } }"),
+    (
+        b"library (x) {cell (A) { pin (Z) { timing () {\nrelated_pin : ",
+        b"; } } } }",
+    ),
+];
+
+/// What becomes of a library with this name in a place.
+fn answer_named(alloc: Global, before: &[u8], name: &[u8], after: &[u8]) -> Result<String, Fail> {
+    let mut text = Vec::from_slice(alloc, before)?;
+    text.extend_from_slice(name)?;
+    text.extend_from_slice(after)?;
+    answer(alloc, Reader::Library, text.as_slice())
 }
 
-#[test]
-fn pins_have_their_directions(rt: HostRuntime) {
-    let text = "library (x) { time_unit : 10ps; capacitive_load_unit (1, ff); cell (A) {\
-        pin (B) { direction : inout; capacitance : 2; } pin (C) { direction : internal; } pin (D) { } } }";
-    let Ok(library) = read(&rt, rt.alloc(), text.as_bytes()) else {
-        panic!(rt; "refused");
-    };
-    let [cell] = library.cells.as_slice() else {
-        panic!(rt; "not one cell");
-    };
-    let [b, c, d] = cell.pins.as_slice() else {
-        panic!(rt; "not three pins");
-    };
-    compare_pin(&rt, b, "B", Role::Inout, 2_000, 0);
-    compare_pin(&rt, c, "C", Role::Other, 0, 0);
-    compare_pin(&rt, d, "D", Role::Other, 0, 0);
-}
-
-/// Compares what becomes of libraries with a name as that of a template, a cell, a pin and a related pin, on line 2.
+/// Compares what becomes of libraries with this name in each place.
 fn compare_named(rt: &impl Abort, alloc: Global, name: &[u8], want: &str) -> Result<(), Fail> {
-    for (before, after) in [
-        ("\nlu_table_template (", ") { } }"),
-        ("\ncell (", ") { } }"),
-        ("cell (A) {\npin (", ") { } } }"),
-        (
-            "cell (A) { pin (Z) { timing () {\nrelated_pin : ",
-            "; } } } }",
-        ),
-    ] {
-        let mut text = Vec::new(alloc);
-        text.extend_from_slice(b"library (x) {")?;
-        text.extend_from_slice(before.as_bytes())?;
-        text.extend_from_slice(name)?;
-        text.extend_from_slice(after.as_bytes())?;
-        let words = in_words(alloc, read(rt, alloc, text.as_slice()))?;
-        assert!(rt; words.as_str() == want, "{words} at {before}");
+    for (before, after) in &PLACES {
+        let words = answer_named(alloc, before, name, after)?;
+        assert!(rt; words.as_str() == want, "{words} at {want}");
     }
     Ok(())
 }
 
+/// Names in quotes: of the least and the greatest byte that may be in one, of those beyond these, and beyond ASCII.
+const BYTES: [(&[u8], &str); 4] = [
+    (b"\"!~\"", "read"),
+    (b"\"a\x7f\"", "L1 2"),
+    (b"\"\xff\"", "L1 2"),
+    (b"\"\x1fa\"", "L1 2"),
+];
+
 #[test]
 fn a_name_is_printable_and_has_at_most_1024_bytes(rt: HostRuntime) -> Result<(), Fail> {
     let alloc = rt.alloc();
-    let mut name = vec![in alloc; b'x'; 1024]?;
-    compare_named(&rt, alloc, name.as_slice(), "read")?;
-    name.push(b'x')?;
-    compare_named(&rt, alloc, name.as_slice(), "L1 2")?;
-    compare_named(&rt, alloc, b"\"!~\"", "read")?;
-    compare_named(&rt, alloc, b"\"a\x7f\"", "L1 2")?;
-    compare_named(&rt, alloc, b"\"\xff\"", "L1 2")?;
-    compare_named(&rt, alloc, b"\"\x1fa\"", "L1 2")
+    for (name, want) in &BYTES {
+        compare_named(&rt, alloc, name, want)?;
+    }
+    for (letters, want) in [("⟨1024:x⟩", "read"), ("⟨1025:x⟩", "L1 2")] {
+        let name = with_lines(alloc, letters)?;
+        compare_named(&rt, alloc, name.as_bytes(), want)?;
+    }
+    Ok(())
 }
 
 /// What a library with one timing group means: the kind of the group, or the refusal.
-fn kind_in_words(
-    rt: &impl Abort,
-    alloc: Global,
-    direction: &str,
-    content: &str,
-) -> Result<String, Fail> {
+fn kind_in_words(alloc: Global, direction: &str, content: &str) -> Result<String, Fail> {
+    let content = with_lines(alloc, content)?;
+    let content = content.as_str();
     let text = format!(in alloc;
         "library (x) {{ cell (A) {{ pin (Z) {{ direction : {direction}; timing () {{\n{content}}} }} }} }}"
     )?;
-    match read(rt, alloc, text.as_bytes()) {
+    match read(alloc, text.as_bytes()) {
         Ok(library) => {
-            let kind = only_timing(rt, &library).kind;
+            let kind = only_timing(&library)?.kind;
             Ok(format!(in alloc; "{kind:?}")?)
         }
         Err(fault) => in_words(alloc, Err::<(), TextFault>(fault)),
     }
 }
 
-/// Compares the kind of the only timing group of a library, or its refusal, for each row with the direction of the pin
-/// and the content of the group. The content begins on line 2.
-fn compare_timings(rt: &impl Abort, alloc: Global, rows: &str) -> Result<(), Fail> {
-    for row in rows.lines() {
-        let (want, rest) = at_bar(row)?;
-        let (direction, content) = at_bar(rest)?;
-        let content = with_lines(alloc, content)?;
-        let words = kind_in_words(rt, alloc, direction, content.as_str())?;
-        assert!(rt; words.as_str() == want, "{words} at {row}");
-    }
-    Ok(())
-}
-
 /// The first timing group of the first pin of the first cell.
-fn only_timing<'a>(rt: &impl Abort, library: &'a Library) -> &'a Timing {
-    match library.cells.as_slice().first() {
-        Some(cell) => match cell.pins.as_slice().first() {
-            Some(pin) => match pin.timings().first() {
-                Some(timing) => timing,
-                None => panic!(rt; "no timing group"),
-            },
-            None => panic!(rt; "no pin"),
-        },
-        None => panic!(rt; "no cell"),
-    }
+fn only_timing(library: &Library) -> Result<&Timing, Fail> {
+    let cell = library.cells.as_slice().first().ok_or("no cell")?;
+    let pin = cell.pins.as_slice().first().ok_or("no pin")?;
+    Ok(pin.timings().first().ok_or("no timing group")?)
 }
 
 /// Kinds of timing groups, by the direction of the pin and what the group has.
@@ -214,41 +167,37 @@ Skipped | output | timing_type : clear; cell_rise (u) { }
 Combinational | output | related_pin : A; rise_constraint (u) { }
 ";
 
-#[test]
-fn timing_groups_have_their_kinds(rt: HostRuntime) -> Result<(), Fail> {
-    compare_timings(&rt, rt.alloc(), KINDS)
-}
-
 /// Types of timing groups that have no use.
 const UNUSED: &str = "\
-clear
-preset
-recovery_rising
-recovery_falling
-removal_rising
-removal_falling
-three_state_enable
-three_state_disable
-three_state_enable_rise
-three_state_enable_fall
-three_state_disable_rise
-three_state_disable_fall
-min_pulse_width
-minimum_period
+Skipped | input | timing_type : clear;
+Skipped | output | timing_type : clear;
+Skipped | input | timing_type : preset;
+Skipped | output | timing_type : preset;
+Skipped | input | timing_type : recovery_rising;
+Skipped | output | timing_type : recovery_rising;
+Skipped | input | timing_type : recovery_falling;
+Skipped | output | timing_type : recovery_falling;
+Skipped | input | timing_type : removal_rising;
+Skipped | output | timing_type : removal_rising;
+Skipped | input | timing_type : removal_falling;
+Skipped | output | timing_type : removal_falling;
+Skipped | input | timing_type : three_state_enable;
+Skipped | output | timing_type : three_state_enable;
+Skipped | input | timing_type : three_state_disable;
+Skipped | output | timing_type : three_state_disable;
+Skipped | input | timing_type : three_state_enable_rise;
+Skipped | output | timing_type : three_state_enable_rise;
+Skipped | input | timing_type : three_state_enable_fall;
+Skipped | output | timing_type : three_state_enable_fall;
+Skipped | input | timing_type : three_state_disable_rise;
+Skipped | output | timing_type : three_state_disable_rise;
+Skipped | input | timing_type : three_state_disable_fall;
+Skipped | output | timing_type : three_state_disable_fall;
+Skipped | input | timing_type : min_pulse_width;
+Skipped | output | timing_type : min_pulse_width;
+Skipped | input | timing_type : minimum_period;
+Skipped | output | timing_type : minimum_period;
 ";
-
-#[test]
-fn types_without_a_use_are_skipped(rt: HostRuntime) -> Result<(), Fail> {
-    let alloc = rt.alloc();
-    for kind in UNUSED.lines() {
-        let content = format!(in alloc; "timing_type : {kind};")?;
-        for direction in ["input", "output"] {
-            let words = kind_in_words(&rt, alloc, direction, content.as_str())?;
-            assert_eq!(rt; words.as_str(), "Skipped", "at {kind}");
-        }
-    }
-    Ok(())
-}
 
 /// Timing groups that are refused.
 const TIMINGS: &str = "\
@@ -266,8 +215,16 @@ L6 2 | input | related_pin : A; timing_type : hold_rising; fall_constraint (u) {
 ";
 
 #[test]
-fn timing_groups_are_refused(rt: HostRuntime) -> Result<(), Fail> {
-    compare_timings(&rt, rt.alloc(), TIMINGS)
+fn timing_groups_have_their_kinds_or_are_refused(rt: HostRuntime) -> Result<(), Fail> {
+    for rows in [KINDS, UNUSED, TIMINGS] {
+        for row in rows.lines() {
+            let (want, rest) = at_bar(row)?;
+            let (direction, content) = at_bar(rest)?;
+            let words = kind_in_words(rt.alloc(), direction, content)?;
+            assert!(rt; words.as_str() == want, "{words} at {row}");
+        }
+    }
+    Ok(())
 }
 
 /// Slews in rows on lines 3 and 5, loads in columns on lines 4 and 6; the cell is on line 7.
@@ -307,42 +264,32 @@ fn table_in_words(alloc: Global, table: &Table) -> Result<String, AllocError> {
     Ok(out)
 }
 
+/// The first of the two tables of a library, which are those of a timing group's rise and its slew.
+fn first_table(alloc: Global, library: &Library) -> Result<String, Fail> {
+    let timing = only_timing(library)?;
+    if (timing.rise, timing.rise_slew) != (Some(0), Some(1)) {
+        return Err(Fail::from("other tables"));
+    }
+    let [first, _] = library.tables.as_slice() else {
+        return Err(Fail::from("not two tables"));
+    };
+    Ok(table_in_words(alloc, first)?)
+}
+
 /// What a library of a template, which begins on line 2, and of two tables means, the arguments of the first of which
 /// begin on the line after the template: that table, or the refusal.
-fn tables_in_words(
-    rt: &impl Abort,
-    alloc: Global,
-    template: &str,
-    table: &str,
-) -> Result<String, Fail> {
+fn tables_in_words(alloc: Global, template: &str, table: &str) -> Result<String, Fail> {
+    let template = with_lines(alloc, template_of(template))?;
+    let table = with_lines(alloc, table)?;
+    let (template, table) = (template.as_str(), table.as_str());
     let text = format!(in alloc;
         "library (x) {{\n{template}\ncell (A) {{ pin (Z) {{ direction : output; timing () {{ related_pin : B; \
         cell_rise {table}rise_transition (scalar) {{ values (1); }} }} }} }} }}"
     )?;
-    match read(rt, alloc, text.as_bytes()) {
-        Ok(library) => {
-            let timing = only_timing(rt, &library);
-            assert_eq!(rt; (timing.rise, timing.rise_slew), (Some(0), Some(1)));
-            let [first, _] = library.tables.as_slice() else {
-                panic!(rt; "not two tables");
-            };
-            Ok(table_in_words(alloc, first)?)
-        }
+    match read(alloc, text.as_bytes()) {
+        Ok(library) => first_table(alloc, &library),
         Err(fault) => in_words(alloc, Err::<(), TextFault>(fault)),
     }
-}
-
-/// Compares what becomes of the template and the first table of each row.
-fn compare_tables(rt: &impl Abort, alloc: Global, rows: &str) -> Result<(), Fail> {
-    for row in rows.lines() {
-        let (want, rest) = at_bar(row)?;
-        let (template, table) = at_bar(rest)?;
-        let template = with_lines(alloc, template_of(template))?;
-        let table = with_lines(alloc, table)?;
-        let words = tables_in_words(rt, alloc, template.as_str(), table.as_str())?;
-        assert!(rt; words.as_str() == want, "{words} at {row}");
-    }
-    Ok(())
 }
 
 /// Tables with templates.
@@ -362,11 +309,6 @@ slews 40000 50000; loads 1000 2000 3000; values 10000 30000 50000 20000 40000 60
     { index_2 (4, 5); values (\"1,2\", \"3,4\", \"5,6\"); }
 ";
 
-#[test]
-fn tables_stand_row_by_row(rt: HostRuntime) -> Result<(), Fail> {
-    compare_tables(&rt, rt.alloc(), TABLES)
-}
-
 /// Tables with templates of one axis or none.
 const AXES: &str = "\
 slews 0; loads 1000000 2000000; values 3000000 4000000 \
@@ -378,11 +320,6 @@ slews 0; loads 0; values 3000000 | lu_table_template (t) { variable_1 : x; } lu_
     | (\"t\") { values (3); }
 slews 0; loads 0; values 3000000 | lu_table_template (scalar) { variable_1 : x; } | (scalar) { values (3); }
 ";
-
-#[test]
-fn a_missing_axis_is_zero_alone(rt: HostRuntime) -> Result<(), Fail> {
-    compare_tables(&rt, rt.alloc(), AXES)
-}
 
 /// Tables that are refused.
 const REFUSED_TABLES: &str = "\
@@ -400,50 +337,6 @@ L3 8 | slews first | (t) { values (1);⏎index_2 (2, y); }
 L4 8 | slews first | (t) {⏎values (1);⏎index_2 (); }
 L4 9 | slews first | (t) {⏎values ();⏎index_2 (); }
 ";
-
-#[test]
-fn tables_are_refused_at_their_lines(rt: HostRuntime) -> Result<(), Fail> {
-    compare_tables(&rt, rt.alloc(), REFUSED_TABLES)
-}
-
-/// This many numbers from 0 on.
-fn numbers(alloc: Global, count: u32) -> Result<String, AllocError> {
-    let mut text = String::from_str(alloc, "0")?;
-    for number in 1..count {
-        let next = format!(in alloc; " {number}")?;
-        text.push_str(next.as_str())?;
-    }
-    Ok(text)
-}
-
-/// A library with a table of these numbers that has them as one index too, on line 7, and one number as the other.
-fn index_text(
-    alloc: Global,
-    template: &str,
-    numbers: &str,
-    long: &str,
-    short: &str,
-) -> Result<String, AllocError> {
-    format!(in alloc;
-        "library (x) {{\n{template}cell (A) {{ pin (Z) {{ direction : output; timing () {{ related_pin : B; \
-        rise_transition (scalar) {{ values (1); }} cell_rise (t) {{ values (\"{numbers}\"); \
-        {short} (0);\n{long} (\"{numbers}\"); }} }} }} }} }}"
-    )
-}
-
-#[test]
-fn an_index_has_at_most_64_numbers(rt: HostRuntime) -> Result<(), Fail> {
-    let alloc = rt.alloc();
-    for (count, want) in [(64, "read"), (65, "L4 7")] {
-        let numbers = numbers(alloc, count)?;
-        for (long, short) in [("index_1", "index_2"), ("index_2", "index_1")] {
-            let text = index_text(alloc, SLEWS_FIRST, numbers.as_str(), long, short)?;
-            let words = in_words(alloc, read(&rt, alloc, text.as_bytes()))?;
-            assert_eq!(rt; words.as_str(), want, "at {long}");
-        }
-    }
-    Ok(())
-}
 
 /// Templates that are refused.
 const REFUSED_TEMPLATES: &str = "\
@@ -464,9 +357,132 @@ L3 3 | capacitive_load_unit (1, ff); lu_table_template (t) {⏎variable_1 : x; i
 ";
 
 #[test]
-fn templates_are_refused_where_a_table_uses_them(rt: HostRuntime) -> Result<(), Fail> {
-    compare_tables(&rt, rt.alloc(), REFUSED_TEMPLATES)
+fn tables_are_row_by_row_or_refused_at_their_lines(rt: HostRuntime) -> Result<(), Fail> {
+    for rows in [TABLES, AXES, REFUSED_TABLES, REFUSED_TEMPLATES] {
+        for row in rows.lines() {
+            let (want, rest) = at_bar(row)?;
+            let (template, table) = at_bar(rest)?;
+            let words = tables_in_words(rt.alloc(), template, table)?;
+            assert!(rt; words.as_str() == want, "{words} at {row}");
+        }
+    }
+    Ok(())
 }
+
+/// Indexes of 64 and of 65 numbers, on line 7, each with a number as the other index and as many values.
+const INDEXES: &str = "\
+read | ⟨64: #⟩\"); index_2 (0);⏎index_1 (\"⟨64: #⟩
+read | ⟨64: #⟩\"); index_1 (0);⏎index_2 (\"⟨64: #⟩
+L4 7 | ⟨65: #⟩\"); index_2 (0);⏎index_1 (\"⟨65: #⟩
+L4 7 | ⟨65: #⟩\"); index_1 (0);⏎index_2 (\"⟨65: #⟩
+";
+
+/// What comes before them, with the template of slews first.
+const BEFORE_INDEXES: &str =
+    "library (x) {\nlu_table_template (t) {\nvariable_1 : input_net_transition;\n\
+    variable_2 : total_output_net_capacitance;\nindex_1 (\"0.1, 0.2\");\nindex_2 (\"1 2,3\"); }\
+    cell (A) { pin (Z) { direction : output; timing () { related_pin : B; \
+    rise_transition (scalar) { values (1); } cell_rise (t) { values (\"";
+
+/// All tables of texts.
+const TEXTS: [Texts; 3] = [
+    (Reader::Library, "library (x) {", NAMES, "}"),
+    (Reader::Library, "library (x) {", PINS, "}"),
+    (Reader::Library, BEFORE_INDEXES, INDEXES, "\"); } } } } }"),
+];
+
+#[test]
+fn texts_are_read_or_refused_at_their_lines(rt: HostRuntime) -> Result<(), Fail> {
+    compare(&rt, rt.alloc(), &TEXTS)
+}
+
+/// The number of a table, or `-`.
+fn number_in_words(alloc: Global, number: Option<u32>) -> Result<String, AllocError> {
+    match number {
+        Some(number) => format!(in alloc; "{number}"),
+        None => format!(in alloc; "-"),
+    }
+}
+
+/// Appends a name after a space.
+fn push_name(out: &mut String, name: &Name) -> Result<(), Fail> {
+    out.push_str(" ")?;
+    Ok(out.push_str(str::from_utf8(name.bytes()).unwrap_or("?"))?)
+}
+
+/// Appends a timing group: its kind, its sense, the numbers of its tables, and its related pins.
+fn push_timing(alloc: Global, out: &mut String, timing: &Timing) -> Result<(), Fail> {
+    let (kind, sense) = (timing.kind, timing.sense);
+    let head = format!(in alloc; "timing {kind:?} {sense:?}")?;
+    out.push_str(head.as_str())?;
+    for number in [timing.rise, timing.fall, timing.rise_slew, timing.fall_slew] {
+        let number = number_in_words(alloc, number)?;
+        out.push_str(" ")?;
+        out.push_str(number.as_str())?;
+    }
+    for name in timing.related.as_slice() {
+        push_name(out, name)?;
+    }
+    Ok(out.push_str("\n")?)
+}
+
+/// Appends a pin: its name, its role, its capacitance and its timing groups.
+fn push_pin(alloc: Global, out: &mut String, pin: &Pin) -> Result<(), Fail> {
+    out.push_str("pin")?;
+    push_name(out, pin.name())?;
+    let (role, cap) = (pin.role(), pin.cap());
+    let tail = format!(in alloc; " {role:?} {cap}\n")?;
+    out.push_str(tail.as_str())?;
+    for timing in pin.timings() {
+        push_timing(alloc, out, timing)?;
+    }
+    Ok(())
+}
+
+/// Appends a cell: its name, whether it is a latch, and its pins.
+fn push_cell(alloc: Global, out: &mut String, cell: &Cell) -> Result<(), Fail> {
+    out.push_str(if cell.latch { "latch" } else { "cell" })?;
+    push_name(out, &cell.name)?;
+    out.push_str("\n")?;
+    for pin in cell.pins.as_slice() {
+        push_pin(alloc, out, pin)?;
+    }
+    Ok(())
+}
+
+/// What a library is: its scales, its cells and its tables.
+fn shown(alloc: Global, library: &Library) -> Result<String, Fail> {
+    let (time, cap) = (library.time_scale, library.cap_scale);
+    let mut out = format!(in alloc; "scales {time} {cap}\n")?;
+    for cell in library.cells.as_slice() {
+        push_cell(alloc, &mut out, cell)?;
+    }
+    for table in library.tables.as_slice() {
+        let line = table_in_words(alloc, table)?;
+        out.push_str(line.as_str())?;
+        out.push_str("\n")?;
+    }
+    Ok(out)
+}
+
+/// What the library of a text is.
+fn shown_of(alloc: Global, text: &str) -> Result<String, Fail> {
+    let library = read(alloc, text.as_bytes())?;
+    shown(alloc, &library)
+}
+
+/// Pins of several directions.
+const DIRECTIONS: &str = "library (x) { time_unit : 10ps; capacitive_load_unit (1, ff); cell (A) {\
+    pin (B) { direction : inout; capacitance : 2; } pin (C) { direction : internal; } pin (D) { } } }";
+
+/// What the library is.
+const DIRECTIONS_SHOWN: &str = "\
+scales 4 3
+cell A
+pin B Inout 2000
+pin C Other 0
+pin D Other 0
+";
 
 /// A check on an input pin, its template with the constrained pin first.
 const CHECK: &str = "library (x) { time_unit : 1ps; lu_table_template (c) {\
@@ -476,75 +492,30 @@ const CHECK: &str = "library (x) { time_unit : 1ps; lu_table_template (c) {\
     timing_sense : positive_unate; related_pin : \"CK  CL\"; fall_constraint (c) { values (1, 2, 3, 4, 5, 6); }\
     fall_constraint (scalar) { values (7); } cell_rise (u) { } } } } }";
 
-/// Compares a name.
-fn compare_name(rt: &impl Abort, name: &Name, want: &str) {
-    assert_eq!(rt; name.bytes(), want.as_bytes());
-}
-
-/// Compares a pin and the number of its timing groups.
-fn compare_pin(rt: &impl Abort, pin: &Pin, name: &str, role: Role, cap: i64, timings: usize) {
-    compare_name(rt, pin.name(), name);
-    assert_eq!(rt; pin.role(), role, "at {name}");
-    assert_eq!(rt; pin.cap(), cap, "at {name}");
-    assert_eq!(rt; pin.timings().len(), timings, "at {name}");
-}
-
-/// Compares the cell of the check.
-fn compare_checked_cell(rt: &impl Abort, cell: &Cell) {
-    compare_name(rt, &cell.name, "A");
-    assert!(rt; cell.latch);
-    let [first, second] = cell.pins.as_slice() else {
-        panic!(rt; "not two pins");
-    };
-    compare_pin(rt, first, "D", Role::Input, 0, 1);
-    compare_pin(rt, second, "E", Role::Input, 0, 1);
-}
-
-/// Compares the timing group of the check.
-fn compare_check(rt: &impl Abort, timing: &Timing) {
-    assert_eq!(rt; timing.kind, TimingKind::SetupRising);
-    assert_eq!(rt; timing.sense, Sense::Positive);
-    assert_eq!(rt; (timing.rise, timing.fall), (None, Some(1)));
-    assert_eq!(rt; (timing.rise_slew, timing.fall_slew), (None, None));
-    let [first, second] = timing.related.as_slice() else {
-        panic!(rt; "not two related pins");
-    };
-    compare_name(rt, first, "CK");
-    compare_name(rt, second, "CL");
-}
-
-/// Compares the tables of a library with a list of lines.
-fn compare_all_tables(
-    rt: &impl Abort,
-    alloc: Global,
-    tables: &Row<Table>,
-    want: &str,
-) -> Result<(), Fail> {
-    let mut words = String::new(alloc);
-    for table in tables.as_slice() {
-        let line = table_in_words(alloc, table)?;
-        words.push_str(line.as_str())?;
-        words.push('\n')?;
-    }
-    assert!(rt; words.as_str() == want, "{words}");
-    Ok(())
-}
-
-/// Its tables.
-const CHECK_TABLES: &str = "\
+/// What the library is: the related pin is in the rows.
+const CHECK_SHOWN: &str = "\
+scales 3 6
+latch A
+pin D Input 0
+timing SetupRising Positive - 1 - - CK CL
+pin E Input 0
+timing SetupRising Positive - 1 - - CK CL
 slews 4000 5000; loads 1000 2000 3000; values 1000 3000 5000 2000 4000 6000
 slews 0; loads 0; values 7000
 ";
 
+/// Texts of libraries and what they are.
+const LIBRARIES: [(&str, &str); 3] = [
+    (DIRECTIONS, DIRECTIONS_SHOWN),
+    (CHECK, CHECK_SHOWN),
+    (EXAMPLE, EXAMPLE_SHOWN),
+];
+
 #[test]
-fn a_check_has_the_related_pin_in_its_rows(rt: HostRuntime) -> Result<(), Fail> {
-    let Ok(library) = read(&rt, rt.alloc(), CHECK.as_bytes()) else {
-        panic!(rt; "refused");
-    };
-    let [cell] = library.cells.as_slice() else {
-        panic!(rt; "not one cell");
-    };
-    compare_checked_cell(&rt, cell);
-    compare_check(&rt, only_timing(&rt, &library));
-    compare_all_tables(&rt, rt.alloc(), &library.tables, CHECK_TABLES)
+fn libraries_have_their_cells_and_tables(rt: HostRuntime) -> Result<(), Fail> {
+    for (text, want) in &LIBRARIES {
+        let shown = shown_of(rt.alloc(), text)?;
+        assert!(rt; shown.as_str() == *want, "{shown}");
+    }
+    Ok(())
 }

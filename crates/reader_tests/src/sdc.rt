@@ -17,14 +17,11 @@ const NETLIST: &str =
 const EXAMPLE: &str = "module r (ck, d, y); input ck; input d; output y; endmodule";
 
 /// A netlist.
-fn netlist(rt: &impl Abort, alloc: Global, text: &'static str) -> Netlist {
-    if text.len() > MOST_BYTES {
-        panic!(rt; "too long");
+fn netlist(alloc: Global, text: &'static str) -> Result<Netlist, Fail> {
+    if MOST_BYTES < text.len() {
+        return Err(Fail::from("too long"));
     }
-    match read_netlist(alloc, text.as_bytes()) {
-        Ok(netlist) => netlist,
-        Err(_) => panic!(rt; "no netlist"),
-    }
+    Ok(read_netlist(alloc, text.as_bytes())?)
 }
 
 /// A number, if there is one.
@@ -137,88 +134,50 @@ fn meaning(
     }
 }
 
-/// Compares what the text of each row means for a netlist, at these scales.
-fn compare_for(
+/// Compares what the text of each row means for a netlist, at the scales of time and of capacitance of its table.
+fn compare(
     rt: &impl Abort,
     alloc: Global,
     netlist: &Netlist,
-    time: i32,
-    cap: i32,
-    rows: &str,
+    tables: &[(i32, i32, &'static str)],
 ) -> Result<(), Fail> {
-    for row in rows.lines() {
-        let (want, text) = at_bar(row)?;
-        let text = with_lines(alloc, text)?;
-        let words = meaning(alloc, netlist, text.as_str(), time, cap)?;
-        let words = words.as_str().strip_prefix("; ").unwrap_or("nothing");
-        assert!(rt; words == want, "{words} at {row}");
+    for (time, cap, rows) in tables {
+        for row in rows.lines() {
+            let (want, text) = at_bar(row)?;
+            let text = with_lines(alloc, text)?;
+            let words = meaning(alloc, netlist, text.as_str(), *time, *cap)?;
+            let words = words.as_str().strip_prefix("; ").unwrap_or("nothing");
+            assert!(rt; words == want, "{words} at {row}");
+        }
     }
     Ok(())
 }
 
-/// Compares what the text of each row means for the small netlist, at these scales.
-fn compare(rt: &impl Abort, alloc: Global, time: i32, cap: i32, rows: &str) -> Result<(), Fail> {
-    let netlist = netlist(rt, alloc, NETLIST);
-    compare_for(rt, alloc, &netlist, time, cap, rows)
-}
-
-#[test]
-fn scales_reach_from_12_below_to_12_above(rt: HostRuntime) -> Result<(), Fail> {
-    let rows = [
-        (
-            6,
-            -12,
-            "3.0 load 1; 4.1 load 1 | set_load 1e12 y; set_load 4e11 z[0]; set_load 5e11 z[1]",
-        ),
-        (
-            6,
-            12,
-            "3.0 load 1000000000000; 4.0 load 1099511627776 | set_load 1 y; set_load 1.099511627776 z[0]",
-        ),
-        (-12, 6, "clock ck 0 0 1 0 | create_clock -period 1e12 ck"),
-        (
-            12,
-            6,
-            "clock ck 0 0 1000000000000 500000000000 | create_clock -period 1 ck",
-        ),
-        (
-            12,
-            6,
-            "clock ck 0 0 1099511627776 549755813888 | create_clock -period 1.0995116277764 ck",
-        ),
-        (12, 6, "C4 1 | create_clock -period 1.0995116277765 ck"),
-    ];
-    for (time, cap, row) in rows {
-        compare(&rt, rt.alloc(), time, cap, row)?;
-    }
-    Ok(())
-}
-
-#[test]
-fn the_example_sets_a_clock_and_two_ports(rt: HostRuntime) {
-    let text = "set sdc_version 2.0\n\
-        set_units -time ns -resistance kOhm -capacitance pF -voltage V -current mA\n\
-        create_clock -name ck -period 1.0 -waveform {0 0.5} [get_ports ck]\n\
-        set_input_delay 0.074 -clock [get_clocks ck] -min [get_ports {d}]\n\
-        set_input_delay 0.100 -clock [get_clocks ck] -max [get_ports {d}]\n\
-        set_input_transition 0.02 [all_inputs]\n\
-        set_output_delay 0.05 -clock ck -max [get_ports y]\n\
-        set_output_delay 0.01 -clock ck -min [get_ports y]\n\
-        set_load -pin_load 0.002 [get_ports y]\n";
-    let netlist = netlist(&rt, rt.alloc(), EXAMPLE);
-    match meaning(rt.alloc(), &netlist, text, 3, 3) {
-        Ok(words) => assert_eq!(rt;
-            words.as_str(),
-            "; clock ck 0 0 1000000 500000\
-            ; 0.0 slew 20000 20000 20000 20000\
-            ; 1.0 input 74000 100000 74000 100000\
-            ; 1.0 slew 20000 20000 20000 20000\
-            ; 2.0 output 10000 50000 10000 50000\
-            ; 2.0 load 2000"
-        ),
-        Err(_) => panic!(rt; "out of memory"),
-    }
-}
+/// Scales of time and of capacitance at their ends, and a row for each.
+const SCALES: [(i32, i32, &str); 6] = [
+    (
+        6,
+        -12,
+        "3.0 load 1; 4.1 load 1 | set_load 1e12 y; set_load 4e11 z[0]; set_load 5e11 z[1]",
+    ),
+    (
+        6,
+        12,
+        "3.0 load 1000000000000; 4.0 load 1099511627776 | set_load 1 y; set_load 1.099511627776 z[0]",
+    ),
+    (-12, 6, "clock ck 0 0 1 0 | create_clock -period 1e12 ck"),
+    (
+        12,
+        6,
+        "clock ck 0 0 1000000000000 500000000000 | create_clock -period 1 ck",
+    ),
+    (
+        12,
+        6,
+        "clock ck 0 0 1099511627776 549755813888 | create_clock -period 1.0995116277764 ck",
+    ),
+    (12, 6, "C4 1 | create_clock -period 1.0995116277765 ck"),
+];
 
 /// Words of commands.
 const WORDS: &str = "\
@@ -255,11 +214,6 @@ C1 1 | set_load 1 [get_ports \"y\"]
 nothing | ;; ⏎ ;\t;
 ";
 
-#[test]
-fn words_are_bare_braced_quoted_or_bracketed(rt: HostRuntime) -> Result<(), Fail> {
-    compare(&rt, rt.alloc(), 6, 6, WORDS)
-}
-
 /// Lists of objects.
 const LISTS: &str = "\
 3.0 load 1000000; 4.0 load 1000000; 4.1 load 1000000 | set_load 1 [all_outputs]
@@ -275,11 +229,6 @@ C6 1 | set_load 1 y[0]
 C1 1 | set_load 1 [all_clocks]
 3.0 load 1000000; 4.0 load 1000000 | set_load 1 {y \\⏎ z[0]}
 ";
-
-#[test]
-fn lists_stand_for_bits_of_ports(rt: HostRuntime) -> Result<(), Fail> {
-    compare(&rt, rt.alloc(), 6, 6, LISTS)
-}
 
 /// Units.
 const UNITS: &str = "\
@@ -309,18 +258,6 @@ C3 1 | set_units -mass kg
 C3 1 | set_units -time ns -time ns
 ";
 
-#[test]
-fn units_hold_for_what_follows(rt: HostRuntime) -> Result<(), Fail> {
-    compare(
-        &rt,
-        rt.alloc(),
-        3,
-        6,
-        "clock ck 0 0 700000 350000 | set_units -time 0.1nS; create_clock -period 7 ck",
-    )?;
-    compare(&rt, rt.alloc(), 6, 6, UNITS)
-}
-
 /// Clocks.
 const CLOCKS: &str = "\
 clock ck 0 0 3 1 | create_clock -period 0.000003 ck
@@ -349,11 +286,6 @@ C3 1 | create_clock -period ck
 C4 1 | create_clock -period -name ck
 C3 1 | create_clock -period 1 ck -add
 ";
-
-#[test]
-fn a_clock_has_a_name_a_period_and_a_fall(rt: HostRuntime) -> Result<(), Fail> {
-    compare(&rt, rt.alloc(), 6, 6, CLOCKS)
-}
 
 /// Delays at ports.
 const DELAYS: &str = "\
@@ -395,11 +327,6 @@ clock ck 0 0 1000000 500000; 1.0 input 0 0 - - \
     | create_clock -period 1 ck⏎set_input_delay 0 -clock ck -rise -max a
 ";
 
-#[test]
-fn delays_are_set_by_edge_and_side(rt: HostRuntime) -> Result<(), Fail> {
-    compare(&rt, rt.alloc(), 6, 6, DELAYS)
-}
-
 /// Slews and loads of ports.
 const SLEWS: &str = "\
 C6 1 | set_input_delay 2 -clock ck a⏎create_clock -period 1 ck
@@ -415,11 +342,6 @@ C3 1 | set_load -max 1 y
 3.0 load 1000000 | set_load 0000000000000000000000000000000001 y
 C4 1 | set_load 1.000000000000000000000000000000 y
 ";
-
-#[test]
-fn slews_and_loads_are_from_0_on(rt: HostRuntime) -> Result<(), Fail> {
-    compare(&rt, rt.alloc(), 6, 6, SLEWS)
-}
 
 /// Texts with several faults.
 const ORDER: &str = "\
@@ -443,69 +365,64 @@ C1 1 | set_driving_cell -lib_cell [x
 C4 1 | set_input_delay x -clock no no
 ";
 
+/// Names of 1,024 and of 1,025 bytes, in a command with an option that it does not have.
+const LONG: &str = "\
+C3 1 | set_load 1 ⟨1024:x⟩ -zz
+C1 1 | set_load 1 ⟨1025:x⟩ -zz
+";
+
+/// All tables of small texts.
+const TEXTS: [(i32, i32, &str); 9] = [
+    (6, 6, WORDS),
+    (6, 6, LISTS),
+    (
+        3,
+        6,
+        "clock ck 0 0 700000 350000 | set_units -time 0.1nS; create_clock -period 7 ck",
+    ),
+    (6, 6, UNITS),
+    (6, 6, CLOCKS),
+    (6, 6, DELAYS),
+    (6, 6, SLEWS),
+    (6, 6, ORDER),
+    (6, 6, LONG),
+];
+
 #[test]
-fn of_several_refusals_the_first_counts(rt: HostRuntime) -> Result<(), Fail> {
-    compare(&rt, rt.alloc(), 6, 6, ORDER)
+fn texts_mean_constraints_or_are_refused(rt: HostRuntime) -> Result<(), Fail> {
+    let netlist = netlist(rt.alloc(), NETLIST)?;
+    compare(&rt, rt.alloc(), &netlist, &SCALES)?;
+    compare(&rt, rt.alloc(), &netlist, &TEXTS)
 }
 
-/// A command with a name of this many bytes, and an option that it does not have.
-fn with_long_name(alloc: Global, size: usize) -> Result<String, AllocError> {
-    let mut text = String::new(alloc);
-    text.push_str("set_load 1 ")?;
-    for _ in 0..size {
-        text.push('x')?;
-    }
-    text.push_str(" -zz")?;
-    Ok(text)
-}
+/// Constraints of the example, and 150,000 lines that set the load of its output, of which the last counts; a period of
+/// 0 is refused at its line.
+const EXAMPLES: [(i32, i32, &str); 2] = [
+    (
+        3,
+        3,
+        "clock ck 0 0 1000000 500000; 0.0 slew 20000 20000 20000 20000; 1.0 input 74000 100000 74000 100000; \
+        1.0 slew 20000 20000 20000 20000; 2.0 output 10000 50000 10000 50000; 2.0 load 2000 | \
+        set sdc_version 2.0⏎\
+        set_units -time ns -resistance kOhm -capacitance pF -voltage V -current mA⏎\
+        create_clock -name ck -period 1.0 -waveform {0 0.5} [get_ports ck]⏎\
+        set_input_delay 0.074 -clock [get_clocks ck] -min [get_ports {d}]⏎\
+        set_input_delay 0.100 -clock [get_clocks ck] -max [get_ports {d}]⏎\
+        set_input_transition 0.02 [all_inputs]⏎\
+        set_output_delay 0.05 -clock ck -max [get_ports y]⏎\
+        set_output_delay 0.01 -clock ck -min [get_ports y]⏎\
+        set_load -pin_load 0.002 [get_ports y]⏎",
+    ),
+    (
+        6,
+        6,
+        "2.0 load 3000 | ⟨149999:set_load 0.002 [get_ports y]⏎⟩set_load 0.003 [get_ports y]⏎
+C4 150001 | ⟨149999:set_load 0.002 [get_ports y]⏎⟩set_load 0.003 [get_ports y]⏎create_clock -period 0 ck⏎",
+    ),
+];
 
 #[test]
-fn a_name_has_at_most_1024_bytes(rt: HostRuntime) {
-    let alloc = rt.alloc();
-    let netlist = netlist(&rt, alloc, NETLIST);
-    for (size, want) in [(1024, "; C3 1"), (1025, "; C1 1")] {
-        match with_long_name(alloc, size) {
-            Ok(text) => match meaning(alloc, &netlist, text.as_str(), 6, 6) {
-                Ok(words) => assert_eq!(rt; words.as_str(), want),
-                Err(_) => panic!(rt; "out of memory"),
-            },
-            Err(_) => panic!(rt; "out of memory"),
-        }
-    }
-}
-
-/// This many lines that set the load of the example's output.
-fn with_loads(alloc: Global, count: u32) -> Result<String, AllocError> {
-    let mut text = String::new(alloc);
-    for _ in 1..count {
-        text.push_str("set_load 0.002 [get_ports y]\n")?;
-    }
-    text.push_str("set_load 0.003 [get_ports y]\n")?;
-    Ok(text)
-}
-
-/// What these lines mean for the netlist of the example, with this text after them.
-fn meaning_of_loads(
-    rt: &impl Abort,
-    alloc: Global,
-    count: u32,
-    last: &str,
-) -> Result<String, AllocError> {
-    let mut text = with_loads(alloc, count)?;
-    text.push_str(last)?;
-    let netlist = netlist(rt, alloc, EXAMPLE);
-    meaning(alloc, &netlist, text.as_str(), 6, 6)
-}
-
-// The last load is the one that counts; a period of 0 is refused at its line.
-#[test]
-fn a_text_may_have_many_lines(rt: HostRuntime) -> Result<(), Fail> {
-    for (last, want) in [
-        ("", "; 2.0 load 3000"),
-        ("create_clock -period 0 ck\n", "; C4 150001"),
-    ] {
-        let words = meaning_of_loads(&rt, rt.alloc(), 150_000, last)?;
-        assert_eq!(rt; words.as_str(), want);
-    }
-    Ok(())
+fn the_example_sets_a_clock_and_two_ports(rt: HostRuntime) -> Result<(), Fail> {
+    let netlist = netlist(rt.alloc(), EXAMPLE)?;
+    compare(&rt, rt.alloc(), &netlist, &EXAMPLES)
 }

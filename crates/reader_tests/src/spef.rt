@@ -1,6 +1,6 @@
 //! Parasitics: short texts and one whole example, with what they mean worked out by hand.
 
-use crate::rows::{at_bar, in_words, with_lines};
+use crate::rows::{Reader, Texts, answer, compare, with_lines};
 use spef_read::{Name, Parasitics, read_spef};
 use std::alloc::{AllocError, Global};
 use std::process::Abort;
@@ -12,27 +12,6 @@ const HEAD: &str = "*SPEF \"x\"\n*C_UNIT 1 PF\n*R_UNIT 1 OHM\n";
 
 /// The same with the beginning of a net after it, in line 4.
 const NET: &str = "*SPEF \"x\"\n*C_UNIT 1 PF\n*R_UNIT 1 OHM\n*D_NET a 1 ";
-
-/// What becomes of a text: `read`, or its refusal.
-fn answer(alloc: Global, text: &str) -> Result<String, Fail> {
-    if MOST_BYTES < text.len() {
-        return Err(Fail::from("too long"));
-    }
-    in_words(alloc, read_spef(alloc, text.as_bytes()))
-}
-
-/// Compares what becomes of the text of each row, after these first lines.
-fn compare(rt: &impl Abort, alloc: Global, head: &str, rows: &str) -> Result<(), Fail> {
-    for row in rows.lines() {
-        let (want, rest) = at_bar(row)?;
-        let rest = with_lines(alloc, rest)?;
-        let rest = rest.as_str();
-        let text = format!(in alloc; "{head}{rest}")?;
-        let words = answer(alloc, text.as_str())?;
-        assert!(rt; words.as_str() == want, "{words} at {row}");
-    }
-    Ok(())
-}
 
 /// Beginnings of a text.
 const HEADERS: &str = "\
@@ -54,11 +33,6 @@ S2 1 | *SPEF \"é
 S2 2 | *SPEF \"x\" /*⏎é\u{20}
 ";
 
-#[test]
-fn a_header_is_refused_at_its_token(rt: HostRuntime) -> Result<(), Fail> {
-    compare(&rt, rt.alloc(), "", HEADERS)
-}
-
 /// Units, after the first word.
 const UNITS: &str = "\
 S4 2 | *T_UNIT 1⏎US
@@ -76,11 +50,6 @@ S1 2 | *C_UNIT 1 FF *R_UNIT 1 OHM *L_UNIT⏎x HENRY
 S1 1 | *C_UNIT \"1\" PF
 S1 1 | *C_UNIT 1 \"PF\"
 ";
-
-#[test]
-fn units_have_a_power_of_ten_and_a_word(rt: HostRuntime) -> Result<(), Fail> {
-    compare(&rt, rt.alloc(), "*SPEF \"x\" ", UNITS)
-}
 
 /// Marks and brackets, after the first lines.
 const MARKS: &str = "\
@@ -102,11 +71,6 @@ S1 5 | *NAME_MAP⏎*DESIGN \"x\"
 S1 4 | *END
 ";
 
-#[test]
-fn marks_are_single_bytes_and_brackets_are_pairs(rt: HostRuntime) -> Result<(), Fail> {
-    compare(&rt, rt.alloc(), HEAD, MARKS)
-}
-
 /// Maps of names, after the first lines.
 const PAIRS: &str = "\
 S2 5 | *NAME_MAP *1⏎
@@ -126,11 +90,6 @@ S1 4 | *NAME_MAP *1 a *INDUC
 read | *NAME_MAP *1 a *PORTS x \"y\" *1 *END *NAME_MAP *2 b *GROUND_NETS *INDUC *NAME_MAP
 S7 5 | *POWER_NETS x⏎*D_PNET
 ";
-
-#[test]
-fn pairs_of_the_name_map_are_a_number_and_a_name(rt: HostRuntime) -> Result<(), Fail> {
-    compare(&rt, rt.alloc(), HEAD, PAIRS)
-}
 
 /// Nets, after the first lines.
 const NETS: &str = "\
@@ -152,11 +111,6 @@ S1 4 | *D_NET a 1 *END *INDUC
 S7 4 | *D_NET a 1 *DEFINE
 ";
 
-#[test]
-fn a_net_has_a_name_and_a_total(rt: HostRuntime) -> Result<(), Fail> {
-    compare(&rt, rt.alloc(), HEAD, NETS)
-}
-
 /// Totals, after the first lines.
 const VALUES: &str = "\
 S1 5 | *D_NET a⏎x
@@ -177,11 +131,6 @@ S3 4 | *D_NET a 1099511.627777
 S3 4 | *D_NET a 0.1111111111111111111111111111111
 ";
 
-#[test]
-fn values_are_numbers_from_zero_on_or_three_of_them(rt: HostRuntime) -> Result<(), Fail> {
-    compare(&rt, rt.alloc(), HEAD, VALUES)
-}
-
 /// Lists of a net, after its beginning.
 const LISTS: &str = "\
 S1 5 | *CONN⏎*CONN
@@ -200,11 +149,6 @@ S7 4 | *INDUC
 S7 4 | *PDEFINE
 S2 4 | *RES 1 b c 5 *END *D_NET b 1
 ";
-
-#[test]
-fn lists_of_a_net_come_in_order(rt: HostRuntime) -> Result<(), Fail> {
-    compare(&rt, rt.alloc(), NET, LISTS)
-}
 
 /// Capacitors and resistors, after the beginning of a net.
 const ENTRIES: &str = "\
@@ -227,9 +171,31 @@ S3 5 | *RES 1 b c⏎-1
 S3 4 | *RES 1 b c 1099511627.777
 ";
 
+/// Long texts, after the first lines: names of 2,049 and 2,050 bytes, each after a backslash; 2.1 MB of nets, and a
+/// further one of the name of the first.
+const LONG: &str = "\
+read | *D_NET ⟨2049:\\a⟩ 1 *END
+S1 4 | *D_NET ⟨2050:\\a⟩ 1 *END
+read | ⟨100000:*D_NET n# 1⏎*END⏎⟩
+S6 200004 | ⟨100000:*D_NET n# 1⏎*END⏎⟩*D_NET n0 1⏎
+";
+
+/// All tables.
+const TEXTS: [Texts; 9] = [
+    (Reader::Spef, "", HEADERS, ""),
+    (Reader::Spef, "*SPEF \"x\" ", UNITS, ""),
+    (Reader::Spef, HEAD, MARKS, ""),
+    (Reader::Spef, HEAD, PAIRS, ""),
+    (Reader::Spef, HEAD, NETS, ""),
+    (Reader::Spef, HEAD, VALUES, ""),
+    (Reader::Spef, NET, LISTS, ""),
+    (Reader::Spef, NET, ENTRIES, ""),
+    (Reader::Spef, HEAD, LONG, ""),
+];
+
 #[test]
-fn capacitors_and_resistors_are_digits_nodes_and_a_value(rt: HostRuntime) -> Result<(), Fail> {
-    compare(&rt, rt.alloc(), NET, ENTRIES)
+fn texts_are_read_or_refused_at_their_lines(rt: HostRuntime) -> Result<(), Fail> {
+    compare(&rt, rt.alloc(), &TEXTS)
 }
 
 /// An example.
@@ -305,7 +271,7 @@ fn the_example_is_refused_where_it_is_cut(rt: HostRuntime) -> Result<(), Fail> {
     let alloc = rt.alloc();
     for count in 0..46u32 {
         let text = changed(alloc, count as usize, &[])?;
-        let words = answer(alloc, text.as_str())?;
+        let words = answer(alloc, Reader::Spef, text.as_bytes())?;
         let line = count + 1;
         let want = if count == 0 {
             format!(in alloc; "S2 {line}")?
@@ -332,7 +298,7 @@ fn the_example_is_refused_at_a_changed_line(rt: HostRuntime) -> Result<(), Fail>
         (36, "2 *1:1 *6:D *INDUC", "S1 36"),
     ] {
         let text = changed(alloc, 45, &[(number, line)])?;
-        let words = answer(alloc, text.as_str())?;
+        let words = answer(alloc, Reader::Spef, text.as_bytes())?;
         assert_eq!(rt; words.as_str(), want, "{line}");
     }
     Ok(())
@@ -442,70 +408,15 @@ const ROUNDED: &str = "\
 *SPEF \"x\" *DELIMITER : *DELIMITER 7 *C_UNIT 1 PF *C_UNIT 1 FF *R_UNIT 1 OHM
 *NAME_MAP *2 n *D_NET *27x 1 *END *D_NET *2 0.0004:0.0005:0 *END *D_NET \\*2 0.00049 *END";
 
+/// A name map whose one number has 10,000 zeros in front, and a net with the name of this number.
+const LONG_NUMBER: &str = "\
+*SPEF \"x\" *C_UNIT 1 PF *R_UNIT 1 OHM *NAME_MAP *⟨10000:0⟩31 n *D_NET *31 1 *END";
+
 #[test]
 fn names_are_whole_and_values_are_in_base_units(rt: HostRuntime) -> Result<(), Fail> {
     let alloc = rt.alloc();
     compare_value(&rt, alloc, MARKED, MARKED_MEANT)?;
-    compare_value(&rt, alloc, ROUNDED, "n7x 1000\nn 1\n*2 0\n")
-}
-
-/// A net's section with a name of this many bytes, each after a backslash.
-fn with_long_name(alloc: Global, size: usize) -> Result<String, AllocError> {
-    let mut text = String::from_str(alloc, HEAD)?;
-    text.push_str("*D_NET ")?;
-    for _ in 0..size {
-        text.push_str("\\a")?;
-    }
-    text.push_str(" 1 *END")?;
-    Ok(text)
-}
-
-/// A name map whose one number has this many zeros in front, and a net with the name of this number.
-fn with_long_number(alloc: Global, zeros: usize) -> Result<String, AllocError> {
-    let mut text = String::from_str(alloc, HEAD)?;
-    text.push_str("*NAME_MAP *")?;
-    for _ in 0..zeros {
-        text.push('0')?;
-    }
-    text.push_str("31 n *D_NET *31 1 *END")?;
-    Ok(text)
-}
-
-#[test]
-fn names_and_numbers_may_be_long(rt: HostRuntime) -> Result<(), Fail> {
-    let alloc = rt.alloc();
-    for (size, want) in [(2049, "read"), (2050, "S1 4")] {
-        let text = with_long_name(alloc, size)?;
-        let words = answer(alloc, text.as_str())?;
-        assert_eq!(rt; words.as_str(), want, "{size}");
-    }
-    let text = with_long_number(alloc, 10_000)?;
-    compare_value(&rt, alloc, text.as_str(), "n 1000000\n")
-}
-
-/// A text with this many nets, two lines each after the first three.
-fn with_nets(alloc: Global, count: u32) -> Result<String, AllocError> {
-    let mut text = String::from_str(alloc, HEAD)?;
-    for number in 0..count {
-        let lines = format!(in alloc; "*D_NET n{number} 1\n*END\n")?;
-        text.push_str(lines.as_str())?;
-    }
-    Ok(text)
-}
-
-/// What becomes of such a text with these lines after it.
-fn answer_of_nets(alloc: Global, count: u32, last: &str) -> Result<String, Fail> {
-    let mut text = with_nets(alloc, count)?;
-    text.push_str(last)?;
-    answer(alloc, text.as_str())
-}
-
-// 2.1 MB; a second net of the name of the first is refused at its line.
-#[test]
-fn a_text_may_have_many_nets(rt: HostRuntime) -> Result<(), Fail> {
-    for (last, want) in [("", "read"), ("*D_NET n0 1\n", "S6 200004")] {
-        let words = answer_of_nets(rt.alloc(), 100_000, last)?;
-        assert_eq!(rt; words.as_str(), want);
-    }
-    Ok(())
+    compare_value(&rt, alloc, ROUNDED, "n7x 1000\nn 1\n*2 0\n")?;
+    let number = with_lines(alloc, LONG_NUMBER)?;
+    compare_value(&rt, alloc, number.as_str(), "n 1000000\n")
 }

@@ -109,12 +109,6 @@ Unended(3) | a⏎\"b\\\"⏎\\
 Unended(2) | a\r⏎/*/
 ";
 
-#[test]
-fn liberty(rt: HostRuntime) -> Result<(), Fail> {
-    compare(&rt, rt.alloc(), Rules::Liberty, LIBERTY)?;
-    compare_faults(&rt, rt.alloc(), Rules::Liberty, LIBERTY_FAULTS)
-}
-
 /// Verilog texts and their tokens.
 const VERILOG: &str = "\
 m (a);\r⏎\tendmodule\r\r⏎; ⇒ W1 m ¦ M1 ( ¦ W1 a ¦ M1 ) ¦ M1 ; ¦ W2 endmodule ¦ M3 ;
@@ -139,12 +133,6 @@ Unended(2) | /*/⏎é
 Unended(3) | (*)\r⏎\r⏎
 ";
 
-#[test]
-fn verilog(rt: HostRuntime) -> Result<(), Fail> {
-    compare(&rt, rt.alloc(), Rules::Verilog, VERILOG)?;
-    compare_faults(&rt, rt.alloc(), Rules::Verilog, VERILOG_FAULTS)
-}
-
 /// SPEF texts and their tokens.
 const SPEF: &str = "\
 *CAP\r⏎1 *1:1 0.1:0.2 ⇒ W1 *CAP ¦ W2 1 ¦ W2 *1:1 ¦ W2 0.1:0.2
@@ -167,12 +155,6 @@ Byte(2) | \"b\"⏎aé \"
 Unended(2) | /*/⏎é
 Unended(3) | a⏎\"\\\"⏎\"
 ";
-
-#[test]
-fn spef(rt: HostRuntime) -> Result<(), Fail> {
-    compare(&rt, rt.alloc(), Rules::Spef, SPEF)?;
-    compare_faults(&rt, rt.alloc(), Rules::Spef, SPEF_FAULTS)
-}
 
 /// SDC texts and their tokens.
 const SDC: &str = "\
@@ -197,8 +179,19 @@ Unended(2) | \"é\\⏎
 Unended(2) | a⏎{\"
 ";
 
+/// The rules of each format, with texts and their tokens, and texts with a fault.
+const TEXTS: [(Rules, &str, &str); 4] = [
+    (Rules::Liberty, LIBERTY, LIBERTY_FAULTS),
+    (Rules::Verilog, VERILOG, VERILOG_FAULTS),
+    (Rules::Spef, SPEF, SPEF_FAULTS),
+    (Rules::Sdc, SDC, SDC_FAULTS),
+];
+
 #[test]
-fn sdc(rt: HostRuntime) -> Result<(), Fail> {
-    compare(&rt, rt.alloc(), Rules::Sdc, SDC)?;
-    compare_faults(&rt, rt.alloc(), Rules::Sdc, SDC_FAULTS)
+fn texts_have_their_tokens_or_a_fault(rt: HostRuntime) -> Result<(), Fail> {
+    for (rules, rows, faults) in &TEXTS {
+        compare(&rt, rt.alloc(), *rules, rows)?;
+        compare_faults(&rt, rt.alloc(), *rules, faults)?;
+    }
+    Ok(())
 }

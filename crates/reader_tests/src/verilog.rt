@@ -1,29 +1,11 @@
 //! Netlists: short texts, worked out by hand.
 
-use crate::rows::{at_bar, in_words, with_lines};
-use std::alloc::{AllocError, Global};
+use crate::rows::{Reader, Texts, at_bar, compare};
+use std::alloc::Global;
 use std::process::Abort;
 use std::test::*;
 use verilog_net::{Name, Netlist, PortFound, Wire, read_modules, read_netlist};
 use xt_lex::MOST_BYTES;
-
-/// Compares what becomes of the text of each row, where several modules are read or one alone.
-fn compare(rt: &impl Abort, alloc: Global, several: bool, rows: &str) -> Result<(), Fail> {
-    for row in rows.lines() {
-        let (want, text) = at_bar(row)?;
-        let text = with_lines(alloc, text)?;
-        if MOST_BYTES < text.len() {
-            return Err(Fail::from("too long"));
-        }
-        let words = if several {
-            in_words(alloc, read_modules(alloc, text.as_bytes()))?
-        } else {
-            in_words(alloc, read_netlist(alloc, text.as_bytes()))?
-        };
-        assert!(rt; words.as_str() == want, "{words} at {row}");
-    }
-    Ok(())
-}
 
 /// Texts with a token that does not fit, and texts that end too early.
 const TOKENS: &str = "\
@@ -45,11 +27,6 @@ V1 2 | module m; endmodule⏎assign
 V1 2 | module m; endmodule⏎endmodule
 ";
 
-#[test]
-fn a_token_that_does_not_fit_is_refused(rt: HostRuntime) -> Result<(), Fail> {
-    compare(&rt, rt.alloc(), false, TOKENS)
-}
-
 /// Statements that go wrong.
 const STATEMENTS: &str = "\
 V1 1 | module m; input wire a; endmodule
@@ -69,11 +46,6 @@ V1 1 | module m; module n; endmodule
 V1 1 | module m; wire tri; endmodule
 read | module m; wire \\tri ; begin \\wire (.or(not)); endmodule
 ";
-
-#[test]
-fn a_statement_is_refused_where_it_goes_wrong(rt: HostRuntime) -> Result<(), Fail> {
-    compare(&rt, rt.alloc(), false, STATEMENTS)
-}
 
 /// Statements that are not read.
 const NOT_READ: &str = "\
@@ -99,11 +71,6 @@ V3 2 | module m; endmodule⏎module n; endmodule
 read | module m; \\assign u (.\\inout (a)); endmodule
 ";
 
-#[test]
-fn what_is_not_read_is_refused_as_such(rt: HostRuntime) -> Result<(), Fail> {
-    compare(&rt, rt.alloc(), false, NOT_READ)
-}
-
 /// Names and bits.
 const NAMES: &str = "\
 V4 1 | module m (a); endmodule
@@ -128,11 +95,6 @@ V1 1 | module m (b[0]); input [1:0] b; endmodule
 read | module m (\\b[0] ); input [1:0] b; endmodule
 ";
 
-#[test]
-fn names_and_bits_are_refused_at_their_last_token(rt: HostRuntime) -> Result<(), Fail> {
-    compare(&rt, rt.alloc(), false, NAMES)
-}
-
 /// Two declarations of a name.
 const DECLARATIONS: &str = "\
 V3 2 | module m; input a; output⏎a;
@@ -150,11 +112,6 @@ read | module m; INV u (.A(\\a[2] )); wire [1:0] a; endmodule
 V3 2 | module m; INV u (.A(\\a[2] ), .B(\\a[0] )); wire [1:0]⏎a⏎;
 ";
 
-#[test]
-fn two_declarations_of_a_name_agree(rt: HostRuntime) -> Result<(), Fail> {
-    compare(&rt, rt.alloc(), false, DECLARATIONS)
-}
-
 /// Several modules.
 const MODULES: &str = "\
 read | module a; wire x; endmodule module b; wire [1:0] x; endmodule
@@ -167,9 +124,27 @@ V3 2 | module a; wire [1:0] x; b u (.x(x[1⏎:0]));
 V2 1 |
 ";
 
+/// A module with names of 1,023, 1,024 and 1,025 bytes.
+const LONG: &str = "\
+read | module ⟨1023:n⟩; endmodule
+read | module ⟨1024:n⟩; endmodule
+V1 1 | module ⟨1025:n⟩; endmodule
+";
+
+/// All tables.
+const TEXTS: [Texts; 7] = [
+    (Reader::Netlist, "", TOKENS, ""),
+    (Reader::Netlist, "", STATEMENTS, ""),
+    (Reader::Netlist, "", NOT_READ, ""),
+    (Reader::Netlist, "", NAMES, ""),
+    (Reader::Netlist, "", DECLARATIONS, ""),
+    (Reader::Modules, "", MODULES, ""),
+    (Reader::Netlist, "", LONG, ""),
+];
+
 #[test]
-fn several_modules_are_read_apart(rt: HostRuntime) -> Result<(), Fail> {
-    compare(&rt, rt.alloc(), true, MODULES)
+fn texts_are_read_or_refused_at_their_tokens(rt: HostRuntime) -> Result<(), Fail> {
+    compare(&rt, rt.alloc(), &TEXTS)
 }
 
 /// A name as text.
@@ -286,30 +261,6 @@ fn modules_have_their_nets_and_instances(rt: HostRuntime) -> Result<(), Fail> {
     compare_modules(&rt, rt.alloc(), TWO, TWO_MEANT)
 }
 
-/// A module with a name of this many bytes.
-fn with_long_name(alloc: Global, size: usize) -> Result<String, AllocError> {
-    let mut text = String::from_str(alloc, "module ")?;
-    for _ in 0..size {
-        text.push('n')?;
-    }
-    text.push_str("; endmodule")?;
-    Ok(text)
-}
-
-#[test]
-fn a_name_has_at_most_1024_bytes(rt: HostRuntime) -> Result<(), Fail> {
-    let alloc = rt.alloc();
-    for (size, want) in [(1023, "read"), (1024, "read"), (1025, "V1 1")] {
-        let text = with_long_name(alloc, size)?;
-        if MOST_BYTES < text.len() {
-            return Err(Fail::from("too long"));
-        }
-        let words = in_words(alloc, read_netlist(alloc, text.as_bytes()))?;
-        assert_eq!(rt; words.as_str(), want, "{size}");
-    }
-    Ok(())
-}
-
 /// A module with two ports.
 const PORTS: &str = "module m (a, b); input a; output [0:3] b; wire c; wire [1:0] d; endmodule";
 
@@ -414,11 +365,6 @@ CELL c2 6
 BUF c3 8 Z 2.8
 ";
 
-#[test]
-fn what_a_synthesiser_may_write_is_read(rt: HostRuntime) -> Result<(), Fail> {
-    compare_module(&rt, rt.alloc(), WRITTEN, WRITTEN_MEANT)
-}
-
 /// A small netlist.
 const SMALL: &str = "\
 `timescale 1ns/1ps
@@ -448,7 +394,13 @@ INV g1 8 A 3.0 Y 4.0
 INV g2 9 A 1.0 Y 5.0
 ";
 
+/// The two netlists and what they mean.
+const WHOLE: [(&str, &str); 2] = [(WRITTEN, WRITTEN_MEANT), (SMALL, SMALL_MEANT)];
+
 #[test]
-fn a_small_netlist_is_read_whole(rt: HostRuntime) -> Result<(), Fail> {
-    compare_module(&rt, rt.alloc(), SMALL, SMALL_MEANT)
+fn netlists_are_read_whole(rt: HostRuntime) -> Result<(), Fail> {
+    for (text, meant) in &WHOLE {
+        compare_module(&rt, rt.alloc(), text, meant)?;
+    }
+    Ok(())
 }

@@ -1,12 +1,7 @@
 //! A library with an inverter and a flip-flop, worked out by hand.
 
-use super::{compare_all_tables, compare_name, compare_pin, read};
-use liberty_cells::{Cell, Pin, Role, Sense, Timing, TimingKind};
-use std::process::Abort;
-use std::test::*;
-
 /// The text; its lines begin without white space.
-const TEXT: &str = "\
+pub const EXAMPLE: &str = "\
     /* demo */\n\
     library (demo) {\n\
     time_unit : \"1ns\"; capacitive_load_unit (1, pf);\n\
@@ -40,113 +35,21 @@ const TEXT: &str = "\
     }\n\
     ";
 
-/// A number of a table that a timing group has for a use, and the others.
-type Numbers = (Option<u32>, Option<u32>, Option<u32>, Option<u32>);
-
-/// Compares a timing group.
-fn compare_timing(
-    rt: &impl Abort,
-    timing: Option<&Timing>,
-    related: &str,
-    kind: TimingKind,
-    sense: Sense,
-    numbers: Numbers,
-) {
-    let Some(timing) = timing else {
-        panic!(rt; "no timing group");
-    };
-    let [name] = timing.related.as_slice() else {
-        panic!(rt; "not one related pin");
-    };
-    compare_name(rt, name, related);
-    assert_eq!(rt; timing.kind, kind);
-    assert_eq!(rt; timing.sense, sense);
-    assert_eq!(rt; (timing.rise, timing.fall), (numbers.0, numbers.1));
-    assert_eq!(rt;
-        (timing.rise_slew, timing.fall_slew),
-        (numbers.2, numbers.3)
-    );
-}
-
-/// Compares the inverter: its delays are in the tables 0 and 1, its slews in 2 and 3.
-fn compare_inverter(rt: &impl Abort, cell: &Cell) {
-    compare_name(rt, &cell.name, "INV");
-    assert!(rt; !cell.latch);
-    let [a, y] = cell.pins.as_slice() else {
-        panic!(rt; "not two pins");
-    };
-    compare_pin(rt, a, "A", Role::Input, 1_000, 0);
-    compare_pin(rt, y, "Y", Role::Output, 0, 1);
-    let numbers = (Some(0), Some(1), Some(2), Some(3));
-    compare_timing(
-        rt,
-        y.timings().first(),
-        "A",
-        TimingKind::Combinational,
-        Sense::Negative,
-        numbers,
-    );
-}
-
-/// Compares the data pin: its setup is in the tables 4 and 5, its hold in 6 and 7.
-fn compare_data(rt: &impl Abort, pin: &Pin) {
-    compare_pin(rt, pin, "D", Role::Input, 1_000, 2);
-    let numbers = (Some(4), Some(5), None, None);
-    compare_timing(
-        rt,
-        pin.timings().first(),
-        "CK",
-        TimingKind::SetupRising,
-        Sense::Non,
-        numbers,
-    );
-    let numbers = (Some(6), Some(7), None, None);
-    compare_timing(
-        rt,
-        pin.timings().last(),
-        "CK",
-        TimingKind::HoldRising,
-        Sense::Non,
-        numbers,
-    );
-}
-
-/// Compares the flip-flop: its delays are in the tables 8 and 9, its slews in 10 and 11.
-fn compare_flip_flop(rt: &impl Abort, cell: &Cell) {
-    compare_name(rt, &cell.name, "DFF");
-    assert!(rt; !cell.latch);
-    let [ck, d, q] = cell.pins.as_slice() else {
-        panic!(rt; "not three pins");
-    };
-    compare_pin(rt, ck, "CK", Role::Input, 1_000, 0);
-    compare_data(rt, d);
-    compare_pin(rt, q, "Q", Role::Output, 0, 1);
-    let numbers = (Some(8), Some(9), Some(10), Some(11));
-    compare_timing(
-        rt,
-        q.timings().first(),
-        "CK",
-        TimingKind::RisingEdge,
-        Sense::Non,
-        numbers,
-    );
-}
-
-#[test]
-fn an_inverter_and_a_flip_flop_are_read(rt: HostRuntime) {
-    let Ok(library) = read(&rt, rt.alloc(), TEXT.as_bytes()) else {
-        panic!(rt; "refused");
-    };
-    assert_eq!(rt; (library.time_scale, library.cap_scale), (6, 6));
-    let [inverter, flip_flop] = library.cells.as_slice() else {
-        panic!(rt; "not two cells");
-    };
-    compare_inverter(&rt, inverter);
-    compare_flip_flop(&rt, flip_flop);
-}
-
-/// The tables: delays and slews of the inverter, setup and hold of the data pin, delays and slews of the flip-flop.
-const TABLES: &str = "\
+/// What it is. The delays of the inverter are in the tables 0 and 1, its slews in 2 and 3; the setup of the data pin is
+/// in 4 and 5, its hold in 6 and 7; the delays of the flip-flop are in 8 and 9, its slews in 10 and 11.
+pub const EXAMPLE_SHOWN: &str = "\
+scales 6 6
+cell INV
+pin A Input 1000
+pin Y Output 0
+timing Combinational Negative 0 1 2 3 A
+cell DFF
+pin CK Input 1000
+pin D Input 1000
+timing SetupRising Non 4 5 - - CK
+timing HoldRising Non 6 7 - - CK
+pin Q Output 0
+timing RisingEdge Non 8 9 10 11 CK
 slews 0 100000; loads 0 10000; values 10000 30000 10000 30000
 slews 0 100000; loads 0 10000; values 10000 30000 10000 30000
 slews 0; loads 0; values 20000
@@ -160,11 +63,3 @@ slews 0 100000; loads 0 10000; values 50000 70000 50000 70000
 slews 0; loads 0; values 20000
 slews 0; loads 0; values 20000
 ";
-
-#[test]
-fn an_inverter_and_a_flip_flop_have_their_tables(rt: HostRuntime) -> Result<(), Fail> {
-    let Ok(library) = read(&rt, rt.alloc(), TEXT.as_bytes()) else {
-        panic!(rt; "refused");
-    };
-    compare_all_tables(&rt, rt.alloc(), &library.tables, TABLES)
-}
