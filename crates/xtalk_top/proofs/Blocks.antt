@@ -1,5 +1,5 @@
 -- The files of a block, each read and then its text, as the command sees them.
-use Rattle.std.proofs.Common.{◌≡◌, ◌<◌, ◌≤◌, ℕ, length, Option, Result, Ok, Err, IfSome, sym, ap, subst, inl, inr}
+use Rattle.std.proofs.Common.{◌≡◌, ◌<◌, ◌≤◌, ℕ, length, Option, Result, Ok, Err, IfSome, ap, subst, inl, inr}
 use Rattle.xt_model.specs.declared.code.Code.{Code}
 use Rattle.xt_model.specs.Parts.{Parts}
 use Rattle.liberty_cells.specs.declared.library.Library.{Library}
@@ -11,7 +11,7 @@ use Rattle.xtalk_top.specs.declared.refusal.TextRefusal.{TextRefusal}
 use Rattle.xtalk_top.specs.declared.refusal.TextRefusal.TheVariants.{At}
 use Rattle.xtalk_top.specs.declared.refusal.FileRefusal.TheVariants.{Content}
 use Rattle.xtalk_top.specs.declared.refusal.Refusal.TheVariants.{File}
-use Rattle.xtalk_top.specs.Linking.{BlockMeans, FileAndText, FilesMean, HoldInputs, HoldsText, LastFilesMean, LinkingMeans, MakeDesign, SourceMeans, constraints_in, parasitics_in}
+use Rattle.xtalk_top.specs.Linking.{BlockMeans, FileAndText, FilesMean, HoldInputs, HoldsText, LastFilesMean, LinkingMeans, MakeDesign, SourceMeans, ConstraintsIn, ParasiticsIn}
 use Rattle.command_line.specs.declared.words.BlockFiles.{BlockFiles}
 
 -- a text that is refused, wherever a value would lead
@@ -20,44 +20,46 @@ source_stops file (Ok v) Leads o h = absurd h
 source_stops file (Err why) Leads o h = h
 
 -- a file that gives no value, wherever a value would lead
-pub text_stops : {V : Type 0} (file : Text) (content : Contents) (meant : Text → Result V TextRefusal) (Leads : V → Type 0) (o : Outcome)
-    → FileAndText file content meant (λ _. ⊥) o → FileAndText file content meant Leads o
-text_stops file content meant Leads o (inl cannot) = inl cannot
-text_stops file content meant Leads o (inr (inl long)) = inr (inl long)
-text_stops file content meant Leads o (inr (inr held)) = inr (inr (held.0, held.1, held.2, source_stops file (meant held.0) Leads o held.3))
+pub text_stops : {V : Type 0} (file : Text) (content : Contents) (Meant : Text → Result V TextRefusal → Type 0) (Leads : V → Type 0) (o : Outcome)
+    → FileAndText file content Meant (λ _. ⊥) o → FileAndText file content Meant Leads o
+text_stops file content Meant Leads o (inl cannot) = inl cannot
+text_stops file content Meant Leads o (inr (inl long)) = inr (inl long)
+text_stops file content Meant Leads o (inr (inr held)) =
+    inr (inr (held.0, held.1, held.2, record { result = held.3.result; meant = held.3.meant; leads = source_stops file held.3.result Leads o held.3.leads }))
 
 -- a file whose value leads to the outcome
-pub text_leads : {V : Type 0} (file : Text) (content : Contents) (meant : Text → Result V TextRefusal) (Leads : V → Type 0) (o : Outcome) (v : V)
-    → HoldsText file content meant v → Leads v → FileAndText file content meant Leads o
-text_leads file content meant Leads o v h leads = inr (inr (h.bytes, h.held, h.fits, subst (λ r. SourceMeans file r Leads o) (sym h.means) leads))
+pub text_leads : {V : Type 0} (file : Text) (content : Contents) (Meant : Text → Result V TextRefusal → Type 0) (Leads : V → Type 0) (o : Outcome) (v : V)
+    → HoldsText file content Meant v → Leads v → FileAndText file content Meant Leads o
+text_leads file content Meant Leads o v h leads = inr (inr (h.bytes, h.held, h.fits, record { result = Ok v; meant = h.means; leads = leads }))
 
 -- a text that is refused at a line
-pub text_refused : {V : Type 0} (file name : Text) (content : Contents) (meant : Text → Result V TextRefusal) (bytes : Text) (line : ℕ) (code : Code)
-    → name ≡ file → IfSome (content file) (λ whole. bytes ≡ whole) → length bytes ≤ most_bytes → meant bytes ≡ Err (At line code)
-    → FileAndText file content meant (λ _. ⊥) (refuses (File name (Content (At line code))))
-text_refused file name content meant bytes line code is held fits e =
-    inr (inr (bytes, held, fits, subst (λ r. SourceMeans file r (λ _. ⊥) (refuses (File name (Content (At line code))))) (sym e) (ap (λ n. refuses (File n (Content (At line code)))) is)))
+pub text_refused : {V : Type 0} (file name : Text) (content : Contents) (Meant : Text → Result V TextRefusal → Type 0) (bytes : Text) (line : ℕ) (code : Code)
+    → name ≡ file → IfSome (content file) (λ whole. bytes ≡ whole) → length bytes ≤ most_bytes → Meant bytes (Err (At line code))
+    → FileAndText file content Meant (λ _. ⊥) (refuses (File name (Content (At line code))))
+text_refused file name content Meant bytes line code is held fits e =
+    inr (inr (bytes, held, fits, record { result = Err (At line code); meant = e; leads = ap (λ n. refuses (File n (Content (At line code)))) is }))
 
 -- a file whose content is as before
 if_same : (P : Text → Type 0) (c d : Option Text) → c ≡ d → IfSome c P → IfSome d P
 if_same P c d e h = subst (λ x. IfSome x P) e h
 
-pub text_as : {V : Type 0} (file : Text) (before now : Contents) (meant : Text → Result V TextRefusal) (Leads : V → Type 0) (o : Outcome)
-    → now file ≡ before file → FileAndText file now meant Leads o → FileAndText file before meant Leads o
-text_as file before now meant Leads o e (inl cannot) = inl cannot
-text_as file before now meant Leads o e (inr (inl long)) = inr (inl (if_same (λ whole. most_bytes < length whole) (now file) (before file) e long.0, long.1))
-text_as file before now meant Leads o e (inr (inr held)) = inr (inr (held.0, if_same (λ whole. held.0 ≡ whole) (now file) (before file) e held.1, held.2, held.3))
+pub text_as : {V : Type 0} (file : Text) (before now : Contents) (Meant : Text → Result V TextRefusal → Type 0) (Leads : V → Type 0) (o : Outcome)
+    → now file ≡ before file → FileAndText file now Meant Leads o → FileAndText file before Meant Leads o
+text_as file before now Meant Leads o e (inl cannot) = inl cannot
+text_as file before now Meant Leads o e (inr (inl long)) = inr (inl (if_same (λ whole. most_bytes < length whole) (now file) (before file) e long.0, long.1))
+text_as file before now Meant Leads o e (inr (inr held)) = inr (inr (held.0, if_same (λ whole. held.0 ≡ whole) (now file) (before file) e held.1, held.2, held.3))
 
-pub holds_as : {V : Type 0} (file : Text) (before now : Contents) (meant : Text → Result V TextRefusal) (v : V)
-    → now file ≡ before file → HoldsText file now meant v → HoldsText file before meant v
-holds_as file before now meant v e h = record { bytes = h.bytes; held = if_same (λ whole. h.bytes ≡ whole) (now file) (before file) e h.held; fits = h.fits; means = h.means }
+pub holds_as : {V : Type 0} (file : Text) (before now : Contents) (Meant : Text → Result V TextRefusal → Type 0) (v : V)
+    → now file ≡ before file → HoldsText file now Meant v → HoldsText file before Meant v
+holds_as file before now Meant v e h = record { bytes = h.bytes; held = if_same (λ whole. h.bytes ≡ whole) (now file) (before file) e h.held; fits = h.fits; means = h.means }
 
 -- files whose values make no design, wherever a design would lead
-pub sources_stop : {V : Type 0} (file : Text) (content : Contents) (meant : Text → Result V TextRefusal) (P Q : V → Type 0) (o : Outcome)
-    → ((v : V) → P v → Q v) → FileAndText file content meant P o → FileAndText file content meant Q o
-sources_stop file content meant P Q o f (inl cannot) = inl cannot
-sources_stop file content meant P Q o f (inr (inl long)) = inr (inl long)
-sources_stop {V} file content meant P Q o f (inr (inr held)) = inr (inr (held.0, held.1, held.2, go (meant held.0) held.3))
+pub sources_stop : {V : Type 0} (file : Text) (content : Contents) (Meant : Text → Result V TextRefusal → Type 0) (P Q : V → Type 0) (o : Outcome)
+    → ((v : V) → P v → Q v) → FileAndText file content Meant P o → FileAndText file content Meant Q o
+sources_stop file content Meant P Q o f (inl cannot) = inl cannot
+sources_stop file content Meant P Q o f (inr (inl long)) = inr (inl long)
+sources_stop {V} file content Meant P Q o f (inr (inr held)) =
+    inr (inr (held.0, held.1, held.2, record { result = held.3.result; meant = held.3.meant; leads = go held.3.result held.3.leads }))
   where
     go : (r : Result V TextRefusal) → SourceMeans file r P o → SourceMeans file r Q o
     go (Ok v) h = f v h
@@ -67,8 +69,8 @@ sources_stop {V} file content meant P Q o f (inr (inr held)) = inr (inr (held.0,
 pub last_as : (spef sdc : Text) (before now : Contents) (library : Library) (netlist : Netlist) (Leads : Inputs → Type 0) (o : Outcome) → now spef ≡ before spef → now sdc ≡ before sdc
     → LastFilesMean spef sdc now library netlist Leads o → LastFilesMean spef sdc before library netlist Leads o
 last_as spef sdc before now library netlist Leads o one two h =
-    text_as spef before now parasitics_in _ o one
-    (sources_stop spef now parasitics_in _ _ o (λ p k. text_as sdc before now (constraints_in library netlist) _ o two k) h)
+    text_as spef before now ParasiticsIn _ o one
+    (sources_stop spef now ParasiticsIn _ _ o (λ p k. text_as sdc before now (ConstraintsIn library netlist) _ o two k) h)
 
 -- ---- the four files
 

@@ -1,6 +1,7 @@
 mod Agreeing
 mod OneBlock
 mod Blocks
+mod Netlists
 mod LinkedFaults
 mod Pieces
 mod Within

@@ -1,5 +1,5 @@
 -- Where the contents of the files are known, the files of a block lead to one outcome.
-use Rattle.std.proofs.Common.{◌≡◌, ◌≤◌, ℕ, length, Option, Result, Ok, Err, IfSome, ap, refl, subst, inl, inr}
+use Rattle.std.proofs.Common.{◌≡◌, ◌≤◌, ℕ, length, Result, Ok, Err, IfSome, ap, refl, sym, ◌∙◌, subst, inl, inr}
 use Rattle.std.specs.Prelude.{IsSome}
 use Rattle.xt_model.specs.declared.fault.LimitKind.{LimitKind}
 use Rattle.xt_model.specs.Parts.{Parts}
@@ -9,7 +9,7 @@ use Rattle.link_rules.specs.Bare.{Inputs}
 use Rattle.link_rules.proofs.OneOutcome.{design_is_one, fault_is_one, linked_is_accepted}
 use Rattle.command_line.specs.Words.{Text}
 use Rattle.xtalk_top.specs.Outcome.{Contents, Outcome, unread, most_bytes}
-use Rattle.xtalk_top.specs.Linking.{BlockMeans, FileAndText, HoldsText, LinkingMeans, SourceMeans, constraints_in, fault_of, library_in, netlist_in, parasitics_in}
+use Rattle.xtalk_top.specs.Linking.{BlockMeans, FileAndText, HoldsText, LinkingMeans, SourceMeans, TextMeans, ConstraintsIn, fault_of, LibraryIn, NetlistIn, ParasiticsIn}
 use Rattle.command_line.specs.declared.words.BlockFiles.{BlockFiles}
 use Rattle.xtalk_top.specs.declared.refusal.TextRefusal.{TextRefusal}
 use Rattle.xtalk_top.specs.declared.refusal.Unlinked.{Unlinked}
@@ -18,13 +18,7 @@ use Rattle.xtalk_top.specs.declared.refusal.Refusal.TheVariants.{Linking}
 use Rattle.xtalk_top.specs.declared.refusal.PassedLimit.{PassedLimit}
 use Rattle.xtalk_top.proofs.Agreeing.{LeavesOne, agree_as, one_of_file_at}
 use Rattle.xtalk_top.proofs.Blocks.{text_leads}
-
--- limits of what is counted that have one name and one value are one
-same_limit : (l m : PassedLimit LimitKind ℕ) → l.what ≡ m.what → l.name ≡ m.name → l.value ≡ m.value → l ≡ m
-same_limit l m a b c =
-    let made : LimitKind → Option Text → ℕ → PassedLimit LimitKind ℕ = λ what name value. record { what = what; name = name; value = value } in
-    let e : made l.what l.name l.value ≡ made m.what m.name m.value = rw (a, b, c) refl in
-    e
+use Rattle.xtalk_top.proofs.Netlists.{same_limit, netlist_is_one}
 
 -- refusals of linking that are one fault are one
 same_refusal : (v w : Unlinked) → fault_of v ≡ fault_of w → v ≡ w
@@ -45,39 +39,46 @@ one_of_linking x Leads one o p (inr a) (inl b) = absurd (linked_is_accepted x (f
 one_of_linking x Leads one o p (inr a) (inr b) = one a.0 a.2 o p a.3 (subst (λ d. Leads d p) (design_is_one x b.0 a.0 b.1 a.1) b.3)
 
 -- a file and its text, where what the values lead to leaves one outcome for each value that the file holds
-one_of_text : {V : Type 0} (file : Text) (content : Contents) (meant : Text → Result V TextRefusal) (Leads : V → Outcome → Type 0)
-    → IsSome (content file) → ((v : V) → HoldsText file content meant v → LeavesOne (Leads v)) → LeavesOne (λ o. FileAndText file content meant (λ v. Leads v o) o)
-one_of_text {V} file content meant Leads known one =
-    one_of_file_at file content (λ bytes o. SourceMeans file (meant bytes) (λ v. Leads v o) o) known (λ bytes held fits. go bytes held fits (meant bytes) refl)
+one_of_text : {V : Type 0} (file : Text) (content : Contents) (Meant : Text → Result V TextRefusal → Type 0) (Leads : V → Outcome → Type 0)
+    → ((bytes : Text) (r s : Result V TextRefusal) → Meant bytes r → Meant bytes s → r ≡ s) → IsSome (content file)
+    → ((v : V) → HoldsText file content Meant v → LeavesOne (Leads v)) → LeavesOne (λ o. FileAndText file content Meant (λ v. Leads v o) o)
+one_of_text {V} file content Meant Leads single known one =
+    one_of_file_at file content (λ bytes o. TextMeans file bytes Meant (λ v. Leads v o) o) known
+    (λ bytes held fits o p a b. go bytes held fits a.result a.meant o p a.leads
+    (subst (λ r. SourceMeans file r (λ v. Leads v p) p) (single bytes b.result a.result b.meant a.meant) b.leads))
   where
-    go : (bytes : Text) → IfSome (content file) (λ whole. bytes ≡ whole) → length bytes ≤ most_bytes → (r : Result V TextRefusal) → meant bytes ≡ r
+    go : (bytes : Text) → IfSome (content file) (λ whole. bytes ≡ whole) → length bytes ≤ most_bytes → (r : Result V TextRefusal) → Meant bytes r
         → LeavesOne (λ o. SourceMeans file r (λ v. Leads v o) o)
     go bytes held fits (Ok v) e = one v (record { bytes = bytes; held = held; fits = fits; means = e })
     go bytes held fits (Err why) e = λ o p a b. agree_as o p _ _ a b refl
+
+-- a text that means a result means no other
+same_result : {V : Type 0} (x r s : Result V TextRefusal) → x ≡ r → x ≡ s → r ≡ s
+same_result x r s a b = sym a ∙ b
 
 pub one_of_block : (files : BlockFiles) (content : Contents) (Leads : Parts → Outcome → Type 0)
     → ((f : Text) → BlockMeans files content (λ d. Leads d (unread f)) (unread f) → IsSome (content f))
     → ((d : Parts) → IsSound d → LeavesOne (Leads d)) → LeavesOne (λ o. BlockMeans files content (λ d. Leads d o) o)
 one_of_block files content Leads known one =
-    one_of_text files.lib content library_in (λ library o.
-    FileAndText files.netlist content netlist_in (λ netlist.
-    FileAndText files.spef content parasitics_in (λ parasitics.
-    FileAndText files.sdc content (constraints_in library netlist) (λ constraints.
+    one_of_text files.lib content LibraryIn (λ library o.
+    FileAndText files.netlist content NetlistIn (λ netlist.
+    FileAndText files.spef content ParasiticsIn (λ parasitics.
+    FileAndText files.sdc content (ConstraintsIn library netlist) (λ constraints.
     LinkingMeans (record { library = library; netlist = netlist; parasitics = parasitics; constraints = constraints }) (λ d. Leads d o) o) o) o) o)
-    (known files.lib (inl refl)) (λ library a.
-    one_of_text files.netlist content netlist_in (λ netlist o.
-    FileAndText files.spef content parasitics_in (λ parasitics.
-    FileAndText files.sdc content (constraints_in library netlist) (λ constraints.
+    (λ bytes. same_result _) (known files.lib (inl refl)) (λ library a.
+    one_of_text files.netlist content NetlistIn (λ netlist o.
+    FileAndText files.spef content ParasiticsIn (λ parasitics.
+    FileAndText files.sdc content (ConstraintsIn library netlist) (λ constraints.
     LinkingMeans (record { library = library; netlist = netlist; parasitics = parasitics; constraints = constraints }) (λ d. Leads d o) o) o) o)
-    (known files.netlist (text_leads files.lib content library_in _ (unread files.netlist) library a (inl refl))) (λ netlist b.
-    one_of_text files.spef content parasitics_in (λ parasitics o.
-    FileAndText files.sdc content (constraints_in library netlist) (λ constraints.
+    netlist_is_one (known files.netlist (text_leads files.lib content LibraryIn _ (unread files.netlist) library a (inl refl))) (λ netlist b.
+    one_of_text files.spef content ParasiticsIn (λ parasitics o.
+    FileAndText files.sdc content (ConstraintsIn library netlist) (λ constraints.
     LinkingMeans (record { library = library; netlist = netlist; parasitics = parasitics; constraints = constraints }) (λ d. Leads d o) o) o)
-    (known files.spef (text_leads files.lib content library_in _ (unread files.spef) library a
-    (text_leads files.netlist content netlist_in _ (unread files.spef) netlist b (inl refl)))) (λ parasitics k.
-    one_of_text files.sdc content (constraints_in library netlist) (λ constraints o.
+    (λ bytes. same_result _) (known files.spef (text_leads files.lib content LibraryIn _ (unread files.spef) library a
+    (text_leads files.netlist content NetlistIn _ (unread files.spef) netlist b (inl refl)))) (λ parasitics k.
+    one_of_text files.sdc content (ConstraintsIn library netlist) (λ constraints o.
     LinkingMeans (record { library = library; netlist = netlist; parasitics = parasitics; constraints = constraints }) (λ d. Leads d o) o)
-    (known files.sdc (text_leads files.lib content library_in _ (unread files.sdc) library a
-    (text_leads files.netlist content netlist_in _ (unread files.sdc) netlist b
-    (text_leads files.spef content parasitics_in _ (unread files.sdc) parasitics k (inl refl))))) (λ constraints h.
+    (λ bytes. same_result _) (known files.sdc (text_leads files.lib content LibraryIn _ (unread files.sdc) library a
+    (text_leads files.netlist content NetlistIn _ (unread files.sdc) netlist b
+    (text_leads files.spef content ParasiticsIn _ (unread files.sdc) parasitics k (inl refl))))) (λ constraints h.
     one_of_linking _ Leads one))))

@@ -1,6 +1,7 @@
 //! The files of a block, each read and then its text, in their order; and their linking.
 
-ghost use Rattle.std.specs.Prelude.{◌≡◌, [], ◌∷◌, IfOk, IfErr};
+ghost use Rattle.std.specs.Prelude.{◌≡◌, ◌+◌, ◌≤◌, [], ◌∷◌, length, None, Ok, IfOk, IfErr};
+ghost use Rattle.xt_model.specs.Limits.{most_instances};
 ghost use Rattle.xt_model.specs.Sound.{IsSound};
 ghost use Rattle.sdc_read.specs.Meaning.{IsScale};
 ghost use Rattle.link_rules.specs.Bare.{Inputs};
@@ -8,30 +9,33 @@ ghost use Rattle.link_rules.specs.Link.{IsLinked};
 ghost use Rattle.link_rules.specs.Sound.{AreSoundConstraints, AreSoundParasitics, IsSoundLibrary, IsSoundNetlist};
 ghost use Rattle.xt_io.specs.Outside.{AreOpened};
 ghost use Rattle.xtalk_top.specs.Call.{Answers, IsStop};
+ghost use Rattle.xtalk_top.specs.Outcome.{most_bytes};
 ghost use Rattle.xtalk_top.specs.Opened.{HasValue, OpensFirst, block_files};
 ghost use Rattle.xtalk_top.specs.Linking.{BlockMeans, FileAndText, HoldsText, LinkingMeans, MakeDesign};
-ghost use Rattle.xtalk_top.specs.Linking.{FinishDesign, LastFilesMean};
-ghost use Rattle.xtalk_top.specs.Linking.{constraints_in, library_in, netlist_in, parasitics_in};
+ghost use Rattle.xtalk_top.specs.Linking.{FinishDesign, LastFilesMean, TextMeans};
+ghost use Rattle.xtalk_top.specs.Linking.{ConstraintsIn, LibraryIn, NetlistIn, ParasiticsIn};
 ghost use Rattle.command_line.specs.Words.{Text};
 ghost use Rattle.xtalk_top.specs.declared.refusal.Stop.TheVariants.{Refused};
 ghost use Rattle.xtalk_top.specs.declared.refusal.Refusal.TheVariants.{File};
 ghost use Rattle.xtalk_top.specs.declared.refusal.FileRefusal.TheVariants.{Content};
-ghost use Rattle.xtalk_top.specs.declared.refusal.TextRefusal.TheVariants.{At};
+ghost use Rattle.xtalk_top.specs.declared.refusal.TextRefusal.TheVariants.{At, Beyond};
 
 use crate::input::read_file;
 use crate::refusal::{FileRefusal, PassedLimit, Refusal, Stop, TextRefusal, Unlinked};
 use command_line::{BlockFiles, FileName};
 use design_link::link;
+use hier_flatten::FlatFault;
 use liberty_cells::Library;
 use link_rules::LinkFault;
 use sdc_read::Constraints;
-use sound_reads::{read_library, read_netlist, read_sdc, read_spef};
+use sound_reads::{flatten, read_library, read_modules, read_sdc, read_spef};
 use spef_read::Parasitics;
 use std::alloc::Global;
 use verilog_net::Netlist;
 use xt_io::Files;
-use xt_lex::TextFault;
-use xt_model::{Code, Design};
+use xt_lex::{TextFault, last_line};
+use xt_model::limits::MOST_INSTANCES;
+use xt_model::{Code, Design, LimitKind};
 
 // A refusal of a file's text, at this line.
 fn refused(file: FileName, line: u32, code: Code) -> Stop
@@ -43,10 +47,29 @@ fn refused(file: FileName, line: u32, code: Code) -> Stop
     })
 }
 
+// A limit that the flat netlist of a file's modules passes. Its number is one more than may be, also where there are
+// more.
+fn beyond(file: FileName, what: LimitKind) -> Stop
+    ensures { result ≡ Refused (File file (Content (Beyond (record {
+      what = what;
+      name = None;
+      value = most_instances + 1;
+    })))) }
+{
+    Stop::Refused(Refusal::File {
+        file,
+        why: FileRefusal::Content(TextRefusal::Beyond(PassedLimit {
+            what,
+            name: None,
+            value: MOST_INSTANCES as u128 + 1,
+        })),
+    })
+}
+
 // The Liberty library whose text the file holds.
 fn library<F: Files>(alloc: Global, files: &mut F, file: FileName) -> Result<Library, Stop>
-    ensures answer { let Meant = FileAndText file (F.content files.old) library_in (λ _. ⊥) in
-        let IsValue = HoldsText file (F.content files.old) library_in in
+    ensures answer { let Meant = FileAndText file (F.content files.old) LibraryIn (λ _. ⊥) in
+        let IsValue = HoldsText file (F.content files.old) LibraryIn in
         Answers result IsValue Meant (F.faults files.old) (F.faults files.new) }
     ensures sound { IfOk result IsSoundLibrary }
     ensures scales { IfOk result (λ v. IsScale v.time_scale × IsScale v.cap_scale) }
@@ -61,27 +84,43 @@ fn library<F: Files>(alloc: Global, files: &mut F, file: FileName) -> Result<Lib
     }
 }
 
+// The flat netlist of the modules of a structural Verilog text, which a file of this name holds.
+fn flat_netlist(alloc: Global, file: FileName, bytes: &[u8]) -> Result<Netlist, Stop>
+    requires { length bytes.now ≤ most_bytes }
+    ensures ok { IfOk result (λ netlist. NetlistIn bytes.now (Ok netlist)) }
+    ensures sound { IfOk result IsSoundNetlist }
+    ensures stop { IfErr result (IsStop (TextMeans file bytes.now NetlistIn (λ _. ⊥)) (λ _. ⊥)) }
+{
+    let modules = match read_modules(alloc, bytes) {
+        Ok(modules) => modules,
+        Err(TextFault::Refused { line, code }) => return Err(refused(file, line, code)),
+        Err(TextFault::NoMemory) => return Err(Stop::NoMemory),
+    };
+    match flatten(alloc, &modules, last_line(bytes)) {
+        Ok(netlist) => Ok(netlist),
+        Err(FlatFault::Refused { line, code }) => Err(refused(file, line, code)),
+        Err(FlatFault::Limit { what }) => Err(beyond(file, what)),
+        Err(FlatFault::NoMemory) => Err(Stop::NoMemory),
+    }
+}
+
 // The structural Verilog netlist whose text the file holds.
 fn netlist<F: Files>(alloc: Global, files: &mut F, file: FileName) -> Result<Netlist, Stop>
-    ensures answer { let Meant = FileAndText file (F.content files.old) netlist_in (λ _. ⊥) in
-        let IsValue = HoldsText file (F.content files.old) netlist_in in
+    ensures answer { let Meant = FileAndText file (F.content files.old) NetlistIn (λ _. ⊥) in
+        let IsValue = HoldsText file (F.content files.old) NetlistIn in
         Answers result IsValue Meant (F.faults files.old) (F.faults files.new) }
     ensures sound { IfOk result IsSoundNetlist }
     ensures content { (m : Text) → F.content files.new m ≡ F.content files.old m }
     ensures opened { AreOpened (file ∷ []) (F.opened files.old) (F.opened files.new) }
 {
     let (file, bytes) = read_file(alloc, files, file)?;
-    match read_netlist(alloc, &bytes) {
-        Ok(value) => Ok(value),
-        Err(TextFault::Refused { line, code }) => Err(refused(file, line, code)),
-        Err(TextFault::NoMemory) => Err(Stop::NoMemory),
-    }
+    flat_netlist(alloc, file, &bytes)
 }
 
 // The SPEF parasitics whose text the file holds.
 fn parasitics<F: Files>(alloc: Global, files: &mut F, file: FileName) -> Result<Parasitics, Stop>
-    ensures answer { let Meant = FileAndText file (F.content files.old) parasitics_in (λ _. ⊥) in
-        let IsValue = HoldsText file (F.content files.old) parasitics_in in
+    ensures answer { let Meant = FileAndText file (F.content files.old) ParasiticsIn (λ _. ⊥) in
+        let IsValue = HoldsText file (F.content files.old) ParasiticsIn in
         Answers result IsValue Meant (F.faults files.old) (F.faults files.new) }
     ensures sound { IfOk result AreSoundParasitics }
     ensures content { (m : Text) → F.content files.new m ≡ F.content files.old m }
@@ -105,7 +144,7 @@ fn constraints<F: Files>(
 ) -> Result<Constraints, Stop>
     requires time { IsScale library.now.time_scale }
     requires cap { IsScale library.now.cap_scale }
-    ensures answer { let meant = constraints_in library.now netlist.now in
+    ensures answer { let meant = ConstraintsIn library.now netlist.now in
         let IsValue = HoldsText file (F.content files.old) meant in
         let Meant = FileAndText file (F.content files.old) meant (λ _. ⊥) in
         Answers result IsValue Meant (F.faults files.old) (F.faults files.new) }

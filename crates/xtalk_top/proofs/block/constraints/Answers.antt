@@ -3,7 +3,7 @@ use Rattle.std.proofs.lemmas.Result.{err_from_is_err_and}
 use Rattle.std.proofs.lemmas.Int.{ints}
 use Rattle.sdc_read.specs.Meaning.{IsScale}
 use Rattle.xtalk_top.specs.Outcome.{FileMeans}
-use Rattle.xtalk_top.specs.Linking.{FileAndText, by_line, constraints_in}
+use Rattle.xtalk_top.specs.Linking.{FileAndText, by_line, ConstraintsIn}
 use Rattle.xtalk_top.proofs.Blocks.{text_refused}
 use Rattle.xtalk_top.proofs.Lifts.{file_stops, stops_first}
 use Rattle.xtalk_top.proofs.block.constraints.Goals as goal
@@ -30,7 +30,7 @@ returns-in-Err-Refused-clause-answer g c =
     let time = scale_kept c.args.library.now.time_scale c.requires.time in
     let cap = scale_kept c.args.library.now.cap_scale c.requires.cap in
     rw c.refused.ensures (
-      text_refused c.args.file c.in_ok-file.file (g.F.Files.content c.args.files.now) (constraints_in c.args.library.now c.args.netlist.now) c.in_ok-file.bytes.items c.in-Err-Refused.line c.in-Err-Refused.code
+      text_refused c.args.file c.in_ok-file.file (g.F.Files.content c.args.files.now) (ConstraintsIn c.args.library.now c.args.netlist.now) c.in_ok-file.bytes.items c.in-Err-Refused.line c.in-Err-Refused.code
           c.in_ok-file.ensures.answer.0 c.in_ok-file.ensures.whole c.in_ok-file.ensures.fits (ap by_line (rw (c.deref.ensures.value, c.in-Err-Refused.field-0-is, time, cap) at c.in-Err-Refused.ensures.value)),
       λ _. c.in_ok-file.ensures.answer.1,
     )
@@ -43,7 +43,7 @@ returns-in_err-file-clause-answer g c =
     let content = g.F.Files.content c.args.files.now in
     let faults = g.F.Files.faults in
     let failed = err_from_is_err_and c.from_residual.result c.from_residual.ensures.1 in
-    rw failed.1 (rw failed.2 (stops_first (FileMeans c.args.file content (λ _. ⊥)) (FileAndText c.args.file content (constraints_in c.args.library.now c.args.netlist.now) (λ _. ⊥)) (λ o h. file_stops c.args.file content _ o h)
+    rw failed.1 (rw failed.2 (stops_first (FileMeans c.args.file content (λ _. ⊥)) (FileAndText c.args.file content (ConstraintsIn c.args.library.now c.args.netlist.now) (λ _. ⊥)) (λ o h. file_stops c.args.file content _ o h)
     (faults c.args.files.now) (faults c.read_file.new.files) c.in_err-file.field-0.0 c.in_err-file.ensures.answer))
 
 pub returns-in-Ok-clause-content : goal.returns-in-Ok-clause-content

@@ -1,6 +1,6 @@
 use Rattle.std.proofs.lemmas.Result.{err_from_is_err_and}
 use Rattle.link_rules.specs.Bare.{Inputs}
-use Rattle.xtalk_top.specs.Linking.{FileAndText, FinishDesign, LastFilesMean, LinkingMeans, constraints_in, parasitics_in}
+use Rattle.xtalk_top.specs.Linking.{FileAndText, FinishDesign, LastFilesMean, LinkingMeans, ConstraintsIn, ParasiticsIn}
 use Rattle.xtalk_top.proofs.Blocks.{holds_as, text_as, text_leads, text_stops}
 use Rattle.xtalk_top.proofs.Lifts.{answers_unread, kept_trans, stops_first, stops_later}
 use Rattle.std.proofs.Common.{[], ◌∷◌}
@@ -12,9 +12,9 @@ returns-in_err-parasitics-clause-means g c =
     let content = g.F.Files.content c.args.files.now in
     let faults = g.F.Files.faults in
     let failed = err_from_is_err_and c.from_residual.result c.from_residual.ensures.1 in
-    rw failed.1 (rw failed.2 (stops_first (FileAndText c.args.spef content parasitics_in (λ _. ⊥))
+    rw failed.1 (rw failed.2 (stops_first (FileAndText c.args.spef content ParasiticsIn (λ _. ⊥))
     (λ o. LastFilesMean c.args.spef c.args.sdc content c.args.library.now c.args.netlist.now (λ x. LinkingMeans x (λ _. ⊥) o) o)
-    (λ o h. text_stops c.args.spef content parasitics_in _ o h)
+    (λ o h. text_stops c.args.spef content ParasiticsIn _ o h)
     (faults c.args.files.now) (faults c.parasitics.new.files) c.in_err-parasitics.field-0.0 c.in_err-parasitics.ensures.answer))
 
 pub returns-in_err-constraints-clause-means : goal.returns-in_err-constraints-clause-means
@@ -22,11 +22,11 @@ returns-in_err-constraints-clause-means g c =
     let content = g.F.Files.content c.args.files.now in
     let faults = g.F.Files.faults in
     let first = g.F.Files.content c.parasitics.new.files in
-    let meant = constraints_in c.args.library.now c.args.netlist.now in
+    let meant = ConstraintsIn c.args.library.now c.args.netlist.now in
     let failed = err_from_is_err_and c.from_residual-in_err-constraints.result c.from_residual-in_err-constraints.ensures.1 in
     rw failed.1 (rw failed.2 (stops_later (FileAndText c.args.sdc first meant (λ _. ⊥))
     (λ o. LastFilesMean c.args.spef c.args.sdc content c.args.library.now c.args.netlist.now (λ x. LinkingMeans x (λ _. ⊥) o) o)
-    (λ o h. text_leads c.args.spef content parasitics_in _ o c.in_ok-parasitics.parasitics c.in_ok-parasitics.ensures.answer.0
+    (λ o h. text_leads c.args.spef content ParasiticsIn _ o c.in_ok-parasitics.parasitics c.in_ok-parasitics.ensures.answer.0
     (text_stops c.args.sdc content meant _ o (text_as c.args.sdc content first meant (λ _. ⊥) o (c.parasitics.ensures.content c.args.sdc) h)))
     (faults c.args.files.now) (faults c.parasitics.new.files) (faults c.constraints.new.files) c.in_err-constraints.field-0.0
     c.in_ok-parasitics.ensures.answer.1 c.in_err-constraints.ensures.answer))
@@ -36,11 +36,11 @@ returns-clause-means g c =
     let content = g.F.Files.content c.args.files.now in
     let faults = g.F.Files.faults in
     let first = g.F.Files.content c.parasitics.new.files in
-    let meant = constraints_in c.args.library.now c.args.netlist.now in
+    let meant = ConstraintsIn c.args.library.now c.args.netlist.now in
     let x : Inputs = record { library = c.args.library.now; netlist = c.args.netlist.now; parasitics = c.in_ok-parasitics.parasitics; constraints = c.in_ok-constraints.constraints } in
     let held = holds_as c.args.sdc content first meant c.in_ok-constraints.constraints (c.parasitics.ensures.content c.args.sdc) c.in_ok-constraints.ensures.answer.0 in
     answers_unread (LinkingMeans x (λ _. ⊥)) (λ o. LastFilesMean c.args.spef c.args.sdc content c.args.library.now c.args.netlist.now (λ x. LinkingMeans x (λ _. ⊥) o) o)
-    (λ o m. text_leads c.args.spef content parasitics_in _ o c.in_ok-parasitics.parasitics c.in_ok-parasitics.ensures.answer.0
+    (λ o m. text_leads c.args.spef content ParasiticsIn _ o c.in_ok-parasitics.parasitics c.in_ok-parasitics.ensures.answer.0
     (text_leads c.args.sdc content meant _ o c.in_ok-constraints.constraints held m))
     _ (FinishDesign c.args.spef c.args.sdc content c.args.library.now c.args.netlist.now)
     (λ d h. record {

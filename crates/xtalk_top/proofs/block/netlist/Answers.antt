@@ -1,58 +1,37 @@
-use Rattle.std.proofs.Common.{ap}
+use Rattle.std.proofs.Common.{Ok}
 use Rattle.std.proofs.lemmas.Result.{err_from_is_err_and}
 use Rattle.xtalk_top.specs.Outcome.{FileMeans}
-use Rattle.xtalk_top.specs.Linking.{FileAndText, by_line, netlist_in}
-use Rattle.xtalk_top.proofs.Blocks.{text_refused}
-use Rattle.xtalk_top.proofs.Lifts.{file_stops, stops_first}
+use Rattle.xtalk_top.specs.Linking.{FileAndText, HoldsText, NetlistIn, TextMeans}
+use Rattle.xtalk_top.proofs.Lifts.{answers_unread, file_leads, file_stops, stops_first}
 use Rattle.xtalk_top.proofs.block.netlist.Goals as goal
-
-pub returns-in-Ok-clause-answer : goal.returns-in-Ok-clause-answer
-returns-in-Ok-clause-answer g c = (
-  record {
-    bytes = c.in_ok-file.bytes.items;
-    held = c.in_ok-file.ensures.whole;
-    fits = c.in_ok-file.ensures.fits;
-    means = ap by_line (rw c.deref.ensures.value at c.in-Ok.ensures.value);
-  },
-  c.in_ok-file.ensures.answer.1,
-)
-
-pub returns-in-Err-Refused-clause-answer : goal.returns-in-Err-Refused-clause-answer
-returns-in-Err-Refused-clause-answer g c =
-    rw c.refused.ensures (
-      text_refused c.args.file c.in_ok-file.file (g.F.Files.content c.args.files.now) netlist_in c.in_ok-file.bytes.items c.in-Err-Refused.line c.in-Err-Refused.code
-          c.in_ok-file.ensures.answer.0 c.in_ok-file.ensures.whole c.in_ok-file.ensures.fits (ap by_line (rw (c.deref.ensures.value, c.in-Err-Refused.field-0-is) at c.in-Err-Refused.ensures.value)),
-      λ _. c.in_ok-file.ensures.answer.1,
-    )
-
-pub returns-in-Err-NoMemory-clause-answer : goal.returns-in-Err-NoMemory-clause-answer
-returns-in-Err-NoMemory-clause-answer g c = (tt, λ _. c.in_ok-file.ensures.answer.1)
 
 pub returns-in_err-file-clause-answer : goal.returns-in_err-file-clause-answer
 returns-in_err-file-clause-answer g c =
     let content = g.F.Files.content c.args.files.now in
     let faults = g.F.Files.faults in
     let failed = err_from_is_err_and c.from_residual.result c.from_residual.ensures.1 in
-    rw failed.1 (rw failed.2 (stops_first (FileMeans c.args.file content (λ _. ⊥)) (FileAndText c.args.file content netlist_in (λ _. ⊥)) (λ o h. file_stops c.args.file content _ o h)
+    rw failed.1 (rw failed.2 (stops_first (FileMeans c.args.file content (λ _. ⊥)) (FileAndText c.args.file content NetlistIn (λ _. ⊥)) (λ o h. file_stops c.args.file content _ o h)
     (faults c.args.files.now) (faults c.read_file.new.files) c.in_err-file.field-0.0 c.in_err-file.ensures.answer))
 
-pub returns-in-Ok-clause-content : goal.returns-in-Ok-clause-content
-returns-in-Ok-clause-content g c = c.read_file.ensures.content
+pub returns-clause-answer : goal.returns-clause-answer
+returns-clause-answer g c =
+    let content = g.F.Files.content c.args.files.now in
+    let faults = g.F.Files.faults in
+    let file = c.args.file in
+    let bytes = c.in_ok-file.bytes.items in
+    answers_unread (TextMeans file bytes NetlistIn (λ _. ⊥)) (FileAndText file content NetlistIn (λ _. ⊥))
+    (λ o h. file_leads file content (λ b. TextMeans file b NetlistIn (λ _. ⊥) o) o bytes c.in_ok-file.ensures.whole c.in_ok-file.ensures.fits h)
+    (λ netlist. NetlistIn bytes (Ok netlist)) (HoldsText file content NetlistIn)
+    (λ netlist m. record { bytes = bytes; held = c.in_ok-file.ensures.whole; fits = c.in_ok-file.ensures.fits; means = m })
+    (faults c.args.files.now) (faults c.read_file.new.files) c.flat_netlist.result c.in_ok-file.ensures.answer.1
+    (rw c.deref.ensures.value at c.flat_netlist.ensures.ok)
+    (rw (c.deref.ensures.value, c.in_ok-file.ensures.answer.0) at c.flat_netlist.ensures.stop)
 
-pub returns-in-Err-Refused-clause-content : goal.returns-in-Err-Refused-clause-content
-returns-in-Err-Refused-clause-content g c = c.read_file.ensures.content
+pub returns-clause-content : goal.returns-clause-content
+returns-clause-content g c = c.read_file.ensures.content
 
-pub returns-in-Err-NoMemory-clause-content : goal.returns-in-Err-NoMemory-clause-content
-returns-in-Err-NoMemory-clause-content g c = c.read_file.ensures.content
-
-pub returns-in-Ok-clause-opened : goal.returns-in-Ok-clause-opened
-returns-in-Ok-clause-opened g c = c.read_file.ensures.opened
-
-pub returns-in-Err-Refused-clause-opened : goal.returns-in-Err-Refused-clause-opened
-returns-in-Err-Refused-clause-opened g c = c.read_file.ensures.opened
-
-pub returns-in-Err-NoMemory-clause-opened : goal.returns-in-Err-NoMemory-clause-opened
-returns-in-Err-NoMemory-clause-opened g c = c.read_file.ensures.opened
+pub returns-clause-opened : goal.returns-clause-opened
+returns-clause-opened g c = c.read_file.ensures.opened
 
 pub returns-in_err-file-clause-opened : goal.returns-in_err-file-clause-opened
 returns-in_err-file-clause-opened g c = c.read_file.ensures.opened

@@ -1,7 +1,7 @@
 use Rattle.std.proofs.Common.{ap}
 use Rattle.std.proofs.lemmas.Result.{err_from_is_err_and}
 use Rattle.xtalk_top.specs.Outcome.{FileMeans}
-use Rattle.xtalk_top.specs.Linking.{FileAndText, by_line, parasitics_in}
+use Rattle.xtalk_top.specs.Linking.{FileAndText, by_line, ParasiticsIn}
 use Rattle.xtalk_top.proofs.Blocks.{text_refused}
 use Rattle.xtalk_top.proofs.Lifts.{file_stops, stops_first}
 use Rattle.xtalk_top.proofs.block.parasitics.Goals as goal
@@ -20,7 +20,7 @@ returns-in-Ok-clause-answer g c = (
 pub returns-in-Err-Refused-clause-answer : goal.returns-in-Err-Refused-clause-answer
 returns-in-Err-Refused-clause-answer g c =
     rw c.refused.ensures (
-      text_refused c.args.file c.in_ok-file.file (g.F.Files.content c.args.files.now) parasitics_in c.in_ok-file.bytes.items c.in-Err-Refused.line c.in-Err-Refused.code
+      text_refused c.args.file c.in_ok-file.file (g.F.Files.content c.args.files.now) ParasiticsIn c.in_ok-file.bytes.items c.in-Err-Refused.line c.in-Err-Refused.code
           c.in_ok-file.ensures.answer.0 c.in_ok-file.ensures.whole c.in_ok-file.ensures.fits (ap by_line (rw (c.deref.ensures.value, c.in-Err-Refused.field-0-is) at c.in-Err-Refused.ensures.value)),
       λ _. c.in_ok-file.ensures.answer.1,
     )
@@ -33,7 +33,7 @@ returns-in_err-file-clause-answer g c =
     let content = g.F.Files.content c.args.files.now in
     let faults = g.F.Files.faults in
     let failed = err_from_is_err_and c.from_residual.result c.from_residual.ensures.1 in
-    rw failed.1 (rw failed.2 (stops_first (FileMeans c.args.file content (λ _. ⊥)) (FileAndText c.args.file content parasitics_in (λ _. ⊥)) (λ o h. file_stops c.args.file content _ o h)
+    rw failed.1 (rw failed.2 (stops_first (FileMeans c.args.file content (λ _. ⊥)) (FileAndText c.args.file content ParasiticsIn (λ _. ⊥)) (λ o h. file_stops c.args.file content _ o h)
     (faults c.args.files.now) (faults c.read_file.new.files) c.in_err-file.field-0.0 c.in_err-file.ensures.answer))
 
 pub returns-in-Ok-clause-content : goal.returns-in-Ok-clause-content

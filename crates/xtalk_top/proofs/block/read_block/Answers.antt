@@ -7,7 +7,7 @@ use Rattle.command_line.specs.Words.{Text}
 use Rattle.xtalk_top.specs.Outcome.{Contents, Outcome}
 use Rattle.command_line.specs.declared.words.BlockFiles.{BlockFiles}
 use Rattle.xtalk_top.specs.Linking.{BlockMeans, FileAndText, FinishDesign, HoldsText, LastFilesMean, LinkingMeans, MakeDesign}
-use Rattle.xtalk_top.specs.Linking.{constraints_in, library_in, netlist_in, parasitics_in}
+use Rattle.xtalk_top.specs.Linking.{ConstraintsIn, LibraryIn, NetlistIn, ParasiticsIn}
 use Rattle.xtalk_top.proofs.Blocks.{holds_as, last_as, text_as, text_leads, text_stops}
 use Rattle.xtalk_top.proofs.Lifts.{answers_later, kept_trans, stops_first, stops_later}
 use Rattle.std.proofs.Common.{[], ◌∷◌}
@@ -19,8 +19,8 @@ returns-in_err-library-clause-means g c =
     let content = g.F.Files.content c.args.files.now in
     let faults = g.F.Files.faults in
     let failed = err_from_is_err_and c.from_residual.result c.from_residual.ensures.1 in
-    rw failed.1 (rw failed.2 (stops_first (FileAndText c.args.block.lib content library_in (λ _. ⊥)) (BlockMeans c.args.block content (λ _. ⊥))
-    (λ o h. text_stops c.args.block.lib content library_in _ o h)
+    rw failed.1 (rw failed.2 (stops_first (FileAndText c.args.block.lib content LibraryIn (λ _. ⊥)) (BlockMeans c.args.block content (λ _. ⊥))
+    (λ o h. text_stops c.args.block.lib content LibraryIn _ o h)
     (faults c.args.files.now) (faults c.library.new.files) c.in_err-library.field-0.0 c.in_err-library.ensures.answer))
 
 pub returns-in_err-netlist-clause-means : goal.returns-in_err-netlist-clause-means
@@ -29,23 +29,23 @@ returns-in_err-netlist-clause-means g c =
     let faults = g.F.Files.faults in
     let first = g.F.Files.content c.library.new.files in
     let failed = err_from_is_err_and c.from_residual-in_err-netlist.result c.from_residual-in_err-netlist.ensures.1 in
-    rw failed.1 (rw failed.2 (stops_later (FileAndText c.args.block.netlist first netlist_in (λ _. ⊥)) (BlockMeans c.args.block content (λ _. ⊥))
-    (λ o h. text_leads c.args.block.lib content library_in _ o c.in_ok-library.library c.in_ok-library.ensures.answer.0
-    (text_stops c.args.block.netlist content netlist_in _ o (text_as c.args.block.netlist content first netlist_in (λ _. ⊥) o (c.library.ensures.content c.args.block.netlist) h)))
+    rw failed.1 (rw failed.2 (stops_later (FileAndText c.args.block.netlist first NetlistIn (λ _. ⊥)) (BlockMeans c.args.block content (λ _. ⊥))
+    (λ o h. text_leads c.args.block.lib content LibraryIn _ o c.in_ok-library.library c.in_ok-library.ensures.answer.0
+    (text_stops c.args.block.netlist content NetlistIn _ o (text_as c.args.block.netlist content first NetlistIn (λ _. ⊥) o (c.library.ensures.content c.args.block.netlist) h)))
     (faults c.args.files.now) (faults c.library.new.files) (faults c.netlist.new.files) c.in_err-netlist.field-0.0
     c.in_ok-library.ensures.answer.1 c.in_err-netlist.ensures.answer))
 
 -- the library and the netlist of the first two files, and what the files hold
 module _ (files : BlockFiles) (content first second : Contents) (library : Library) (netlist : Netlist) (one : (f : Text) → first f ≡ content f) (two : (f : Text) → second f ≡ first f)
-    (a : HoldsText files.lib content library_in library) (b : HoldsText files.netlist first netlist_in netlist) where
+    (a : HoldsText files.lib content LibraryIn library) (b : HoldsText files.netlist first NetlistIn netlist) where
   finished : (d : Parts) → FinishDesign files.spef files.sdc second library netlist d → MakeDesign files content d
   finished d h = record {
     inputs = record { library = library; netlist = netlist; parasitics = h.parasitics; constraints = h.constraints };
     held = record {
       library = a;
-      netlist = holds_as files.netlist content first netlist_in netlist (one files.netlist) b;
-      parasitics = holds_as files.spef content second parasitics_in h.parasitics (two files.spef ∙ one files.spef) h.spef_held;
-      constraints = holds_as files.sdc content second (constraints_in library netlist) h.constraints (two files.sdc ∙ one files.sdc) h.sdc_held;
+      netlist = holds_as files.netlist content first NetlistIn netlist (one files.netlist) b;
+      parasitics = holds_as files.spef content second ParasiticsIn h.parasitics (two files.spef ∙ one files.spef) h.spef_held;
+      constraints = holds_as files.sdc content second (ConstraintsIn library netlist) h.constraints (two files.sdc ∙ one files.sdc) h.sdc_held;
     };
     linked = h.linked;
     sound = h.sound;
@@ -53,8 +53,8 @@ module _ (files : BlockFiles) (content first second : Contents) (library : Libra
 
   stopped : (o : Outcome) → LastFilesMean files.spef files.sdc second library netlist (λ x. LinkingMeans x (λ _. ⊥) o) o → BlockMeans files content (λ _. ⊥) o
   stopped o h =
-      text_leads files.lib content library_in _ o library a
-      (text_leads files.netlist content netlist_in _ o netlist (holds_as files.netlist content first netlist_in netlist (one files.netlist) b)
+      text_leads files.lib content LibraryIn _ o library a
+      (text_leads files.netlist content NetlistIn _ o netlist (holds_as files.netlist content first NetlistIn netlist (one files.netlist) b)
       (last_as files.spef files.sdc content second library netlist (λ x. LinkingMeans x (λ _. ⊥) o) o (two files.spef ∙ one files.spef) (two files.sdc ∙ one files.sdc) h))
 
 pub returns-clause-means : goal.returns-clause-means

@@ -1,0 +1,68 @@
+-- What a text means where one module alone is admitted, and where several are.
+use Rattle.std.specs.Prelude.{◌≡◌, refl, true, false, List, [], ◌∷◌, length, Ok, Err}
+use Rattle.std.specs.List.{AllByRecursion}
+use Rattle.std.proofs.Common.{◌⊎◌, sym, ap, ◌∙◌, inl, inr}
+use Rattle.name_numbers.specs.Names.{Text}
+use Rattle.text_forms.specs.Forms.{Refusal}
+use Rattle.text_forms.specs.Refusals.{Meant}
+use Rattle.xt_lex.specs.Bytes.{last_line}
+use Rattle.xt_model.specs.declared.code.Code.{Code}
+use Rattle.xt_model.specs.declared.code.Code.TheVariants.{V3}
+use Rattle.verilog_net.specs.declared.netlist.Netlist.{Netlist}
+use Rattle.verilog_net.specs.Meaning.{State}
+use Rattle.verilog_net.specs.Reading.{text_state, modules_in, modules_of, one_of, netlist_of_text}
+use Rattle.sound_reads.proofs.VerilogTexts.{netlist_fine}
+use Rattle.flat_laws.specs.Laws.{IsItself}
+use Rattle.flat_laws.proofs.Alone.{MeanSame, text_same}
+use Rattle.flat_laws.proofs.Known.{IsClosed}
+use Rattle.flat_laws.proofs.KnownTexts.{text_ended}
+use Rattle.flat_laws.proofs.Itself.{itself}
+
+-- one module that ended
+record IsOne (ms : List Netlist) : Type 0 where
+  one : Netlist
+  whole : ms ≡ one ∷ []
+
+one_is : (ms : List Netlist) → length ms ≡ 1 → IsOne ms
+one_is [] e = absurd (cc)
+one_is (m ∷ []) e = record { one = m; whole = refl }
+one_is (m ∷ n ∷ ms) e = absurd (cc)
+
+module _ (bytes : Text) where
+  alone_by : (r q : Meant State) (s : State) → r ≡ Ok s → MeanSame r q → modules_in q ≡ Ok s.ended
+  alone_by r q s at (inl e) = absurd (cc (sym at ∙ e.1))
+  alone_by r q s at (inr e) = rw (e, at) refl
+
+  module_by : (r : Meant State) (m : Netlist) → text_state true bytes ≡ r → one_of (modules_in r) ≡ Ok m → (modules_of bytes ≡ Ok (m ∷ [])) × IsClosed m
+  module_by (Err why) m at e = absurd (cc)
+  module_by (Ok s) m at e =
+      let end = text_ended bytes s at in
+      let one = one_is s.ended end.1.ended in
+      let first : ◌≡◌ {A = Meant Netlist} (Ok one.one) (Ok m) = rw one.whole at e in
+      let same : one.one ≡ m = cc in
+      let closed : AllByRecursion IsClosed (one.one ∷ []) = rw one.whole at end.0.closed in (
+        alone_by (text_state true bytes) (text_state false bytes) s at (text_same bytes) ∙ (ap (λ ms. Ok ms) one.whole ∙ ap (λ n. Ok (n ∷ [])) same),
+        rw same at closed.0,
+      )
+
+  pub module_is_itself : (m : Netlist) → netlist_of_text bytes ≡ Ok m → IsItself bytes m
+  module_is_itself m e =
+      let parts = module_by (text_state true bytes) m refl e in
+      record { alone = parts.0; flat = λ free. itself m (netlist_fine bytes m e) parts.1 (last_line bytes) free }
+
+  refused_by : (r q : Meant State) (why : Refusal Code) → text_state true bytes ≡ r → MeanSame r q → one_of (modules_in r) ≡ Err why
+      → (why.code ≡ V3) ⊎ (modules_in q ≡ Err why)
+  refused_by (Ok s) q why at same e =
+      let one = one_is s.ended (text_ended bytes s at).1.ended in
+      let no : ◌≡◌ {A = Meant Netlist} (Ok one.one) (Err why) = rw one.whole at e in
+      absurd (cc)
+  refused_by (Err other) q why at (inl v) e =
+      let is : other ≡ why = cc in
+      let place : other ≡ record { line = v.0; code = V3 } = cc in
+      inl (ap (λ (p : Refusal Code). p.code) (sym is ∙ place))
+  refused_by (Err other) q why at (inr same) e =
+      let is : other ≡ why = cc in
+      inr (rw same (ap (λ p. Err p) is))
+
+  pub refused_alike : (why : Refusal Code) → netlist_of_text bytes ≡ Err why → (why.code ≡ V3) ⊎ (modules_of bytes ≡ Err why)
+  refused_alike why e = refused_by (text_state true bytes) (text_state false bytes) why refl (text_same bytes) e

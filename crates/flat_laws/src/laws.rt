@@ -1,0 +1,30 @@
+//! Laws of flat netlists, each as the clause of a function that does nothing.
+
+ghost use Rattle.std.specs.Prelude.{◌≡◌, ◌⊎◌, ℕ, List, Ok, Err};
+ghost use Rattle.name_numbers.specs.Names.{Text};
+ghost use Rattle.xt_model.specs.declared.code.Code.{Code};
+ghost use Rattle.xt_model.specs.declared.code.Code.TheVariants.{V3};
+ghost use Rattle.text_forms.specs.Forms.{Refusal};
+ghost use Rattle.verilog_net.specs.declared.netlist.Netlist.{Netlist};
+ghost use Rattle.verilog_net.specs.Reading.{modules_of, netlist_of_text};
+ghost use Rattle.hier_flatten.specs.Meaning.{FlatMeans};
+ghost use Rattle.flat_laws.specs.Laws.{ConnectsBits, IsItself};
+
+/// A flat netlist has no whole bus as a connection.
+pub fn flat_netlists_connect_bits()
+    ensures { (modules : List Netlist) (last : ℕ) (flat : Netlist) → FlatMeans modules last (Ok flat)
+        → ConnectsBits flat }
+{}
+
+/// A text that one module alone is read from means that module also where several are admitted, and the module is its
+/// own flat netlist.
+pub fn one_module_is_itself()
+    ensures { (bytes : Text) (m : Netlist) → netlist_of_text bytes ≡ Ok m → IsItself bytes m }
+{}
+
+/// A text that is refused where one module alone is admitted is refused at the same line and by the same code where
+/// several are, unless by `V3`, which whole buses and further modules have there.
+pub fn other_refusals_are_same()
+    ensures { (bytes : Text) (why : Refusal Code) → netlist_of_text bytes ≡ Err why
+        → (why.code ≡ V3) ⊎ (modules_of bytes ≡ Err why) }
+{}

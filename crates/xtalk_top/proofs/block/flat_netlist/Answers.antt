@@ -1,0 +1,34 @@
+use Rattle.std.proofs.Common.{◌+◌, ℕ, None, Err, refl}
+use Rattle.xt_model.specs.Limits.{most_instances}
+use Rattle.xt_model.specs.declared.fault.LimitKind.{LimitKind}
+use Rattle.xtalk_top.specs.declared.refusal.PassedLimit.{PassedLimit}
+use Rattle.xtalk_top.specs.declared.refusal.TextRefusal.TheVariants.{At, Beyond}
+use Rattle.xtalk_top.proofs.Netlists.{unread_modules, flat_modules}
+use Rattle.xtalk_top.proofs.block.flat_netlist.Goals as goal
+
+pub returns-in-Err-Refused-clause-stop : goal.returns-in-Err-Refused-clause-stop
+returns-in-Err-Refused-clause-stop c =
+    rw c.refused.ensures (record {
+      result = Err (At c.in-Err-Refused.line c.in-Err-Refused.code);
+      meant = unread_modules c.args.bytes.now c.in-Err-Refused.line c.in-Err-Refused.code (rw c.in-Err-Refused.field-0-is at c.in-Err-Refused.ensures.value);
+      leads = cc (c.in-Err-Refused.line-is, c.in-Err-Refused.code-is);
+    })
+
+pub returns-in-Err-Refused-flatten-clause-stop : goal.returns-in-Err-Refused-flatten-clause-stop
+returns-in-Err-Refused-flatten-clause-stop c =
+    rw c.refused-in-Err-Refused-flatten.ensures (record {
+      result = Err (At c.in-Err-Refused-flatten.line c.in-Err-Refused-flatten.code);
+      meant = flat_modules c.args.bytes.now c.in-Ok.modules.list (Err (At c.in-Err-Refused-flatten.line c.in-Err-Refused-flatten.code)) c.in-Ok.ensures.value
+          (rw (c.last_line.ensures, c.in-Err-Refused-flatten.field-0-is) at c.in-Err-Refused-flatten.ensures.value);
+      leads = refl;
+    })
+
+pub returns-in-Err-Limit-clause-stop : goal.returns-in-Err-Limit-clause-stop
+returns-in-Err-Limit-clause-stop c =
+    let limit : PassedLimit LimitKind ℕ = record { what = c.in-Err-Limit.what; name = None; value = most_instances + 1 } in
+    rw c.beyond.ensures (record {
+      result = Err (Beyond limit);
+      meant = flat_modules c.args.bytes.now c.in-Ok.modules.list (Err (Beyond limit)) c.in-Ok.ensures.value
+          (rw (c.last_line.ensures, c.in-Err-Limit.field-0-is) at c.in-Err-Limit.ensures.value, refl, refl);
+      leads = refl;
+    })
