@@ -8,7 +8,7 @@ mod prefix;
 mod table;
 
 pub use by_parts::ByParts;
-pub use owned::PrefixedName;
+pub use owned::{KeptName, PrefixedName};
 pub use parts::NameParts;
 pub use prefix::Prefix;
 pub use table::PrefixedTable;

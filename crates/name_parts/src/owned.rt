@@ -5,15 +5,17 @@ ghost use Rattle.std.specs.Cmp.Lexicographic.{nat_list_eq_equiv};
 ghost use Rattle.std.specs.Cmp.{partial_equiv_from_equiv};
 ghost use Rattle.std.specs.Str.{bytes_eq};
 ghost use Rattle.name_numbers.specs.Eights.{eights, same_eights};
+ghost use Rattle.name_parts.specs.Parts.{whole};
 
 use crate::parts::NameParts;
 use crate::prefix::Prefix;
+use indexmap::Equivalent;
+use smallvec::SmallVec;
 use std::alloc::{AllocError, Global};
 use std::hash::{Hash, Hasher};
 use std::marker::Model;
 
-/// A name: a prefix, if it has one, and its other bytes, which are its own. Names are equal by their bytes, wherever
-/// the prefix ends.
+/// A name that is put together: a prefix, if it has one, and its other bytes, which are its own.
 #[derive(Drop)]
 pub struct PrefixedName {
     prefix: Option<Prefix>,
@@ -74,33 +76,65 @@ impl PrefixedName {
         }
     }
 
-    /// The name in two slices.
+    /// The name in two parts.
     #[inline]
     pub fn parts(&self) -> NameParts<'_>
         ensures { whole result ≡ self.now }
     {
         match &self.prefix {
             None => NameParts::of(self.rest.as_slice()),
-            Some(prefix) => NameParts::new(prefix.bytes(), self.rest.as_slice()),
+            Some(prefix) => NameParts::new(prefix, self.rest.as_slice()),
         }
     }
 
-    /// Another name of the same bytes, which shares the prefix.
-    pub fn copied(&self, alloc: Global) -> Result<PrefixedName, AllocError>
+    /// The name as a table keeps it, which shares the prefix.
+    pub fn kept(&self, alloc: Global) -> Result<KeptName, AllocError>
         ensures { IfOk result (λ n. n ≡ self.now) }
     {
         let prefix = match &self.prefix {
             None => None,
             Some(prefix) => Some(prefix.shared()?),
         };
-        Ok(PrefixedName {
+        Ok(KeptName {
             prefix,
-            rest: Vec::from_slice(alloc, self.rest.as_slice())?,
+            rest: SmallVec::from_slice(alloc, self.rest.as_slice())?,
         })
     }
 }
 
-impl PartialEq for PrefixedName {
+/// A name that is kept: a prefix, if it has one, and its other bytes, of which up to 16 take no block of memory. Names
+/// are equal by their bytes, wherever the prefix ends.
+#[derive(Drop)]
+pub struct KeptName {
+    prefix: Option<Prefix>,
+    rest: SmallVec<u8, 16>,
+}
+
+impl Model for KeptName {
+    ghost use Rattle.std.specs.Prelude.{ℕ, List, ◌++◌};
+    ghost use Rattle.name_parts.specs.Parts.{or_none};
+
+    ghost Value = { List ℕ };
+
+    ghost view = { λ n. or_none n.prefix ++ n.rest.items };
+}
+
+impl KeptName {
+    ghost use Rattle.name_parts.specs.Parts.{whole};
+
+    /// The name in two parts.
+    #[inline]
+    pub fn parts(&self) -> NameParts<'_>
+        ensures { whole result ≡ self.now }
+    {
+        match &self.prefix {
+            None => NameParts::of(self.rest.as_slice()),
+            Some(prefix) => NameParts::new(prefix, self.rest.as_slice()),
+        }
+    }
+}
+
+impl PartialEq for KeptName {
     ghost eq = { λ x y. bytes_eq x y };
 
     ghost laws = { partial_equiv_from_equiv nat_list_eq_equiv };
@@ -110,16 +144,28 @@ impl PartialEq for PrefixedName {
     }
 }
 
-impl Eq for PrefixedName {
+impl Eq for KeptName {
     ghost laws = { nat_list_eq_equiv };
 }
 
-impl Hash for PrefixedName {
+impl Hash for KeptName {
     ghost hash_input = { eights };
 
     ghost respects_eq = { same_eights };
 
     fn hash<H: Hasher>(&self, state: &mut H) {
         self.parts().hash(state);
+    }
+}
+
+impl<'a> Equivalent<KeptName> for NameParts<'a> {
+    ghost equivalent = { λ q k. bytes_eq (whole q) k };
+
+    ghost respects_hash = { λ q k. same_eights (whole q) k };
+
+    ghost respects_eq = { λ q x y. nat_list_eq_equiv.congr (whole q) x y };
+
+    fn equivalent(&self, key: &KeptName) -> bool {
+        *self == key.parts()
     }
 }

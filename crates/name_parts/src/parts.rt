@@ -1,4 +1,4 @@
-//! Names in two slices.
+//! Names in two parts.
 
 ghost use Rattle.std.specs.Prelude.{◌≡◌, ◌+◌, ◌<◌, ◌≤◌, ◌++◌, OnOk, IfOk, length};
 ghost use Rattle.std.specs.Cmp.Lexicographic.{nat_list_eq_equiv};
@@ -6,18 +6,19 @@ ghost use Rattle.std.specs.Cmp.{partial_equiv_from_equiv, on_per, on_equiv};
 ghost use Rattle.std.specs.List.{fold};
 ghost use Rattle.std.specs.Str.{bytes_eq};
 ghost use Rattle.name_numbers.specs.Eights.{eights, same_eights};
-ghost use Rattle.name_parts.specs.Parts.{whole};
+ghost use Rattle.name_parts.specs.Parts.{front, whole};
 
+use crate::prefix::Prefix;
 use arrayvec::ArrayVec;
 use name_numbers::write_eights;
 use std::alloc::{AllocError, Global};
 use std::hash::{Hash, Hasher};
 
-/// A name in two slices, of which the second goes on where the first ends. Names are equal by their bytes, wherever
-/// they are cut.
+/// A name in two parts, of which the second goes on where the first ends. Names are equal by their bytes, wherever they
+/// are cut.
 #[derive(Clone, Copy)]
 pub struct NameParts<'a> {
-    prefix: &'a [u8],
+    prefix: Option<&'a Prefix>,
     rest: &'a [u8],
 }
 
@@ -31,6 +32,20 @@ fn same_from(prefix: &[u8], rest: &[u8], longer: &[u8], last: &[u8]) -> bool
     let (front, behind) = longer.split_at(prefix.len());
     let (middle, end) = rest.split_at(behind.len());
     prefix == front && (middle == behind && end == last)
+}
+
+/// Whether the bytes of the first two slices are those of the other two.
+fn are_same(prefix: &[u8], rest: &[u8], other: &[u8], last: &[u8]) -> bool
+    ensures { result ≡ bytes_eq (prefix.now ++ rest.now) (other.now ++ last.now) }
+{
+    if prefix.len() + rest.len() != other.len() + last.len() {
+        return false;
+    }
+    if prefix.len() <= other.len() {
+        same_from(prefix, rest, other, last)
+    } else {
+        same_from(other, last, prefix, rest)
+    }
 }
 
 /// The bytes of two slices, eight at most, in one.
@@ -59,13 +74,29 @@ fn write_across<H: Hasher>(left: &[u8], rest: &[u8], state: &mut H)
     state.write(end);
 }
 
+/// Writes a name to a hash, the second slice after the first.
+fn write_both<H: Hasher>(first: &[u8], rest: &[u8], state: &mut H)
+    ensures { state.new ≡ fold H.write state.old (eights (first.now ++ rest.now)) }
+{
+    let left = write_eights(first, state);
+    if left.is_empty() {
+        let end = write_eights(rest, state);
+        state.write(end);
+    } else {
+        write_across(left, rest, state);
+    }
+}
+
 impl<'a> NameParts<'a> {
     /// A name of these parts.
     #[inline]
-    pub fn new(prefix: &'a [u8], rest: &'a [u8]) -> NameParts<'a>
+    pub fn new(prefix: &'a Prefix, rest: &'a [u8]) -> NameParts<'a>
         ensures { whole result ≡ prefix.now ++ rest.now }
     {
-        NameParts { prefix, rest }
+        NameParts {
+            prefix: Some(prefix),
+            rest,
+        }
     }
 
     /// A name of these bytes.
@@ -74,8 +105,19 @@ impl<'a> NameParts<'a> {
         ensures { whole result ≡ bytes.now }
     {
         NameParts {
-            prefix: b"",
+            prefix: None,
             rest: bytes,
+        }
+    }
+
+    /// The bytes with which the name begins.
+    #[inline]
+    fn front(self) -> &'a [u8]
+        ensures { result.now ≡ front self.entry }
+    {
+        match self.prefix {
+            None => b"",
+            Some(prefix) => prefix.bytes(),
         }
     }
 
@@ -83,7 +125,7 @@ impl<'a> NameParts<'a> {
     pub fn push_to(self, out: &mut Vec<u8>) -> Result<(), AllocError>
         ensures { OnOk result (out.new.items ≡ out.old.items ++ whole self.entry) }
     {
-        out.extend_from_slice(self.prefix)?;
+        out.extend_from_slice(self.front())?;
         out.extend_from_slice(self.rest)?;
         Ok(())
     }
@@ -104,14 +146,7 @@ impl<'a> PartialEq for NameParts<'a> {
     ghost laws = { on_per whole (partial_equiv_from_equiv nat_list_eq_equiv) };
 
     fn eq(&self, other: &Self) -> bool {
-        if self.prefix.len() + self.rest.len() != other.prefix.len() + other.rest.len() {
-            return false;
-        }
-        if self.prefix.len() <= other.prefix.len() {
-            same_from(self.prefix, self.rest, other.prefix, other.rest)
-        } else {
-            same_from(other.prefix, other.rest, self.prefix, self.rest)
-        }
+        are_same(self.front(), self.rest, other.front(), other.rest)
     }
 }
 
@@ -125,12 +160,6 @@ impl<'a> Hash for NameParts<'a> {
     ghost respects_eq = { λ x y. same_eights (whole x) (whole y) };
 
     fn hash<H: Hasher>(&self, state: &mut H) {
-        let left = write_eights(self.prefix, state);
-        if left.is_empty() {
-            let end = write_eights(self.rest, state);
-            state.write(end);
-        } else {
-            write_across(left, self.rest, state);
-        }
+        write_both(self.front(), self.rest, state);
     }
 }

@@ -2,7 +2,7 @@ ghost use Rattle.std.specs.Prelude.{◌≡◌, ◌<◌, ◌^◌, List, ℕ, leng
 ghost use Rattle.name_numbers.specs.Names.{found, with_value};
 ghost use Rattle.name_parts.specs.Parts.{whole};
 
-use crate::owned::PrefixedName;
+use crate::owned::{KeptName, PrefixedName};
 use crate::parts::NameParts;
 use indexmap::IndexMap;
 use name_numbers::TextKey;
@@ -17,7 +17,7 @@ const MOST_NAMES: usize = 4_294_967_295;
 /// is in proportion to the bytes of the name. A table with 4,294,967,295 names has no memory for a further one.
 #[derive(Drop)]
 pub struct PrefixedTable<V> {
-    table: IndexMap<PrefixedName, V, TextKey>,
+    table: IndexMap<KeptName, V, TextKey>,
 }
 
 impl<V> Model for PrefixedTable<V> {
@@ -47,7 +47,7 @@ impl<V: Drop> PrefixedTable<V> {
     pub fn find(&self, name: &PrefixedName) -> Option<(u32, &V)>
         ensures { option_map (λ f. (f.0, f.1.now)) result ≡ found name.now self.now }
     {
-        match self.table.get_full(name) {
+        match self.table.get_full(name.parts()) {
             None => None,
             Some((number, _, value)) => Some((number as u32, value)),
         }
@@ -64,14 +64,14 @@ impl<V: Drop> PrefixedTable<V> {
     }
 
     /// Gives a name its value, in the place of the one that it has.
-    pub fn set(&mut self, name: PrefixedName, value: V) -> Result<(), AllocError>
-        ensures given { OnOk result (self.new ≡ with_value name value self.old) }
+    pub fn set(&mut self, alloc: Global, name: &PrefixedName, value: V) -> Result<(), AllocError>
+        ensures given { OnOk result (self.new ≡ with_value name.now value self.old) }
         ensures unchanged { OnErr result (self.new ≡ self.old) }
     {
         if self.table.len() >= MOST_NAMES {
             return Err(AllocError);
         }
-        self.table.insert(name, value)?;
+        self.table.insert(name.kept(alloc)?, value)?;
         Ok(())
     }
 

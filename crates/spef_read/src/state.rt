@@ -258,7 +258,7 @@ impl<'a> Progress<'a> {
             return Ok(Name { number });
         }
         let number = self.names.len();
-        self.names.set(self.made.copied(alloc)?, None)?;
+        self.names.set(alloc, &self.made, None)?;
         Ok(Name { number })
     }
 
@@ -280,7 +280,7 @@ impl<'a> Progress<'a> {
         let Ok(net) = u32::try_from(self.nets.len()) else {
             return Err(Stop::NoMemory);
         };
-        self.names.set(self.made.copied(alloc)?, Some(net))?;
+        self.names.set(alloc, &self.made, Some(net))?;
         self.net = Name { number };
         Ok(())
     }

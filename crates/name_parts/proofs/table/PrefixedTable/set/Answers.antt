@@ -4,5 +4,5 @@ use Rattle.name_parts.proofs.table.PrefixedTable.set.Goals as goal
 
 pub returns-clause-given : goal.returns-clause-given
 returns-clause-given g c =
-    let k = ap (map (named (λ k. k))) c.in_ok-insert.ensures.entries ∙ value_mapped (λ k. k) c.self.inside.table.entries c.args.name c.args.value in
-    k ∙ rw c.self.view_is refl
+    let k = ap (map (named (λ k. k))) c.in_ok-insert.ensures.entries ∙ value_mapped (λ k. k) c.self.inside.table.entries _ c.args.value in
+    k ∙ rw (c.in_ok-kept.ensures, c.self.view_is) refl
