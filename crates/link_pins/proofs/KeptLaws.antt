@@ -1,11 +1,11 @@
 -- The related pins that are kept for the pins of a cell, one pin after another.
 use Rattle.std.proofs.Common.{◌≡◌, ◌≢◌, ℕ, zero, suc, ◌+◌, ◌<◌, ◌≤◌, Bool, true, false, cond, List, [], ◌∷◌, ◌++◌, length, map, take, set, get_or, Some, refl, ap, sym, ◌∙◌, subst, arith, inl, inr, ◌⊎◌}
-use Rattle.std.specs.Prelude.{Option, None, Result, Ok, Err, IfOk, is_some, flat_map, filter_map, option_map, option_and_then}
-use Rattle.std.specs.List.{cons_option, slice_get, sum_by}
+use Rattle.std.specs.Prelude.{Option, None, IsSome, Result, Ok, Err, IfOk, is_some, flat_map, filter_map, option_map, option_and_then}
+use Rattle.std.specs.List.{cons_option, slice_get}
 use Rattle.std.specs.Option.{IsSomeAnd, option_to_list}
-use Rattle.std.proofs.lemmas.List.{append-nil, map-append, length_push, take_all, take_more}
+use Rattle.std.proofs.lemmas.List.{append-nil, map-append, length_push, take_all}
 use Rattle.std.proofs.lemmas.Bool.{eq-eqb, ne_eqb}
-use Rattle.std.proofs.lemmas.List.Sums.{sum_by_push, sum_by-set}
+use Rattle.std.proofs.lemmas.List.Sums.{sum_by-set}
 use Rattle.std.proofs.lemmas.Option.{none-some, same_Some, slice_get_within, slice_get-get_or, get_or_from_slice_get}
 use Rattle.liberty_cells.specs.declared.cell.Cell.{Cell}
 use Rattle.liberty_cells.specs.declared.library.Library.{Library}
@@ -22,7 +22,7 @@ use Rattle.link_pins.specs.declared.related.CellGroups.{CellGroups}
 use Rattle.link_pins.specs.declared.related.PinCount.{PinCount}
 use Rattle.link_pins.specs.declared.related.PinGroup.{PinGroup}
 use Rattle.link_pins.specs.declared.related.RelatedPin.{RelatedPin}
-use Rattle.link_pins.specs.Related.{TimedPlace, with_timing, related_of, effect, group_related, counted, effects, IsGroup, AreGroups, AreAllGroups, group_at, AreKept}
+use Rattle.link_pins.specs.Related.{TimedPlace, with_timing, related_of, effect, group_related, counted, IsIndexed, IsGroup, AreGroups, AreAllGroups, group_at, AreKept}
 use Rattle.link_pins.specs.Seen.{pin_at, connected_at}
 use Rattle.link_pins.proofs.ArcLaws.{made_more}
 use Rattle.link_pins.proofs.TimingLaws.{flat_more}
@@ -104,26 +104,6 @@ count_more g old place u y more at pin count =
     by true = refl
     by false = refl
 
-pub count_first : (g : ℕ → Bool) (old new : List PinCount) (y : PinCount) → new ≡ old ++ y ∷ [] → counted g new ≡ counted g old + cond (g y.pin) y.count 0
-count_first g old new y push = ap (counted g) push ∙ sum_by_push (λ (v : PinCount). cond (g v.pin) v.count 0) old y
-
--- the next count
-pub counted_next : (g : ℕ → Bool) (cs : List PinCount) (i : ℕ) (d : PinCount) (m new : ℕ) → i < length cs → m ≡ counted g (take i cs)
-    → new ≡ m + cond (g (get_or cs i d).pin) (get_or cs i d).count 0 → new ≡ counted g (take (i + 1) cs)
-counted_next g cs i d m new lt so_far step =
-    omega (arith, step, so_far, ap (counted g) (take_more cs i d lt), sum_by_push (λ (v : PinCount). cond (g v.pin) v.count 0) (take i cs) (get_or cs i d))
-
--- a related pin more, and its effect
-pub counted_more : (role : Role) (old new : List TimedPlace) (before after : List PinCount) (t : Timing) (pin count : ℕ) → count ≡ effect role t → new ≡ old ++ (t, pin) ∷ []
-    → ((g : ℕ → Bool) → counted g after ≡ counted g before + cond (g pin) count 0) → ((g : ℕ → Bool) → counted g before ≡ effects g role old)
-    → (g : ℕ → Bool) → counted g after ≡ effects g role new
-counted_more role old new before after t pin count is related counts are g =
-    let f : TimedPlace → ℕ = λ s. cond (g s.1) (effect role s.0) 0 in
-    omega (arith, counts g, are g, ap (sum_by f) related, sum_by_push f old (t, pin), ap (λ n. cond (g pin) n 0) is)
-
-pub none_counted : (role : Role) (rs : List RelatedPin) (cs : List PinCount) → rs ≡ [] → cs ≡ [] → (g : ℕ → Bool) → counted g cs ≡ effects g role (map related_of rs)
-none_counted role rs cs related counts g = ap (counted g) counts ∙ sym (ap (λ l. effects g role (map related_of l)) related)
-
 -- a fact of what is there, where something is
 pub to_some_and : {X : Type 0} (o : Option X) (P : X → Type 0) (x : X) → o ≡ Some x → P x → IsSomeAnd o P
 to_some_and o P x e h = rw e h
@@ -154,7 +134,7 @@ module _ (c : Cell) (old new : CellGroups) (are : AreGroups c old) (place : ℕ)
                   let own : slice_get c.pins place ≡ Some p = ap (slice_get c.pins) (sym count ∙ sym e.0) ∙ pin in
                   let alike = is.alike f.0 p f.1 own in
                   let firsts : IsGroup c f.0 v = are.each first f.0 m v f.1 (there ∙ ap Some e.1) here in
-                  subst (λ (x : PinParts). IsGroup c x v) (sym alike) (record { related = firsts.related; counts = firsts.counts })
+                  subst (λ (x : PinParts). IsGroup c x v) (sym alike) (record { related = firsts.related; counts = firsts.counts; index = firsts.index })
             ];
       }
 
@@ -246,6 +226,13 @@ all_kept library made count all = record {
       let here : slice_get c.pins p.pin ≡ Some q = subst (λ (x : Cell). slice_get x.pins p.pin ≡ Some q) same y.2 in
       (all p.cell c k.cell there k.at_cell).groups.each p.pin q k.number v here k.at_pin k.at_group;
 }
+
+-- what is kept of a pin is found by place
+pub index_for : (library : Library) (cells : List CellGroups) → AreKept library cells → (p : PinOn) → IsSome (pin_at library p) → (v : PinGroup) → group_at cells p ≡ Some v → IsIndexed v
+index_for library cells kept p there v e =
+    let q = some_is (pin_at library p) there in
+    let y = pin_parts library p q.0 q.1 in
+    (kept.each p y.0 q.0 v y.1 q.1 e).index
 
 -- the group of a pin of an instance
 pub group_for : (library : Library) (cells : List CellGroups) → AreKept library cells → (netlist : Netlist) (p : PinOn) (d : Connected) → connected_at library netlist p ≡ Some d

@@ -18,4 +18,6 @@ mod MadeLaws
 mod CountLaws
 mod RelatedLaws
 mod KeptLaws
+mod FoundLaws
+mod IndexLaws
 mod SumLaws

@@ -1,6 +1,6 @@
 -- The arcs and the check points of a pin by the places of its related pins.
 use Rattle.std.proofs.Common.{◌≡◌, ℕ, ◌+◌, ◌==◌, Bool, true, false, cond, List, [], ◌∷◌, ◌++◌, length, map, Some, refl, ap, sym, ◌∙◌, arith}
-use Rattle.std.specs.Prelude.{Option, None, is_some, flat_map, filter_map, option_map, option_and_then}
+use Rattle.std.specs.Prelude.{Option, None, is_some, filter, flat_map, filter_map, option_map, option_and_then}
 use Rattle.std.specs.List.{cons_option, slice_get, slice_index_or, sum_by}
 use Rattle.std.proofs.lemmas.List.Concat.{length-flat_map}
 use Rattle.std.proofs.lemmas.List.Sums.{sum_by-cons}
@@ -23,8 +23,8 @@ use Rattle.link_index.specs.Cells.{pin_place}
 use Rattle.link_pins.specs.declared.arcs.SinkAt.{SinkAt}
 use Rattle.link_pins.specs.declared.related.PinGroup.{PinGroup}
 use Rattle.link_pins.specs.declared.related.RelatedPin.{RelatedPin}
-use Rattle.link_pins.specs.Places.{place_of, AreEntered}
-use Rattle.link_pins.specs.Related.{TimedPlace, with_timing, related_of, effect, group_related, pin_related, AreRelated, counted, effects, IsGroup, sink_of, is_sink, arcs_of, clock_at}
+use Rattle.link_pins.specs.Places.{place_of, is_sink, AreEntered}
+use Rattle.link_pins.specs.Related.{TimedPlace, with_timing, related_of, effect, group_related, pin_related, counted, effects, IsGroup, sink_of, is_sink_at, arcs_of, clock_at}
 use Rattle.link_pins.proofs.CheckLaws.{point, by_group, check_of, flop_is}
 use Rattle.link_pins.proofs.CountLaws.{arc_some, same_count}
 use Rattle.link_pins.proofs.PlaceLaws.{same_number}
@@ -146,13 +146,24 @@ module _ (library : Library) (netlist : Netlist) (instance cell : ℕ) (at : Lis
       same_flat (timing_arcs library netlist instance) (λ t. flat_map place_arcs (group_related c roles.Output t)) group_arcs ts
       ∙ sym (flat_twice place_arcs (group_related c roles.Output) ts)
 
-  -- the arcs of an output pin are those from its related pins
-  pub arcs_related : (d : Connected) → d.instance ≡ instance → is_output d.pin.role ≡ true → (rs : List RelatedPin) → AreRelated c d.pin rs
+  -- from a related pin that is no sink there are none
+  sink_arcs : (ss : List TimedPlace) → flat_map place_arcs (filter (is_sink_at at) ss) ≡ flat_map place_arcs ss
+  sink_arcs [] = refl
+  sink_arcs (s ∷ ss) = by (slice_index_or at s.1 None) refl (sink_arcs ss)
+    where
+      by : (o : Option SinkAt) → slice_index_or at s.1 None ≡ o → flat_map place_arcs (filter (is_sink_at at) ss) ≡ flat_map place_arcs ss
+          → flat_map place_arcs (cond (is_some o) (s ∷ filter (is_sink_at at) ss) (filter (is_sink_at at) ss)) ≡ place_arcs s ++ flat_map place_arcs ss
+      by None e r = r ∙ ap (λ p. arcs_from s.0 (option_map place_of p) ++ flat_map place_arcs ss) (sym e)
+      by (Some x) e r = ap (λ l. place_arcs s ++ l) r
+
+  -- the arcs of an output pin are those from the sinks among its related pins
+  pub arcs_related : (d : Connected) → d.instance ≡ instance → is_output d.pin.role ≡ true → (rs : List RelatedPin) → map related_of rs ≡ filter (is_sink_at at) (pin_related c d.pin.role d.pin.timings)
       → flat_map (arcs_of at) rs ≡ pin_arcs library netlist d
-  arcs_related d number output rs kept =
+  arcs_related d number output rs found =
       sym (flat_map-map place_arcs related_of rs)
-      ∙ (ap (flat_map place_arcs) (kept ∙ ap (λ r. pin_related c r d.pin.timings) (output_is d.pin.role output))
-      ∙ (sym (all_arcs d.pin.timings) ∙ ap (λ n. flat_map (timing_arcs library netlist n) d.pin.timings) (sym number)))
+      ∙ (ap (flat_map place_arcs) (found ∙ ap (λ r. filter (is_sink_at at) (pin_related c r d.pin.timings)) (output_is d.pin.role output))
+      ∙ (sink_arcs (pin_related c roles.Output d.pin.timings)
+      ∙ (sym (all_arcs d.pin.timings) ∙ ap (λ n. flat_map (timing_arcs library netlist n) d.pin.timings) (sym number))))
 
   -- and there are as many as are counted for them
   arcs_at_place : (s : TimedPlace) → cond (is_sink at s.1) (effect roles.Output s.0) 0 ≡ length (place_arcs s)
@@ -221,12 +232,31 @@ module _ (library : Library) (netlist : Netlist) (instance cell : ℕ) (at : Lis
         same_flat (by_group library netlist d) (λ t. filter_map place_check (group_related c roles.Input t)) group_points ts
         ∙ sym (filter_flat place_check (group_related c roles.Input) ts)
 
-    -- the check points of an input pin are those against its related pins
-    pub checks_related : is_input d.pin.role ≡ true → (rs : List RelatedPin) → AreRelated c d.pin rs → filter_map (check_of library netlist d datum at) rs ≡ pin_checks library netlist d
-    checks_related input rs kept =
+    -- against a related pin that is no sink there is none
+    sink_checks : (ss : List TimedPlace) → filter_map place_check (filter (is_sink_at at) ss) ≡ filter_map place_check ss
+    sink_checks [] = refl
+    sink_checks (s ∷ ss) = by (slice_index_or at s.1 None) refl (sink_checks ss)
+      where
+        none : (side : Option Bool) → option_map (λ (x : Bool × SinkAt). point library netlist d s.0 x.0 datum x.1) (option_and_then (λ (hold : Bool). option_and_then (λ (k : SinkAt). Some (hold, k)) None) side) ≡ None
+        none None = refl
+        none (Some hold) = refl
+
+        by : (o : Option SinkAt) → slice_index_or at s.1 None ≡ o → filter_map place_check (filter (is_sink_at at) ss) ≡ filter_map place_check ss
+            → filter_map place_check (cond (is_some o) (s ∷ filter (is_sink_at at) ss) (filter (is_sink_at at) ss)) ≡ cons_option (place_check s) (filter_map place_check ss)
+        by None e r =
+            r
+            ∙ ap (λ q. cons_option q (filter_map place_check ss))
+            (sym (ap (λ p. option_map (λ (x : Bool × SinkAt). point library netlist d s.0 x.0 datum x.1) (option_and_then (λ (hold : Bool). option_and_then (λ (k : SinkAt). Some (hold, k)) p) (side_of s.0.kind))) e ∙ none (side_of s.0.kind)))
+        by (Some x) e r = ap (cons_option (place_check s)) r
+
+    -- the check points of an input pin are those against the sinks among its related pins
+    pub checks_related : is_input d.pin.role ≡ true → (rs : List RelatedPin) → map related_of rs ≡ filter (is_sink_at at) (pin_related c d.pin.role d.pin.timings)
+        → filter_map (check_of library netlist d datum at) rs ≡ pin_checks library netlist d
+    checks_related input rs found =
         sym (filter_mapped place_check related_of rs)
-        ∙ (ap (filter_map place_check) (kept ∙ ap (λ r. pin_related c r d.pin.timings) (input_is d.pin.role input))
-        ∙ (sym (all_points d.pin.timings) ∙ ap (λ b. cond b (flat_map (by_group library netlist d) d.pin.timings) []) (sym input)))
+        ∙ (ap (filter_map place_check) (found ∙ ap (λ r. filter (is_sink_at at) (pin_related c r d.pin.timings)) (input_is d.pin.role input))
+        ∙ (sink_checks (pin_related c roles.Input d.pin.timings)
+        ∙ (sym (all_points d.pin.timings) ∙ ap (λ b. cond b (flat_map (by_group library netlist d) d.pin.timings) []) (sym input))))
 
     -- and there are as many as are counted for them
     check_at_place : (s : TimedPlace) → cond (is_sink at s.1) (effect roles.Input s.0) 0 ≡ cond (is_some (place_check s)) 1 0

@@ -1,7 +1,7 @@
 -- The sinks that the pins of one instance are, by the places of the pins in its cell.
 use Rattle.std.specs.Prelude.{◌≡◌, ◌≢◌, ℕ, ◌<◌, ◌≤◌, Bool, true, false, ◌&&◌, ◌⊎◌, List, length, set}
-use Rattle.std.specs.Prelude.{Option, Some, None, is_none, if◌then◌else◌}
-use Rattle.std.specs.List.{All, slice_get, slice_index, slice_index_or}
+use Rattle.std.specs.Prelude.{Option, Some, None, is_none, is_some, if◌then◌else◌}
+use Rattle.std.specs.List.{All, Contains, slice_get, slice_index, slice_index_or}
 use Rattle.xt_model.specs.Options.{◌>>=◌}
 use Rattle.name_numbers.specs.Names.{Text}
 use Rattle.liberty_cells.specs.declared.cell.Cell.{Cell}
@@ -12,6 +12,7 @@ use Rattle.verilog_net.specs.declared.netlist.Netlist.{Netlist}
 use Rattle.link_rules.specs.Arcs.{Place, sink_at}
 use Rattle.link_rules.specs.Pins.{is_input}
 use Rattle.link_index.specs.Cells.{cell_place, pin_place}
+use Rattle.link_pins.specs.declared.arcs.Places.{Places}
 use Rattle.link_pins.specs.declared.arcs.SinkAt.{SinkAt}
 use Rattle.link_pins.specs.declared.pins.PinOn.{PinOn}
 use Rattle.link_pins.specs.Seen.{pin_at}
@@ -36,6 +37,15 @@ pub record AreEntered (library : Library) (netlist : Netlist) (instance cell : �
 -- there is room for the pins of each cell
 abbrev pub HasRoom : Library → List (Option SinkAt) → Type 0
 HasRoom library at = All (λ c. length c.pins ≤ length at) library.cells
+
+-- whether a sink is entered at a place
+abbrev pub is_sink : List (Option SinkAt) → ℕ → Bool
+is_sink at k = is_some (slice_index_or at k None)
+
+-- the places at which sinks are entered are listed, and no others
+pub record AreListed (p : Places) : Type 0 where
+  pub each : (i k : ℕ) → slice_get p.pins.items i ≡ Some k → is_sink p.at.items k ≡ true
+  pub all : (k : ℕ) → is_sink p.at.items k ≡ true → Contains p.pins.items k
 
 -- nothing is entered
 abbrev pub IsClear : List (Option SinkAt) → Type 0

@@ -1,7 +1,9 @@
 -- The related pins of timing groups, by their places in the cell.
-use Rattle.std.specs.Prelude.{◌≡◌, ℕ, ◌<◌, ◌==◌, Bool, List, [], length, map, flat_map, filter_map}
-use Rattle.std.specs.Prelude.{Option, Some, None, IsSome, is_some, option_map, if◌then◌else◌}
-use Rattle.std.specs.List.{slice_get, slice_index_or, sum_by}
+use Rattle.std.specs.Prelude.{◌≡◌, ℕ, suc, ◌<◌, ◌==◌, Bool, List, [], ◌∷◌, length, map, filter, flat_map, filter_map}
+use Rattle.std.specs.Prelude.{Option, Some, IsSome, is_some, None, option_map, if◌then◌else◌}
+use Rattle.std.specs.List.{Contains, slice_get, slice_index_or, sum_by}
+use Rattle.std.specs.List.Sorted.{IsStrictlyIncreasing}
+use Rattle.std.specs.Option.{IsSomeAnd}
 use Rattle.xt_model.specs.Options.{◌>>=◌}
 use Rattle.xt_model.specs.declared.net.TimingArc.{TimingArc}
 use Rattle.liberty_cells.specs.declared.cell.Cell.{Cell}
@@ -19,7 +21,7 @@ use Rattle.link_pins.specs.declared.related.CellGroups.{CellGroups}
 use Rattle.link_pins.specs.declared.related.PinCount.{PinCount}
 use Rattle.link_pins.specs.declared.related.PinGroup.{PinGroup}
 use Rattle.link_pins.specs.declared.related.RelatedPin.{RelatedPin}
-use Rattle.link_pins.specs.Places.{place_of}
+use Rattle.link_pins.specs.Places.{place_of, is_sink}
 use Rattle.link_pins.specs.Seen.{pin_at}
 
 -- a timing group with the place in its cell of a pin that it is related to
@@ -61,10 +63,49 @@ effects g role rs = sum_by (λ s. if g s.1 then effect role s.0 else 0) rs
 abbrev pub IsCounted : Role → PinGroup → Type 0
 IsCounted role v = (g : ℕ → Bool) → counted g v.counts.items ≡ effects g role (map related_of v.related.items)
 
+-- the places of the elements that pass a test, where the first is at place n
+abbrev pub places_of : {X : Type 0} → (X → Bool) → ℕ → List X → List ℕ
+places_of t n [] = []
+places_of t n (x ∷ xs) = if t x then n ∷ places_of t (suc n) xs else places_of t (suc n) xs
+
+-- counts of these pins, in order
+abbrev pub ArePinsOf : List PinCount → List ℕ → Type 0
+ArePinsOf counts pins = map (λ u. u.pin) counts ≡ pins
+
+-- nothing is counted
+abbrev pub IsUncounted : PinCount → Type 0
+IsUncounted u = (u.count ≡ 0) × (u.places.items ≡ [])
+
+-- a place among the related pins is among those of a pin's count
+pub record HasPlace (counts : List PinCount) (own i : ℕ) : Type 0 where
+  pub at : ℕ
+  pub count : PinCount
+  pub there : slice_get counts at ≡ Some count
+  pub same : count.pin ≡ own
+  pub place : Contains count.places.items i
+
+-- each related pin has its place among those of its pin's count, and no place is among those of another's
+pub record ArePlaced (rs : List RelatedPin) (pins : List ℕ) (counts : List PinCount) : Type 0 where
+  pub same : ArePinsOf counts pins
+  pub places : (i : ℕ) (r : RelatedPin) → slice_get rs i ≡ Some r → HasPlace counts r.pin i
+  pub none : (k i : ℕ) (u : PinCount) → slice_get counts k ≡ Some u → Contains u.places.items i
+      → IsSomeAnd (slice_get rs i) (λ r. r.pin ≡ u.pin)
+
+-- these are the counts of related pins, and their places
+pub record HaveCounts (role : Role) (rs : List RelatedPin) (pins : List ℕ) (counts : List PinCount) : Type 0 where
+  pub sums : (g : ℕ → Bool) → counted g counts ≡ effects g role (map related_of rs)
+  pub placed : ArePlaced rs pins counts
+
+-- the pins of a group in order, and the places of its related pins
+pub record IsIndexed (v : PinGroup) : Type 0 where
+  pub rising : IsStrictlyIncreasing v.pins.items
+  pub placed : ArePlaced v.related.items v.pins.items v.counts.items
+
 -- the related pins of a pin, and their counts
 pub record IsGroup (c : Cell) (p : PinParts) (v : PinGroup) : Type 0 where
   pub related : AreRelated c p v.related.items
   pub counts : IsCounted p.role v
+  pub index : IsIndexed v
 
 -- for each of the first pins of a cell a group that is there, which is that of the pin
 pub record AreGroups (c : Cell) (g : CellGroups) : Type 0 where
@@ -100,9 +141,14 @@ sink_of at k = option_map place_of (slice_index_or at k None)
 abbrev pub arcs_of : List (Option SinkAt) → RelatedPin → List TimingArc
 arcs_of at r = arcs_from r.timing.now (sink_of at r.pin)
 
--- whether a sink is entered at a place
-abbrev pub is_sink : List (Option SinkAt) → ℕ → Bool
-is_sink at k = is_some (slice_index_or at k None)
+-- whether a related pin is a sink that is entered
+abbrev pub is_sink_at : List (Option SinkAt) → TimedPlace → Bool
+is_sink_at at s = is_sink at s.1
+
+-- those of the related pins of a pin that are sinks
+abbrev pub AreFound : Library → List (Option SinkAt) → PinOn → List RelatedPin → Type 0
+AreFound library at p rs = (c : Cell) (q : PinParts) → slice_get library.cells p.cell ≡ Some c
+    → pin_at library p ≡ Some q → map related_of rs ≡ filter (is_sink_at at) (pin_related c q.role q.timings)
 
 -- whether a check against a related pin is one of hold, and the sink that the pin is
 abbrev pub clock_at : List (Option SinkAt) → TimedPlace → Option (Bool × SinkAt)

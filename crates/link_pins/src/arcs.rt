@@ -1,10 +1,11 @@
 //! The timing arcs of output pins.
 
-ghost use Rattle.std.specs.Prelude.{◌≡◌, ◌<◌, ◌≤◌, ◌++◌, length, flat_map, option_map, Some, None, IsSome, IfOk, OnOk};
+ghost use Rattle.std.specs.Prelude.{◌≡◌, ◌<◌, ◌≤◌, ◌++◌, length, set, flat_map, option_map};
+ghost use Rattle.std.specs.Prelude.{Some, None, IsSome, IfOk, OnOk};
 ghost use Rattle.std.specs.List.{All, slice_index_or};
 ghost use Rattle.link_rules.specs.Arcs.{Place, edge_pairs, tables_at, arcs_from};
 ghost use Rattle.link_pins.specs.Places.{place_of, entered, with_pin, AreEntries, AreThose};
-ghost use Rattle.link_pins.specs.Places.{IsClear, HasRoom};
+ghost use Rattle.link_pins.specs.Places.{IsClear, HasRoom, AreListed};
 ghost use Rattle.link_pins.specs.Related.{arcs_of};
 ghost use Rattle.link_pins.specs.Seen.{pin_at};
 
@@ -22,10 +23,11 @@ pub struct SinkAt {
     pub sink: u32,
 }
 
-/// The sinks that the input pins of one instance are, by the places of the pins in the cell.
+/// The sinks that the input pins of one instance are, by the places of the pins in the cell, and these places.
 #[derive(Drop)]
 pub struct Places {
     at: Vec<Option<SinkAt>>,
+    pins: Vec<usize>,
 }
 
 /// The pairs of edges of an input and of an output that a timing group has arcs for.
@@ -69,26 +71,42 @@ impl Places {
     pub fn new(alloc: Global, size: usize) -> Result<Places, AllocError>
         ensures count { IfOk result (λ p. length p.at.items ≡ size) }
         ensures clear { IfOk result (λ p. IsClear p.at.items) }
+        ensures listed { IfOk result AreListed }
     {
         Ok(Places {
             at: vec![in alloc; None; size]?,
+            pins: Vec::new(alloc),
         })
     }
 
+    /// Enters a sink at a place.
+    fn put(&mut self, pin: usize, sink: SinkAt) -> Result<(), AllocError>
+        requires room { pin < length self.now.at.items }
+        ensures sinks { OnOk result (self.new.at.items ≡ set self.old.at.items pin (Some sink)) }
+        ensures listed { OnOk result (AreListed self.old → AreListed self.new) }
+    {
+        self.pins.push(pin)?;
+        self.at[pin] = Some(sink);
+        Ok(())
+    }
+
     /// Enters a pin with its place, where it is an input pin; of two of one name the first stays.
-    fn add<'a>(&mut self, cells: &CellIndex<'a>, pin: PinOn, place: u32)
+    fn add<'a>(&mut self, cells: &CellIndex<'a>, pin: PinOn, place: u32) -> Result<(), AllocError>
         requires there { IsSome (pin_at cells.now pin) }
         requires room { pin.pin < length self.now.at.items }
-        ensures { self.new.at.items ≡ with_pin cells.now pin place self.old.at.items }
+        ensures sinks { OnOk result (self.new.at.items ≡ with_pin cells.now pin place self.old.at.items) }
+        ensures listed { OnOk result (AreListed self.old → AreListed self.new) }
     {
         if pin.is_input(cells) {
             if self.at[pin.pin].is_none() {
-                self.at[pin.pin] = Some(SinkAt {
+                let sink = SinkAt {
                     net: pin.net,
                     sink: place,
-                });
+                };
+                self.put(pin.pin, sink)?;
             }
         }
+        Ok(())
     }
 
     /// Enters the input pins among those of one instance, which are from one place to before another; of two of one
@@ -100,19 +118,21 @@ impl Places {
         places: &[u32],
         from: usize,
         to: usize,
-    )
+    ) -> Result<(), AllocError>
         requires order { from ≤ to }
         requires within { to ≤ length pins.now }
         requires places { length places.now ≡ length pins.now }
         requires there { All (λ p. IsSome (pin_at cells.now p)) pins.now }
         requires room { HasRoom cells.now self.now.at.items }
         requires clear { IsClear self.now.at.items }
-        ensures count { length self.new.at.items ≡ length self.old.at.items }
-        ensures entries { AreEntries cells.now pins.now places.now from to self.new.at.items }
+        ensures count { OnOk result (length self.new.at.items ≡ length self.old.at.items) }
+        ensures entries { OnOk result (AreEntries cells.now pins.now places.now from to self.new.at.items) }
+        ensures listed { OnOk result (AreListed self.old → AreListed self.new) }
     {
         for k in from..to {
-            self.add(cells, pins[k], places[k]);
+            self.add(cells, pins[k], places[k])?;
         }
+        Ok(())
     }
 
     /// Forgets the pins that are from one place to before another.
@@ -123,10 +143,19 @@ impl Places {
         requires those { AreThose pins.now from to self.now.at.items }
         ensures count { length self.new.at.items ≡ length self.old.at.items }
         ensures clear { IsClear self.new.at.items }
+        ensures listed { AreListed self.new }
     {
         for k in from..to {
             self.at[pins[k].pin] = None;
         }
+        self.pins.clear();
+    }
+
+    /// The places at which sinks are entered.
+    pub fn pins(&self) -> &[usize]
+        ensures { result.now ≡ self.now.pins.items }
+    {
+        &self.pins
     }
 
     /// The sink that the input pin at a place is.

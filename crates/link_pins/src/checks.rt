@@ -6,13 +6,13 @@ ghost use Rattle.sdc_read.specs.Ports.{port_at};
 ghost use Rattle.link_rules.specs.Checks.{side_of, pin_checks, side_check, set_checks};
 ghost use Rattle.link_rules.specs.Pins.{Connected};
 ghost use Rattle.link_pins.specs.Places.{AreEntered, HasRoom};
-ghost use Rattle.link_pins.specs.Related.{clock_of, AreKept};
+ghost use Rattle.link_pins.specs.Related.{clock_of, AreFound};
 ghost use Rattle.link_pins.specs.Seen.{HasShortNames, connected_at};
 
 use crate::arcs::{Places, SinkAt};
 use crate::bits::BitAt;
 use crate::pins::PinOn;
-use crate::related::{Related, RelatedPin};
+use crate::related::RelatedPin;
 use crate::sinks::end_of;
 use liberty_cells::TimingKind;
 use link_index::{CellIndex, NetIndex};
@@ -40,19 +40,19 @@ fn clock_of(one: &RelatedPin<'_>, places: &Places) -> Option<(bool, SinkAt)>
     Some((hold, clock))
 }
 
-/// Adds the check points of an input pin against its related pins in order.
+/// Adds the check points of an input pin against those of its related pins that are sinks, in order.
 pub fn add_pin_checks<'a>(
     alloc: Global,
     cells: &CellIndex<'a>,
     nets: &NetIndex<'a>,
-    related: &Related<'a>,
+    related: &[RelatedPin<'a>],
     places: &Places,
     pin: PinOn,
     checks: &mut Vec<CheckPoint>,
 ) -> Result<(), AllocError>
     requires there { IsSome (connected_at cells.now nets.now pin) }
     requires short { IfSome (connected_at cells.now nets.now pin) HasShortNames }
-    requires related { AreKept cells.now related.now.cells.items }
+    requires found { AreFound cells.now places.now.at.items pin related.now }
     requires room { HasRoom cells.now places.now.at.items }
     ensures { OnOk result
         ((c : Connected) → connected_at cells.now nets.now pin ≡ Some c
@@ -66,7 +66,7 @@ pub fn add_pin_checks<'a>(
     let Some(datum) = places.find(cells, pin.cell, part.name().bytes()) else {
         return Ok(());
     };
-    for one in related.group(pin).related.as_slice() {
+    for one in related {
         if let Some((hold, clock)) = clock_of(one, places) {
             checks.push(CheckPoint::Flop {
                 name: end_of(alloc, cells, nets, pin)?.into_name(),

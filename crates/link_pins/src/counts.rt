@@ -7,14 +7,14 @@ ghost use Rattle.verilog_net.specs.declared.netlist.Netlist.{Netlist};
 ghost use Rattle.link_rules.specs.Checks.{pin_checks};
 ghost use Rattle.link_rules.specs.Pins.{Connected, pins as pins_of};
 ghost use Rattle.link_pins.specs.Joined.{arc_count, AreCounted};
-ghost use Rattle.link_pins.specs.Places.{AreEntered, HasRoom, IsPlaced};
-ghost use Rattle.link_pins.specs.Related.{counted, is_sink, AreKept};
+ghost use Rattle.link_pins.specs.Places.{AreEntered, AreListed, HasRoom, IsPlaced};
+ghost use Rattle.link_pins.specs.Related.{AreKept};
 ghost use Rattle.link_pins.specs.Rows.{ArePlaces};
 ghost use Rattle.link_pins.specs.Seen.{ArePins, pin_at, connected_at};
 
 use crate::arcs::Places;
 use crate::pins::PinOn;
-use crate::related::{PinGroup, Related};
+use crate::related::Related;
 use crate::timings::{most_pins, same_instance};
 use link_index::{CellIndex, NetIndex};
 use std::alloc::{AllocError, Global};
@@ -36,21 +36,9 @@ pub fn plus(a: u128, b: u128) -> Result<u128, AllocError>
     }
 }
 
-/// How many arcs or check points there are from the related pins of a group that are sinks of nets.
-fn count_sinks(group: &PinGroup<'_>, places: &Places) -> Result<u128, AllocError>
-    ensures { IfOk result (λ n. n ≡ counted (is_sink places.now.at.items) group.now.counts.items) }
-{
-    let mut count = 0;
-    for one in group.counts.as_slice() {
-        if places.sink(one.pin).is_some() {
-            count = plus(count, one.count)?;
-        }
-    }
-    Ok(count)
-}
-
 /// How many arcs a pin has into its net.
 fn arcs_at<'a>(
+    alloc: Global,
     cells: &CellIndex<'a>,
     related: &Related<'a>,
     places: &Places,
@@ -58,18 +46,20 @@ fn arcs_at<'a>(
 ) -> Result<u128, AllocError>
     requires there { IsSome (pin_at cells.now pin) }
     requires related { AreKept cells.now related.now.cells.items }
+    requires listed { AreListed places.now }
     ensures { IfOk result
         (λ n. (netlist : Netlist) (c : Connected) → connected_at cells.now netlist pin ≡ Some c
         → AreEntered cells.now netlist pin.instance pin.cell places.now.at.items → n ≡ arc_count cells.now netlist c) }
 {
     if pin.is_output(cells) {
-        return count_sinks(related.group(pin), places);
+        return related.group(pin).count(alloc, places);
     }
     Ok(0)
 }
 
 /// How many check points a pin has.
 fn checks_at<'a>(
+    alloc: Global,
     cells: &CellIndex<'a>,
     related: &Related<'a>,
     places: &Places,
@@ -77,6 +67,7 @@ fn checks_at<'a>(
 ) -> Result<u128, AllocError>
     requires there { IsSome (pin_at cells.now pin) }
     requires related { AreKept cells.now related.now.cells.items }
+    requires listed { AreListed places.now }
     requires room { HasRoom cells.now places.now.at.items }
     ensures { IfOk result
         (λ n. (netlist : Netlist) (c : Connected) → connected_at cells.now netlist pin ≡ Some c
@@ -89,7 +80,7 @@ fn checks_at<'a>(
     }
     match places.find(cells, pin.cell, part.name().bytes()) {
         None => Ok(0),
-        Some(_) => count_sinks(related.group(pin), places),
+        Some(_) => related.group(pin).count(alloc, places),
     }
 }
 
@@ -97,6 +88,7 @@ impl Counts {
     /// Adds the arcs and the check points of a pin.
     fn add<'a>(
         &mut self,
+        alloc: Global,
         cells: &CellIndex<'a>,
         related: &Related<'a>,
         places: &Places,
@@ -104,14 +96,15 @@ impl Counts {
     ) -> Result<(), AllocError>
         requires there { IsSome (pin_at cells.now pin) }
         requires related { AreKept cells.now related.now.cells.items }
+        requires listed { AreListed places.now }
         requires room { HasRoom cells.now places.now.at.items }
         ensures { OnOk result
             ((netlist : Netlist) (done : List Connected) (c : Connected) → connected_at cells.now netlist pin ≡ Some c
             → AreEntered cells.now netlist pin.instance pin.cell places.now.at.items
             → AreCounted cells.now netlist done self.old → AreCounted cells.now netlist (done ++ c ∷ []) self.new) }
     {
-        self.arcs = plus(self.arcs, arcs_at(cells, related, places, pin)?)?;
-        self.checks = plus(self.checks, checks_at(cells, related, places, pin)?)?;
+        self.arcs = plus(self.arcs, arcs_at(alloc, cells, related, places, pin)?)?;
+        self.checks = plus(self.checks, checks_at(alloc, cells, related, places, pin)?)?;
         Ok(())
     }
 }
@@ -135,9 +128,9 @@ pub fn counts_of<'a>(
     let mut from = 0;
     'instances: while from < pins.len() {
         let to = same_instance(pins, from);
-        places.enter(cells, pins, sinks, from, to);
+        places.enter(cells, pins, sinks, from, to)?;
         for k in from..to {
-            counts.add(cells, &related, &places, pins[k])?;
+            counts.add(alloc, cells, &related, &places, pins[k])?;
         }
         places.clear(pins, from, to);
         from = to;

@@ -7,6 +7,7 @@ mod bits;
 mod checks;
 mod counts;
 mod drivers;
+mod found;
 mod given;
 mod instances;
 mod joined;

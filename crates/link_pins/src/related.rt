@@ -1,13 +1,13 @@
 //! The related pins of timing groups, found by name once for a cell.
 
-ghost use Rattle.std.specs.Prelude.{◌≡◌, ◌+◌, ◌<◌, ◌∷◌, ◌++◌, [], ℕ, Bool, length, map, filter_map, if◌then◌else◌};
-ghost use Rattle.std.specs.Prelude.{Some, IsSome, IfSome, IfOk, OnOk};
-ghost use Rattle.std.specs.List.{slice_get};
-ghost use Rattle.std.specs.Option.{IsSomeAnd};
+ghost use Rattle.std.specs.Prelude.{◌≡◌, ◌+◌, ◌<◌, ◌∷◌, ◌++◌, [], length, map, filter_map};
+ghost use Rattle.std.specs.Prelude.{Some, IsSome, IfOk, OnOk};
+ghost use Rattle.std.specs.List.{All, Contains, slice_get};
+ghost use Rattle.std.specs.List.Sorted.{IsStrictlyIncreasing};
 ghost use Rattle.liberty_cells.specs.declared.cell.Cell.{Cell};
 ghost use Rattle.link_index.specs.Cells.{pin_place};
-ghost use Rattle.link_pins.specs.Related.{effect, with_timing, related_of, counted, IsCounted, IsGroup};
-ghost use Rattle.link_pins.specs.Related.{AreGroups, AreAllGroups, group_at, AreKept};
+ghost use Rattle.link_pins.specs.Related.{effect, with_timing, related_of, AreRelated, IsUncounted, ArePinsOf};
+ghost use Rattle.link_pins.specs.Related.{HaveCounts, IsGroup, AreGroups, AreAllGroups, group_at, AreKept};
 
 use crate::arcs::arcs_each;
 use crate::checks::side_of;
@@ -18,24 +18,27 @@ use link_index::CellIndex;
 use std::alloc::{AllocError, Global};
 
 /// A timing group with the place in the cell of a pin that it is related to.
-#[derive(Drop)]
+#[derive(Clone, Copy)]
 pub struct RelatedPin<'a> {
     pub timing: &'a Timing,
     pub pin: usize,
 }
 
-/// How many arcs or check points there are from the pin at a place, however often it is related.
-#[derive(Clone, Copy)]
+/// How many arcs or check points there are from the pin at a place, however often it is related, and its places among
+/// the related pins.
+#[derive(Drop)]
 pub struct PinCount {
     pub pin: usize,
     pub count: u128,
+    pub places: Vec<u32>,
 }
 
-/// What the pins of one group of the text have in common: their related pins in order, and how many arcs or check
-/// points there are from each.
+/// What the pins of one group of the text have in common: their related pins in order, each of these pins once by its
+/// place in the cell, from the least on, and what is counted for each.
 #[derive(Drop)]
 pub struct PinGroup<'a> {
     pub related: Vec<RelatedPin<'a>>,
+    pub pins: Vec<usize>,
     pub counts: Vec<PinCount>,
 }
 
@@ -63,100 +66,123 @@ fn effect(role: Role, timing: &Timing) -> u128
     }
 }
 
-/// The place of the count of a pin, if it has one. The slot of a pin is that place, or any number.
-fn place_of_count(counts: &[PinCount], slots: &[usize], pin: usize) -> Option<usize>
-    ensures { IfSome result (λ place. IsSomeAnd (slice_get counts.now place) (λ u. u.pin ≡ pin)) }
+/// Adds the related pins of a timing group that the cell has.
+fn add_timing<'a>(
+    cells: &CellIndex<'a>,
+    cell: usize,
+    timing: &'a Timing,
+    pins: &mut Vec<RelatedPin<'a>>,
+) -> Result<(), AllocError>
+    requires { cell < length cells.now.cells }
+    ensures { OnOk result
+        ((c : Cell) → slice_get cells.now.cells cell ≡ Some c
+        → map related_of pins.new.items
+        ≡ map related_of pins.old.items
+        ++ map (with_timing timing.entry.now) (filter_map (pin_place c) timing.entry.now.related)) }
 {
-    match slots.get(pin) {
-        None => None,
-        Some(slot) => {
-            let place = *slot;
-            if place < counts.len() {
-                if counts[place].pin == pin {
-                    return Some(place);
-                }
-            }
-            None
+    for related in timing.related.as_slice() {
+        if let Some(pin) = cells.pin(cell, related.bytes()) {
+            pins.push(RelatedPin { timing, pin })?;
         }
+    }
+    Ok(())
+}
+
+/// The related pins of a pin: timing groups that have an effect in order, related pins in order.
+fn related_pins<'a>(
+    alloc: Global,
+    cells: &CellIndex<'a>,
+    cell: usize,
+    part: &'a Pin,
+) -> Result<Vec<RelatedPin<'a>>, AllocError>
+    requires { cell < length cells.now.cells }
+    ensures { IfOk result (λ v. (c : Cell) → slice_get cells.now.cells cell ≡ Some c
+        → AreRelated c part.entry.now v.items) }
+{
+    let mut pins = Vec::new(alloc);
+    for timing in part.timings() {
+        let count = effect(part.role(), timing);
+        if count != 0 {
+            add_timing(cells, cell, timing, &mut pins)?;
+        }
+    }
+    Ok(pins)
+}
+
+/// The places in the cell of related pins, each once, from the least on.
+fn pins_of(alloc: Global, related: &[RelatedPin<'_>]) -> Result<Vec<usize>, AllocError>
+    ensures rising { IfOk result (λ v. IsStrictlyIncreasing v.items) }
+    ensures all { IfOk result (λ v. All (λ r. Contains v.items r.pin) related.now) }
+{
+    let mut pins = Vec::with_capacity(alloc, related.len())?;
+    for one in related {
+        pins.push(one.pin)?;
+    }
+    pins.sort_unstable();
+    pins.dedup();
+    pins.shrink_to_fit();
+    Ok(pins)
+}
+
+/// A count of nothing for each of these pins.
+fn no_counts(alloc: Global, pins: &[usize]) -> Result<Vec<PinCount>, AllocError>
+    ensures pins { IfOk result (λ v. ArePinsOf v.items pins.now) }
+    ensures none { IfOk result (λ v. All IsUncounted v.items) }
+{
+    let mut counts = Vec::with_capacity(alloc, pins.len())?;
+    for pin in pins {
+        counts.push(PinCount {
+            pin: *pin,
+            count: 0,
+            places: Vec::new(alloc),
+        })?;
+    }
+    Ok(counts)
+}
+
+impl PinCount {
+    /// Counts a related pin at this place, from which there are so many arcs or check points.
+    fn add(&mut self, count: u128, place: u32) -> Result<(), AllocError>
+        ensures pin { OnOk result (self.new.pin ≡ self.old.pin) }
+        ensures count { OnOk result (self.new.count ≡ self.old.count + count) }
+        ensures places { OnOk result (self.new.places.items ≡ self.old.places.items ++ place ∷ []) }
+    {
+        self.count = plus(self.count, count)?;
+        self.places.push(place)?;
+        Ok(())
     }
 }
 
-/// Adds to the count of a pin.
-fn add_count(
-    counts: &mut Vec<PinCount>,
-    slots: &mut [usize],
-    pin: usize,
-    count: u128,
+/// Counts related pins, by their places among these pins. There is no memory for 2^32 of them.
+fn count_pins(
+    role: Role,
+    related: &[RelatedPin<'_>],
+    pins: &[usize],
+    counts: &mut [PinCount],
 ) -> Result<(), AllocError>
-    ensures { OnOk result
-        ((g : ℕ → Bool) → counted g counts.new.items
-        ≡ counted g counts.old.items + (if g pin then count else 0)) }
+    requires rising { IsStrictlyIncreasing pins.now }
+    requires all { All (λ r. Contains pins.now r.pin) related.now }
+    requires pins { ArePinsOf counts.old pins.now }
+    requires none { All IsUncounted counts.old }
+    ensures { OnOk result (HaveCounts role related.now pins.now counts.new) }
 {
-    if let Some(place) = place_of_count(counts, slots, pin) {
-        let sum = plus(counts[place].count, count)?;
-        counts[place] = PinCount { pin, count: sum };
-        return Ok(());
+    let Ok(count) = u32::try_from(related.len()) else {
+        return Err(AllocError);
+    };
+    for place in 0..count {
+        let one = &related[place as usize];
+        let Ok(at) = pins.binary_search(&one.pin) else {
+            unreachable!()
+        };
+        counts[at].add(effect(role, one.timing), place)?;
     }
-    if let Some(slot) = slots.get_mut(pin) {
-        *slot = counts.len();
-    }
-    counts.push(PinCount { pin, count })?;
     Ok(())
 }
 
 impl<'a> PinGroup<'a> {
-    /// Adds a related pin, from which there are so many arcs or check points.
-    fn add(
-        &mut self,
-        slots: &mut [usize],
-        timing: &'a Timing,
-        pin: usize,
-        count: u128,
-    ) -> Result<(), AllocError>
-        ensures related { OnOk result
-            (map related_of self.new.related.items
-            ≡ map related_of self.old.related.items ++ (timing.entry.now, pin) ∷ []) }
-        ensures counts { OnOk result
-            ((role : Role) → count ≡ effect role timing.entry.now → IsCounted role self.old
-            → IsCounted role self.new) }
-    {
-        self.related.push(RelatedPin { timing, pin })?;
-        add_count(&mut self.counts, slots, pin, count)?;
-        Ok(())
-    }
-
-    /// Adds the related pins of a timing group that the cell has, from each of which there are so many arcs or check
-    /// points.
-    fn add_timing(
-        &mut self,
-        slots: &mut [usize],
-        cells: &CellIndex<'a>,
-        cell: usize,
-        timing: &'a Timing,
-        count: u128,
-    ) -> Result<(), AllocError>
-        requires { cell < length cells.now.cells }
-        ensures related { OnOk result
-            ((c : Cell) → slice_get cells.now.cells cell ≡ Some c
-            → map related_of self.new.related.items
-            ≡ map related_of self.old.related.items
-            ++ map (with_timing timing.entry.now) (filter_map (pin_place c) timing.entry.now.related)) }
-        ensures counts { OnOk result
-            ((role : Role) → count ≡ effect role timing.entry.now → IsCounted role self.old
-            → IsCounted role self.new) }
-    {
-        for related in timing.related.as_slice() {
-            if let Some(pin) = cells.pin(cell, related.bytes()) {
-                self.add(slots, timing, pin, count)?;
-            }
-        }
-        Ok(())
-    }
-
-    /// The group of a pin: timing groups that have an effect in order, related pins in order.
+    /// The group of a pin.
     fn of(
         alloc: Global,
-        slots: &mut [usize],
         cells: &CellIndex<'a>,
         cell: usize,
         part: &'a Pin,
@@ -164,17 +190,15 @@ impl<'a> PinGroup<'a> {
         requires { cell < length cells.now.cells }
         ensures { IfOk result (λ v. (c : Cell) → slice_get cells.now.cells cell ≡ Some c → IsGroup c part.entry.now v) }
     {
-        let mut group = PinGroup {
-            related: Vec::new(alloc),
-            counts: Vec::new(alloc),
-        };
-        for timing in part.timings() {
-            let count = effect(part.role(), timing);
-            if count != 0 {
-                group.add_timing(slots, cells, cell, timing, count)?;
-            }
-        }
-        Ok(group)
+        let related = related_pins(alloc, cells, cell, part)?;
+        let pins = pins_of(alloc, &related)?;
+        let mut counts = no_counts(alloc, &pins)?;
+        count_pins(part.role(), &related, &pins, &mut counts)?;
+        Ok(PinGroup {
+            related,
+            pins,
+            counts,
+        })
     }
 }
 
@@ -184,7 +208,6 @@ impl<'a> CellGroups<'a> {
     fn add(
         &mut self,
         alloc: Global,
-        slots: &mut [usize],
         cells: &CellIndex<'a>,
         cell: usize,
         pins: &'a CellPins,
@@ -205,7 +228,7 @@ impl<'a> CellGroups<'a> {
             return Ok(());
         }
         let number = self.groups.len();
-        let group = PinGroup::of(alloc, slots, cells, cell, &pins.as_slice()[place])?;
+        let group = PinGroup::of(alloc, cells, cell, &pins.as_slice()[place])?;
         self.groups.push(group)?;
         self.of.push(number)?;
         Ok(())
@@ -225,9 +248,8 @@ impl<'a> CellGroups<'a> {
             of: Vec::new(alloc),
         };
         let pins = &cells.library().cells.as_slice()[cell].pins;
-        let mut slots = vec![in alloc; 0; pins.len()]?;
         for place in 0..pins.len() {
-            groups.add(alloc, &mut slots, cells, cell, pins, place)?;
+            groups.add(alloc, cells, cell, pins, place)?;
         }
         Ok(groups)
     }
@@ -235,7 +257,7 @@ impl<'a> CellGroups<'a> {
 
 impl<'a> Related<'a> {
     /// The groups of all cells of a library. Takes time in proportion to their pins and to the related pins of their
-    /// timing groups, where the pins of one group of the text share these.
+    /// timing groups, where the pins of one group of the text share these, and to a sort of the latter.
     pub fn new(alloc: Global, cells: &CellIndex<'a>) -> Result<Related<'a>, AllocError>
         ensures { IfOk result (λ r. AreKept cells.now r.cells.items) }
     {

@@ -7,15 +7,15 @@ ghost use Rattle.std.specs.Option.{IsSomeAnd};
 ghost use Rattle.link_rules.specs.Bits.{bits};
 ghost use Rattle.link_rules.specs.Pins.{Connected, pins as pins_of};
 ghost use Rattle.link_rules.specs.Sound.{IsSoundNetlist};
-ghost use Rattle.link_pins.specs.Places.{AreEntered, HasRoom, IsPlaced, IsStretch};
-ghost use Rattle.link_pins.specs.Related.{AreKept};
+ghost use Rattle.link_pins.specs.Places.{AreEntered, AreListed, HasRoom, IsPlaced, IsStretch};
+ghost use Rattle.link_pins.specs.Related.{AreFound, AreKept};
 ghost use Rattle.link_pins.specs.Rows.{ArePlaces, AreTimed};
 ghost use Rattle.link_pins.specs.Seen.{ArePins, HasShortNames, connected_at};
 
 use crate::arcs::{Places, add_pin_arcs};
 use crate::checks::add_pin_checks;
 use crate::pins::PinOn;
-use crate::related::Related;
+use crate::related::{Related, RelatedPin};
 use link_index::{CellIndex, NetIndex};
 use std::alloc::{AllocError, Global};
 use xt_model::{CheckPoint, TimingArc};
@@ -64,6 +64,34 @@ pub fn most_pins<'a>(cells: &CellIndex<'a>) -> usize
 }
 
 impl Timings {
+    /// Adds the arcs and the check points of a pin from those of its related pins that are sinks.
+    fn add_found<'a>(
+        &mut self,
+        alloc: Global,
+        cells: &CellIndex<'a>,
+        nets: &NetIndex<'a>,
+        related: &[RelatedPin<'a>],
+        places: &Places,
+        pin: PinOn,
+    ) -> Result<(), AllocError>
+        requires there { IsSome (connected_at cells.now nets.now pin) }
+        requires short { IfSome (connected_at cells.now nets.now pin) HasShortNames }
+        requires net { pin.net < length self.now.nets.items }
+        requires found { AreFound cells.now places.now.at.items pin related.now }
+        requires room { HasRoom cells.now places.now.at.items }
+        ensures { OnOk result
+            ((done : List Connected) (c : Connected) → connected_at cells.now nets.now pin ≡ Some c
+            → AreEntered cells.now nets.now pin.instance pin.cell places.now.at.items
+            → AreTimed cells.now nets.now done self.old.nets.items self.old.checks.items
+            → AreTimed cells.now nets.now (done ++ c ∷ []) self.new.nets.items self.new.checks.items) }
+    {
+        add_pin_checks(alloc, cells, nets, related, places, pin, &mut self.checks)?;
+        if pin.is_output(cells) {
+            add_pin_arcs(related, places, &mut self.nets[pin.net as usize].arcs)?;
+        }
+        Ok(())
+    }
+
     /// Adds the arcs and the check points of a pin.
     fn add<'a>(
         &mut self,
@@ -78,6 +106,7 @@ impl Timings {
         requires short { IfSome (connected_at cells.now nets.now pin) HasShortNames }
         requires net { pin.net < length self.now.nets.items }
         requires related { AreKept cells.now related.now.cells.items }
+        requires listed { AreListed places.now }
         requires room { HasRoom cells.now places.now.at.items }
         ensures { OnOk result
             ((done : List Connected) (c : Connected) → connected_at cells.now nets.now pin ≡ Some c
@@ -85,15 +114,8 @@ impl Timings {
             → AreTimed cells.now nets.now done self.old.nets.items self.old.checks.items
             → AreTimed cells.now nets.now (done ++ c ∷ []) self.new.nets.items self.new.checks.items) }
     {
-        add_pin_checks(alloc, cells, nets, related, places, pin, &mut self.checks)?;
-        if pin.is_output(cells) {
-            add_pin_arcs(
-                related.group(pin).related.as_slice(),
-                places,
-                &mut self.nets[pin.net as usize].arcs,
-            )?;
-        }
-        Ok(())
+        let sinks = related.group(pin).sinks(alloc, places)?;
+        self.add_found(alloc, cells, nets, &sinks, places, pin)
     }
 }
 
@@ -136,7 +158,7 @@ pub fn timings_of<'a>(
     let mut from = 0;
     'instances: while from < pins.len() {
         let to = same_instance(pins, from);
-        places.enter(cells, pins, sinks, from, to);
+        places.enter(cells, pins, sinks, from, to)?;
         for k in from..to {
             timings.add(alloc, cells, nets, &related, &places, pins[k])?;
         }

@@ -1,4 +1,4 @@
-use Rattle.std.proofs.Common.{◌≡◌, List, ◌∷◌, [], ◌++◌, ◌∙◌, Bool, Vec, Global, Some, is_some, sym, ap}
+use Rattle.std.proofs.Common.{◌≡◌, List, ◌∷◌, [], ◌++◌, ◌∙◌, Bool, Vec, Global, Some, sym, ap}
 use Rattle.std.specs.Prelude.{Option, None, filter_map, option_map}
 use Rattle.std.specs.Option.{option_to_list}
 use Rattle.std.proofs.lemmas.List.{append-nil, take_all}
@@ -11,11 +11,10 @@ use Rattle.link_rules.specs.Arcs.{sink_at}
 use Rattle.link_rules.specs.Ends.{sink_name}
 use Rattle.link_pins.specs.declared.arcs.SinkAt.{SinkAt}
 use Rattle.link_pins.specs.Places.{place_of}
-use Rattle.link_pins.specs.Seen.{connected_at}
 use Rattle.link_pins.proofs.ArcLaws.{made_more}
-use Rattle.link_pins.proofs.PinLaws.{parts_of, some_at, some_is}
+use Rattle.link_pins.proofs.PinLaws.{parts_of, some_at}
+use Rattle.link_pins.proofs.PlaceLaws.{pin_parts}
 use Rattle.link_pins.proofs.CheckLaws.{point, check_of, no_sink}
-use Rattle.link_pins.proofs.KeptLaws.{group_for}
 use Rattle.link_pins.proofs.RelatedLaws.{checks_related}
 use Rattle.link_pins.proofs.checks.add_pin_checks.Goals as goal
 use Rattle.link_pins.proofs.checks.add_pin_checks.Goals.{in-Some-clock_of+in_ok-end_of+in_ok-push, in_default-clock_of}
@@ -30,11 +29,6 @@ returns-in_default c = λ d at are.
     let own : sink_at c.args.cells.now c.args.nets.now d.instance d.pin.name ≡ None =
     ap (λ n. sink_at c.args.cells.now c.args.nets.now n d.pin.name) p.number ∙ (ap (sink_at c.args.cells.now c.args.nets.now c.args.pin.instance) (sym name) ∙ none) in
     sym (append-nil c.args.checks.now.items) ∙ ap (λ l. c.args.checks.now.items ++ l) (sym (no_sink c.args.cells.now c.args.nets.now d own))
-
-pub group-requires : goal.group-requires
-group-requires c =
-    let d = some_is (connected_at c.args.cells.now c.args.nets.now c.args.pin) c.requires.there in
-    c.requires.related.there c.args.pin (ap is_some (parts_of c.args.cells.now c.args.nets.now c.args.pin d.0 d.1).pin)
 
 pub loop-one-init : goal.loop-one-init
 loop-one-init c = λ d at. sym (append-nil c.args.checks.now.items)
@@ -55,7 +49,7 @@ loop-one-preserved c = λ d at.
       | in_default-clock_of w ↦
           ap (λ (v : Vec CheckPoint Global). v.items) w.checks-is ∙ (sym (append-nil cur) ∙ ap (λ o. cur ++ make o) (sym w.in_default-clock_of.is))
     ] in
-    made_more (check_of c.args.cells.now c.args.nets.now d c.in-Some.datum c.args.places.now.at.items) c.as_slice-one-items.result.now c.loop-one.one-index r c.args.checks.now.items cur
+    made_more (check_of c.args.cells.now c.args.nets.now d c.in-Some.datum c.args.places.now.at.items) c.args.related.now c.loop-one.one-index r c.args.checks.now.items cur
     c.match-clock_of.checks.items c.loop-one-test.true (c.loop-one.invariant d at)
     (step
     ∙ (ap (λ o. cur ++ make o) c.clock_of.ensures
@@ -70,11 +64,10 @@ returns c = λ d at are.
     sym (are.each c.bytes.result.now) ∙ (sym c.find.ensures ∙ ap (option_map place_of) c.in-Some.is) in
     let own : sink_at c.args.cells.now c.args.nets.now d.instance d.pin.name ≡ Some (place_of c.in-Some.datum) =
     ap (λ n. sink_at c.args.cells.now c.args.nets.now n d.pin.name) p.number ∙ (ap (sink_at c.args.cells.now c.args.nets.now c.args.pin.instance) (sym name) ∙ found) in
-    let k = group_for c.args.cells.now c.args.related.now.cells.items c.requires.related c.args.nets.now c.args.pin d at c.group.result.now c.group.ensures in
-    let related = c.group.result.now.related.items in
+    let x = pin_parts c.args.cells.now c.args.pin d.pin p.pin in
     c.loop-one.invariant d at
     ∙ (ap (λ l. c.args.checks.now.items ++ filter_map (check_of c.args.cells.now c.args.nets.now d c.in-Some.datum c.args.places.now.at.items) l)
-    (take_all c.loop-one.one-index c.as_slice-one-items.result.now c.loop-one-test.false ∙ c.as_slice-one-items.ensures.value)
+    (take_all c.loop-one.one-index c.args.related.now c.loop-one-test.false)
     ∙ ap (λ l. c.args.checks.now.items ++ l)
-    (checks_related c.args.cells.now c.args.nets.now c.args.pin.instance c.args.pin.cell c.args.places.now.at.items are k.0 k.1 d p.number c.in-Some.datum own
-    (sym (some_at _ _ d.pin p.pin c.is_input.ensures) ∙ c.if-not-is_input.false) related k.2.related))
+    (checks_related c.args.cells.now c.args.nets.now c.args.pin.instance c.args.pin.cell c.args.places.now.at.items are x.0 x.1 d p.number c.in-Some.datum own
+    (sym (some_at _ _ d.pin p.pin c.is_input.ensures) ∙ c.if-not-is_input.false) c.args.related.now (c.requires.found x.0 d.pin x.1 p.pin)))

@@ -7,4 +7,4 @@ use Rattle.link_pins.proofs.checks.add_pin_checks.Given as goal
 
 abbrev pub invariant-loop-one : goal.invariant-loop-one
 invariant-loop-one l = (d : Connected) → connected_at l.cells l.nets l.pin ≡ Some d
-    → l.checks.items ≡ l.initial.checks.items ++ filter_map (check_of l.cells l.nets d l.datum l.places.at.items) (take l.one-index l.one-items)
+    → l.checks.items ≡ l.initial.checks.items ++ filter_map (check_of l.cells l.nets d l.datum l.places.at.items) (take l.one-index l.related)

@@ -6,17 +6,20 @@ use Rattle.verilog_net.specs.declared.netlist.Netlist.{Netlist}
 use Rattle.link_rules.specs.Arcs.{sink_at}
 use Rattle.link_rules.specs.Checks.{pin_checks}
 use Rattle.link_rules.specs.Pins.{Connected}
-use Rattle.link_pins.specs.Places.{place_of, AreEntered}
-use Rattle.link_pins.specs.Related.{counted, is_sink}
+use Rattle.link_pins.specs.Places.{place_of, is_sink, AreEntered}
+use Rattle.link_pins.specs.Related.{counted}
 use Rattle.link_pins.specs.Seen.{connected_at}
 use Rattle.link_pins.proofs.CheckLaws.{no_sink}
-use Rattle.link_pins.proofs.KeptLaws.{group_for, with_ok}
+use Rattle.link_pins.proofs.KeptLaws.{group_for, index_for, with_ok}
 use Rattle.link_pins.proofs.PinLaws.{parts_of, some_at}
 use Rattle.link_pins.proofs.RelatedLaws.{checks_counted}
 use Rattle.link_pins.proofs.counts.checks_at.Goals as goal
 
 pub group-requires : goal.group-requires
 group-requires c = c.requires.related.there c.args.pin c.requires.there
+
+pub count-requires-clause-indexed : goal.count-requires-clause-indexed
+count-requires-clause-indexed c = index_for c.args.cells.now c.args.related.now.cells.items c.requires.related c.args.pin c.requires.there c.group.result.now c.group.ensures
 
 pub returns-in-None : goal.returns-in-None
 returns-in-None c = λ netlist d at are.
@@ -31,7 +34,7 @@ returns-in-None c = λ netlist d at are.
 
 pub returns-in-Some : goal.returns-in-Some
 returns-in-Some c =
-    with_ok c.count_sinks.result (λ n. n ≡ counted (is_sink c.args.places.now.at.items) c.group.result.now.counts.items)
+    with_ok c.count.result (λ n. n ≡ counted (is_sink c.args.places.now.at.items) c.group.result.now.counts.items)
     (λ n. (netlist : Netlist) (d : Connected) → connected_at c.args.cells.now netlist c.args.pin ≡ Some d
     → AreEntered c.args.cells.now netlist c.args.pin.instance c.args.pin.cell c.args.places.now.at.items → n ≡ length (pin_checks c.args.cells.now netlist d))
     (λ n is netlist d at are.
@@ -46,4 +49,4 @@ returns-in-Some c =
     is
     ∙ checks_counted c.args.cells.now netlist c.args.pin.instance c.args.pin.cell c.args.places.now.at.items are k.0 k.1 d p.number c.in-Some.field-0 own
     (sym (some_at _ _ d.pin p.pin c.is_input.ensures) ∙ c.if-not-is_input.false) c.group.result.now k.2)
-    c.count_sinks.ensures
+    c.count.ensures

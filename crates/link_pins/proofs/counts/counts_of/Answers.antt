@@ -9,7 +9,7 @@ use Rattle.link_pins.specs.Seen.{connected_at}
 use Rattle.link_pins.proofs.DriverLaws.{paired_at}
 use Rattle.link_pins.proofs.OrderLaws.{next_boundary}
 use Rattle.link_pins.proofs.PinLaws.{nothing, element_at, parts_of, take_next}
-use Rattle.link_pins.proofs.PlaceLaws.{pin_inside}
+use Rattle.link_pins.proofs.PlaceLaws.{pin_inside, those_entered}
 use Rattle.link_pins.proofs.StretchLaws.{entered_for}
 use Rattle.link_pins.proofs.counts.counts_of.Goals as goal
 
@@ -35,7 +35,7 @@ loop-k-preserved c =
     let at : slice_get c.args.pins.now c.loop-k.k ≡ Some p = slice_get-get_or c.args.pins.now c.loop-k.k nothing within in
     let y = paired_at (connected_at c.args.cells.now c.args.nets.now) c.args.pins.now cs c.loop-k.k p c.requires.pins at in
     let entered = entered_for c.args.cells.now c.args.nets.now c.args.pins.now c.requires.pins c.requires.placed c.args.sinks.now c.requires.places c.instances.from c.same_instance-to.result
-    c.same_instance-to.ensures c.instances.invariant.boundary c.enter.new.self.at.items c.enter.ensures.entries c.loop-k.k p c.loop-k.auto.k c.loop-k-test.true at in
+    c.same_instance-to.ensures c.instances.invariant.boundary c.enter.new.self.at.items c.in_ok-enter.ensures.entries c.loop-k.k p c.loop-k.auto.k c.loop-k-test.true at in
     subst (λ (l : List Connected). AreCounted c.args.cells.now c.args.nets.now l c.add.new.self) (sym (take_next c.loop-k.k cs y.0 y.1))
     (c.in_ok-add.ensures c.args.nets.now (take c.loop-k.k cs) y.0 y.2 entered c.loop-k.invariant)
 
@@ -44,7 +44,7 @@ clear-requires-clause-room c = λ k d lt.
     let p = get_or c.args.pins.now k d in
     let y = paired_at (connected_at c.args.cells.now c.args.nets.now) c.args.pins.now (pins c.args.cells.now c.args.nets.now) k p c.requires.pins (slice_get-get_or c.args.pins.now k d lt) in
     let there = ap is_some (parts_of c.args.cells.now c.args.nets.now p y.0 y.2).pin in
-    omega (arith, pin_inside c.args.cells.now c.instances.places.at.items p there c.instances.invariant.room, c.enter.ensures.count)
+    omega (arith, pin_inside c.args.cells.now c.instances.places.at.items p there c.instances.invariant.room, c.in_ok-enter.ensures.count)
 
 pub instances-preserved : goal.instances-preserved
 instances-preserved c =
@@ -55,7 +55,15 @@ instances-preserved c =
       within = c.same_instance-to.ensures.most;
       boundary =
           next_boundary c.args.cells.now c.args.nets.now c.args.pins.now c.requires.pins c.instances.from c.same_instance-to.result first.0 first.1 c.same_instance-to.ensures c.instances.invariant.boundary;
-      room = subst (λ (n : ℕ). All (λ (x : Cell). length x.pins ≤ n) c.args.cells.now.cells) (sym (c.clear.ensures.count ∙ c.enter.ensures.count)) c.instances.invariant.room;
+      room = subst (λ (n : ℕ). All (λ (x : Cell). length x.pins ≤ n) c.args.cells.now.cells) (sym (c.clear.ensures.count ∙ c.in_ok-enter.ensures.count)) c.instances.invariant.room;
       clear = c.clear.ensures.clear;
+      listed = c.clear.ensures.listed;
       counted = subst (λ (n : ℕ). AreCounted c.args.cells.now c.args.nets.now (take n (pins c.args.cells.now c.args.nets.now)) c.loop-k.counts) ends c.loop-k.invariant;
     }
+
+pub add-requires-clause-listed : goal.add-requires-clause-listed
+add-requires-clause-listed c = c.in_ok-enter.ensures.listed c.instances.invariant.listed
+
+pub clear-requires-clause-those : goal.clear-requires-clause-those
+clear-requires-clause-those c =
+    those_entered c.args.cells.now c.args.pins.now c.args.sinks.now c.instances.from c.same_instance-to.result c.enter.new.self.at.items c.in_ok-enter.ensures.entries

@@ -1,6 +1,6 @@
 use Rattle.std.proofs.Common.{◌≤◌, ◌-◌, length, take}
 use Rattle.link_rules.specs.Pins.{pins}
-use Rattle.link_pins.specs.Places.{HasRoom, IsClear}
+use Rattle.link_pins.specs.Places.{AreListed, HasRoom, IsClear}
 use Rattle.link_pins.specs.Rows.{AreTimed}
 use Rattle.link_pins.proofs.OrderLaws.{IsBoundary}
 use Rattle.link_pins.proofs.timings.timings_of.Given as goal
@@ -14,6 +14,7 @@ invariant-instances l = record {
   boundary : IsBoundary l.cells l.nets l.from;
   room : HasRoom l.cells l.places.at.items;
   clear : IsClear l.places.at.items;
+  listed : AreListed l.places;
   timed : AreTimed l.cells l.nets (take l.from (pins l.cells l.nets)) l.timings.nets.items l.timings.checks.items;
 }
 

@@ -3,6 +3,7 @@ use Rattle.std.specs.Prelude.{None}
 use Rattle.std.proofs.lemmas.List.{length-set}
 use Rattle.std.proofs.lemmas.Option.{slice_get-get_or}
 use Rattle.link_pins.proofs.PlaceLaws.{those_less, all_clear}
+use Rattle.link_pins.proofs.IndexLaws.{none_listed}
 use Rattle.link_pins.proofs.PinLaws.{nothing}
 use Rattle.link_pins.proofs.arcs.Places.clear.Goals as goal
 
@@ -28,3 +29,7 @@ returns-clause-count c = c.loop-k.invariant.count
 
 pub returns-clause-clear : goal.returns-clause-clear
 returns-clause-clear c = all_clear c.args.pins.now c.loop-k.k c.args.to c.loop-k.self.at.items c.loop-k-test.false c.loop-k.invariant.those
+
+pub returns-clause-listed : goal.returns-clause-listed
+returns-clause-listed c =
+    none_listed _ (all_clear c.args.pins.now c.loop-k.k c.args.to c.loop-k.self.at.items c.loop-k-test.false c.loop-k.invariant.those) c.clear.ensures.items

@@ -12,6 +12,7 @@ pub loop-k-init : goal.loop-k-init
 loop-k-init c = record {
   count = refl;
   entries = no_entries c.args.cells.now c.args.pins.now c.args.places.now c.args.from c.args.self.now.at.items c.requires.clear;
+  listed = λ are. are;
 }
 
 pub add-requires-clause-room : goal.add-requires-clause-room
@@ -27,11 +28,12 @@ loop-k-preserved c =
     let lt : p.pin < length c.loop-k.self.at.items =
     omega (arith, pin_inside c.args.cells.now c.args.self.now.at.items p (c.requires.there c.loop-k.k nothing within) c.requires.room, c.loop-k.invariant.count) in
     record {
-      count = ap length c.add.ensures ∙ (same_room c.args.cells.now p (slice_index c.args.places.now c.loop-k.k) c.loop-k.self.at.items ∙ c.loop-k.invariant.count);
+      count = ap length c.in_ok-add.ensures.sinks ∙ (same_room c.args.cells.now p (slice_index c.args.places.now c.loop-k.k) c.loop-k.self.at.items ∙ c.loop-k.invariant.count);
       entries =
-          subst (λ (l : List (Option SinkAt)). AreEntries c.args.cells.now c.args.pins.now c.args.places.now c.args.from (c.loop-k.k + 1) l) (sym c.add.ensures)
+          subst (λ (l : List (Option SinkAt)). AreEntries c.args.cells.now c.args.pins.now c.args.places.now c.args.from (c.loop-k.k + 1) l) (sym c.in_ok-add.ensures.sinks)
           (entry_more c.args.cells.now c.args.pins.now c.args.places.now c.args.from c.loop-k.k p (slice_get-get_or c.args.pins.now c.loop-k.k nothing within) c.loop-k.auto.k
           c.loop-k.self.at.items lt c.loop-k.invariant.entries);
+      listed = λ are. c.in_ok-add.ensures.listed (c.loop-k.invariant.listed are);
     }
 
 pub returns-clause-count : goal.returns-clause-count
@@ -41,3 +43,6 @@ pub returns-clause-entries : goal.returns-clause-entries
 returns-clause-entries c =
     let ends : c.loop-k.k ≡ c.args.to = omega (arith, c.loop-k-test.false, c.loop-k.auto.k-end c.requires.order) in
     subst (λ (n : ℕ). AreEntries c.args.cells.now c.args.pins.now c.args.places.now c.args.from n c.loop-k.self.at.items) ends c.loop-k.invariant.entries
+
+pub returns-clause-listed : goal.returns-clause-listed
+returns-clause-listed c = c.loop-k.invariant.listed
