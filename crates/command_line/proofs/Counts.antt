@@ -74,6 +74,9 @@ job_count command.Solve get =
 job_count command.Replay get =
     if_second HasCount (get (codes "file")) _ (λ file. if_second HasCount (get (codes "order") >>= number_of 64) _ (λ order.
     if_both IsWorkerCount HasCount (get (codes "workers") >>= worker_count) _ (given_within (get (codes "workers"))) (λ workers count. if_second HasCount (if_said miller_numbers (get (codes "miller"))) _ (λ miller. count))))
+job_count command.Eco get =
+    if_second HasCount (get (codes "file")) _ (λ file. if_second HasCount (get (codes "edits")) _ (λ edits.
+    if_both IsWorkerCount HasCount (said_or 1 worker_count (get (codes "workers"))) _ (said_within (get (codes "workers"))) (λ workers count. if_second HasCount (if_said miller_numbers (get (codes "miller"))) _ (λ miller. count))))
 job_count command.Gen get =
     if_second HasCount (get (codes "number") >>= number_of 64) _ (λ number. if_both IsNetCount HasCount (get (codes "nets") >>= net_count) _ (nets_given (get (codes "nets"))) (λ nets some.
     if_both IsWorkerCount HasCount (said_or 1 worker_count (get (codes "workers"))) _ (said_within (get (codes "workers"))) (λ workers count. (some, count))))

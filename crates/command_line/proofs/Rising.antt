@@ -14,7 +14,7 @@ use Rattle.command_line.specs.Words.{block_files, job_for, job_of}
 use Rattle.command_line.specs.declared.words.CommandName.{CommandName}
 use Rattle.command_line.specs.declared.words.CommandName.TheVariants as command
 use Rattle.command_line.specs.declared.words.Job.{Job}
-use Rattle.command_line.specs.declared.words.Job.TheVariants.{Gen, Link, Replay, Report, Solve}
+use Rattle.command_line.specs.declared.words.Job.TheVariants.{Eco, Gen, Link, Replay, Report, Solve}
 use Rattle.command_line.proofs.Counts.{if_both, if_second, of_words}
 
 -- three numbers that are Miller numbers rise
@@ -45,6 +45,7 @@ HasRising (Report job) = IfSome job.miller IsMiller
 HasRising (Link job) = IfSome job.miller IsMiller
 HasRising (Solve job) = IfSome job.miller IsMiller
 HasRising (Replay job) = IfSome job.miller IsMiller
+HasRising (Eco job) = IfSome job.miller IsMiller
 HasRising (Gen job) = Unit {0}
 
 job_rise : (name : CommandName) (get : Text → Option Text) → IfSome (job_for name get) HasRising
@@ -60,6 +61,9 @@ job_rise command.Solve get =
     if_second HasRising (said_or Rounds engine (get (codes "engine"))) _ (λ chosen. rise)))))
 job_rise command.Replay get =
     if_second HasRising (get (codes "file")) _ (λ file. if_second HasRising (get (codes "order") >>= number_of 64) _ (λ order. if_second HasRising (get (codes "workers") >>= worker_count) _ (λ workers.
+    if_both AreMiller HasRising (if_said miller_numbers (get (codes "miller"))) _ (said_rises (get (codes "miller"))) (λ miller rise. rise))))
+job_rise command.Eco get =
+    if_second HasRising (get (codes "file")) _ (λ file. if_second HasRising (get (codes "edits")) _ (λ edits. if_second HasRising (said_or 1 worker_count (get (codes "workers"))) _ (λ workers.
     if_both AreMiller HasRising (if_said miller_numbers (get (codes "miller"))) _ (said_rises (get (codes "miller"))) (λ miller rise. rise))))
 job_rise command.Gen get =
     if_second HasRising (get (codes "number") >>= number_of 64) _ (λ number. if_second HasRising (get (codes "nets") >>= net_count) _ (λ nets. if_second HasRising (said_or 1 worker_count (get (codes "workers"))) _ (λ workers. tt)))

@@ -14,7 +14,7 @@ use Rattle.command_line.specs.declared.words.CommandName.{CommandName}
 use Rattle.command_line.specs.declared.words.CommandName.TheVariants as command
 use Rattle.command_line.specs.declared.words.BlockFiles.{BlockFiles}
 use Rattle.command_line.specs.declared.words.Job.{Job}
-use Rattle.command_line.specs.declared.words.Job.TheVariants.{Report, Solve, Replay, Link, Gen}
+use Rattle.command_line.specs.declared.words.Job.TheVariants.{Report, Solve, Replay, Eco, Link, Gen}
 
 -- ---- the table
 
@@ -43,6 +43,13 @@ replay_form = record {
   options = codes "order" ∷ codes "workers" ∷ codes "miller" ∷ [];
 }
 
+-- `eco FILE EDITS [--workers N] [--miller L,M,H]`
+abbrev pub eco_form : CommandForm
+eco_form = record {
+  positionals = codes "file" ∷ codes "edits" ∷ [];
+  options = codes "workers" ∷ codes "miller" ∷ [];
+}
+
 -- `link LIB NETLIST SPEF SDC [--miller L,M,H]`
 abbrev pub link_form : CommandForm
 link_form = record { positionals = block; options = codes "miller" ∷ [] }
@@ -57,6 +64,7 @@ command_named word =
     if bytes_eq word (codes "report") then Some command.Report
     else if bytes_eq word (codes "solve") then Some command.Solve
     else if bytes_eq word (codes "replay") then Some command.Replay
+    else if bytes_eq word (codes "eco") then Some command.Eco
     else if bytes_eq word (codes "link") then Some command.Link
     else if bytes_eq word (codes "gen") then Some command.Gen else None
 
@@ -65,6 +73,7 @@ abbrev pub form_of_command : CommandName → CommandForm
 form_of_command command.Report = report_form
 form_of_command command.Solve = solve_form
 form_of_command command.Replay = replay_form
+form_of_command command.Eco = eco_form
 form_of_command command.Link = link_form
 form_of_command command.Gen = gen_form
 
@@ -118,6 +127,15 @@ replay_job given = do
   miller ← if_said miller_numbers (given (codes "miller"))
   Some (Replay (record { file = file; order = order; workers = workers; miller = miller }))
 
+-- a linked text and a text of edits, by one worker and with the text's own Miller numbers unless the words say otherwise
+abbrev pub eco_job : (Text → Option Text) → Option Job
+eco_job given = do
+  file ← given (codes "file")
+  edits ← given (codes "edits")
+  workers ← said_or 1 worker_count (given (codes "workers"))
+  miller ← if_said miller_numbers (given (codes "miller"))
+  Some (Eco (record { file = file; edits = edits; workers = workers; miller = miller }))
+
 -- a design to generate and to solve, by one worker unless the words say otherwise
 abbrev pub gen_job : (Text → Option Text) → Option Job
 gen_job given = do
@@ -130,6 +148,7 @@ abbrev pub job_for : CommandName → (Text → Option Text) → Option Job
 job_for command.Report given = report_job given
 job_for command.Solve given = solve_job given
 job_for command.Replay given = replay_job given
+job_for command.Eco given = eco_job given
 job_for command.Link given = link_job given
 job_for command.Gen given = gen_job given
 
@@ -159,5 +178,6 @@ abbrev pub HasCount : Job → Type 0
 HasCount (Report job) = IsWorkerCount job.workers
 HasCount (Solve job) = IsWorkerCount job.workers
 HasCount (Replay job) = IsWorkerCount job.workers
+HasCount (Eco job) = IsWorkerCount job.workers
 HasCount (Link job) = Unit {0}
 HasCount (Gen job) = IsNetCount job.nets × IsWorkerCount job.workers

@@ -9,5 +9,6 @@ mod words;
 pub use file_name::FileName;
 pub use values::Engine;
 pub use words::{
-    BlockFiles, GenJob, Job, LinkJob, ReplayJob, ReportJob, SolveJob, WordsFault, parse_words,
+    BlockFiles, EcoJob, GenJob, Job, LinkJob, ReplayJob, ReportJob, SolveJob, WordsFault,
+    parse_words,
 };

@@ -27,6 +27,8 @@ pub enum Job {
     Solve(SolveJob),
     /// The same report, by runs of many workers in an order that a number picks.
     Replay(ReplayJob),
+    /// The report of the design in a linked text after edits of its layout.
+    Eco(EcoJob),
     /// The linked text of the design that the four files of a block make.
     Link(LinkJob),
     /// The summary of a generated design.
@@ -81,6 +83,16 @@ pub struct ReplayJob {
     pub miller: Option<Miller>,
 }
 
+/// A linked text and a text of edits, one made after the other: by how many workers, and by which Miller numbers in place
+/// of its own.
+#[derive(Debug, Drop)]
+pub struct EcoJob {
+    pub file: FileName,
+    pub edits: FileName,
+    pub workers: u32,
+    pub miller: Option<Miller>,
+}
+
 /// A design to generate and to solve: of which number, of how many nets, from 1 to 100,000, and by how many workers.
 #[derive(Debug, Drop)]
 pub struct GenJob {
@@ -95,6 +107,7 @@ enum CommandName {
     Report,
     Solve,
     Replay,
+    Eco,
     Link,
     Gen,
 }
@@ -118,6 +131,11 @@ const REPLAY: CommandRule = CommandRule {
     options: &["order", "workers", "miller"],
 };
 
+const ECO: CommandRule = CommandRule {
+    positionals: &["file", "edits"],
+    options: &["workers", "miller"],
+};
+
 const LINK: CommandRule = CommandRule {
     positionals: BLOCK,
     options: &["miller"],
@@ -136,6 +154,7 @@ fn command_named(word: &str) -> Option<CommandName>
         "report" => Some(CommandName::Report),
         "solve" => Some(CommandName::Solve),
         "replay" => Some(CommandName::Replay),
+        "eco" => Some(CommandName::Eco),
         "link" => Some(CommandName::Link),
         "gen" => Some(CommandName::Gen),
         _ => None,
@@ -150,6 +169,7 @@ fn rule_of(command: CommandName) -> CommandRule
         CommandName::Report => REPORT,
         CommandName::Solve => SOLVE,
         CommandName::Replay => REPLAY,
+        CommandName::Eco => ECO,
         CommandName::Link => LINK,
         CommandName::Gen => GEN,
     }
@@ -239,6 +259,19 @@ fn replay_job(file: Option<FileName>, given: &ArgMatches) -> Option<Job>
     }))
 }
 
+fn eco_job(file: Option<FileName>, edits: Option<FileName>, given: &ArgMatches) -> Option<Job>
+    requires file { file ≡ first_value (found_of given.now) (codes "file") }
+    requires edits { edits ≡ first_value (found_of given.now) (codes "edits") }
+    ensures { result ≡ Words.eco_job (first_value (found_of given.now)) }
+{
+    Some(Job::Eco(EcoJob {
+        file: file?,
+        edits: edits?,
+        workers: workers_or_one(given.get_str("workers"))?,
+        miller: miller_if_said(given.get_str("miller"))?,
+    }))
+}
+
 fn gen_job(given: &ArgMatches) -> Option<Job>
     ensures { result ≡ Words.gen_job (first_value (found_of given.now)) }
 {
@@ -261,6 +294,11 @@ fn job_for(
         CommandName::Report => Ok(report_job(block_files(alloc, given)?, given)),
         CommandName::Solve => Ok(solve_job(file_name(alloc, given.get_str("file"))?, given)),
         CommandName::Replay => Ok(replay_job(file_name(alloc, given.get_str("file"))?, given)),
+        CommandName::Eco => {
+            let file = file_name(alloc, given.get_str("file"))?;
+            let edits = file_name(alloc, given.get_str("edits"))?;
+            Ok(eco_job(file, edits, given))
+        }
         CommandName::Link => Ok(link_job(block_files(alloc, given)?, given)),
         CommandName::Gen => Ok(gen_job(given)),
     }

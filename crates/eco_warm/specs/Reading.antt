@@ -61,7 +61,8 @@ moved_in of nets a b by = amount_in by >>= λ d. nets_in nets a b >>= λ p. Ok (
 
 -- `shield A B`
 abbrev pub shield_in : List Net → List ℕ → List ℕ → List ℕ → Result Edit EditFault
-shield_in nets word a b = if bytes_eq word (codes "shield") then nets_in nets a b >>= (λ p. Ok (shield_of p)) else Err E1
+shield_in nets word a b =
+    if bytes_eq word (codes "shield") then nets_in nets a b >>= (λ p. Ok (shield_of p)) else Err E1
 
 -- `apart A B D` or `near A B D`
 abbrev pub move_in : List Net → List ℕ → List ℕ → List ℕ → List ℕ → Result Edit EditFault

@@ -9,41 +9,35 @@ use Rattle.linked_text.proofs.WholeLaws.{means_design, means_one, same_texts}
 use Rattle.design_gen.specs.Laws.{IsCount}
 use Rattle.design_gen.specs.Generated.{generated}
 use Rattle.design_gen.proofs.Soundness.{sound}
-use Rattle.report_text.proofs.OneReport.{one_report, one_summary}
+use Rattle.report_text.proofs.OneReport.{one_summary}
 use Rattle.report_kind.specs.declared.kind.ReportKind.{ReportKind}
 use Rattle.report_kind.specs.declared.kind.ReportKind.TheVariants.{All}
 use Rattle.command_line.specs.Words.{Text, HasCount, job_of}
-use Rattle.xtalk_top.specs.Outcome.{Contents, Outcome, prints, refuses, unread, LinkedMeans, DesignMeans, SolvedMeans, IsSolution, IsDesignText, TextReportMeans, why_refused, counted_by}
+use Rattle.xtalk_top.specs.Outcome.{Contents, Outcome, prints, refuses, unread, FileMeans, LinkedMeans, DesignMeans, IsDesignText, TextReportMeans, most_bytes, why_refused, counted_by}
 use Rattle.xtalk_top.specs.Gen.{GenMeans, IsSummed}
+use Rattle.xtalk_top.specs.Eco.{EcoMeans, EditsMean}
 use Rattle.xtalk_top.specs.Call.{JobMeans, Means, AreKnown, HadNoFault, IsStop, Shows, line_of, status_of}
 use Rattle.command_line.specs.declared.words.Job.{Job}
-use Rattle.command_line.specs.declared.words.Job.TheVariants.{Report, Solve, Replay, Link, Gen}
+use Rattle.command_line.specs.declared.words.Job.TheVariants.{Report, Solve, Replay, Eco, Link, Gen}
+use Rattle.command_line.specs.declared.words.EcoJob.{EcoJob}
 use Rattle.command_line.specs.declared.words.GenJob.{GenJob}
 use Rattle.xtalk_top.specs.declared.refusal.Refusal.{Refusal}
 use Rattle.xtalk_top.specs.declared.refusal.FileRefusal.TheVariants.{Content}
-use Rattle.xtalk_top.specs.declared.refusal.Refusal.TheVariants.{Words, File, Design}
-use Rattle.xtalk_top.specs.declared.refusal.DesignRefusal.TheVariants.{Limit}
+use Rattle.xtalk_top.specs.declared.refusal.Refusal.TheVariants.{Words, File}
 use Rattle.xtalk_top.specs.declared.refusal.Stop.{Stop}
 use Rattle.xtalk_top.specs.declared.refusal.Stop.TheVariants.{Refused, Unread, NoMemory}
 use Rattle.xtalk_top.specs.declared.refusal.Failure.TheVariants.{NoText}
 use Rattle.command_line.proofs.Rising.{HasRising, job_rises}
 use Rattle.xtalk_top.proofs.Given.{counted_sound}
-use Rattle.xtalk_top.proofs.Within.{within_or_passed}
-use Rattle.xtalk_top.proofs.OnePassed.{one_passed}
+use Rattle.xtalk_top.proofs.OneDesign.{one_of_design, one_of_solved}
+use Rattle.xtalk_top.proofs.OneEdit.{one_of_edits}
 use Rattle.command_line.proofs.Counts.{job_counts}
 use Rattle.text_lines.specs.Lines.{text_of}
 use Rattle.linked_text.specs.Linked.{linked}
 pub use Rattle.xtalk_top.proofs.Agreeing.{Agree, LeavesOne, agree_as, unread_agrees, one_of_file}
+use Rattle.xtalk_top.proofs.Agreeing.{one_of_file_at}
+use Rattle.xtalk_top.proofs.Lifts.{file_leads}
 use Rattle.xtalk_top.proofs.OneBlock.{one_of_block}
-
-one_of_solved : (IsText : Text → Type 0) (d : Parts) → ((a b : Text) → IsText a → IsText b → a ≡ b) → IsSound d → LeavesOne (SolvedMeans IsText d)
-one_of_solved IsText d one s o p (inl a) (inl b) = agree_as o p _ _ a.2 b.2 (ap (λ l. Design (Limit l)) (one_passed d a.0 b.0 s a.1 b.1))
-one_of_solved IsText d one s o p (inl a) (inr b) = absurd (within_or_passed d a.0 s b.0 a.1)
-one_of_solved IsText d one s o p (inr a) (inl b) = absurd (within_or_passed d b.0 s a.0 b.1)
-one_of_solved IsText d one s o p (inr a) (inr b) = agree_as o p _ _ a.3 b.3 (one a.1 b.1 a.2 b.2)
-
-pub one_of_design : (kind : ReportKind) (d : Parts) → IsSound d → LeavesOne (DesignMeans kind d)
-one_of_design kind d s = one_of_solved (IsSolution kind d) d (λ a b x y. one_report kind d a b x.report y.report) s
 
 -- a text is of one design
 pub one_design : (bytes : Text) (d e : Parts) → IsDesignText bytes d → IsDesignText bytes e → d ≡ e
@@ -71,6 +65,24 @@ one_of_text file miller kind content rising known =
     one_of_file file content (λ bytes o. LinkedMeans file bytes (λ d. DesignMeans kind (counted_by miller d) o) o) (known file (inl refl)) (λ bytes.
     one_of_linked file bytes (λ d. DesignMeans kind (counted_by miller d)) (λ d t. one_of_design kind (counted_by miller d) (counted_sound miller d rising t.sound)))
 
+-- a linked text, and then a text of edits
+module _ (job : EcoJob) (content : Contents) where
+  abbrev Made : Parts → Text → Outcome → Type 0
+  Made d lines o = EditsMean job.edits lines (counted_by job.miller d) o
+
+  abbrev Edits : Parts → Outcome → Type 0
+  Edits d o = FileMeans job.edits content (λ lines. Made d lines o) o
+
+  abbrev Linked : Text → Outcome → Type 0
+  Linked bytes o = LinkedMeans job.file bytes (λ d. Edits d o) o
+
+  one_of_eco : IfSome job.miller IsMiller → ((f : Text) → EcoMeans job content (unread f) → IsSome (content f)) → LeavesOne (EcoMeans job content)
+  one_of_eco rising known =
+      one_of_file_at job.file content Linked (known job.file (inl refl)) (λ bytes held fits. one_of_linked job.file bytes Edits (λ d t.
+      one_of_file job.edits content (Made d)
+      (known job.edits (file_leads job.file content (λ b. Linked b (unread job.edits)) (unread job.edits) bytes held fits (inr (d, t, inl refl))))
+      (λ lines. one_of_edits job.edits lines (counted_by job.miller d) (counted_sound job.miller d rising t.sound))))
+
 pub one_of_gen : (job : GenJob) → IsCount job.nets → LeavesOne (GenMeans job)
 one_of_gen job count =
     let d = generated job.number job.nets in
@@ -85,6 +97,7 @@ one_outcome words content known = go (job_of words) (job_rises words) (job_count
     go None rising counts known o p a b = agree_as o p _ _ a b refl
     go (Some (Solve job)) rising counts known o p a b = one_of_text job.file job.miller job.kind content rising known o p a b
     go (Some (Replay job)) rising counts known o p a b = one_of_text job.file job.miller All content rising known o p a b
+    go (Some (Eco job)) rising counts known o p a b = one_of_eco job content rising known o p a b
     go (Some (Gen job)) rising counts known o p a b = one_of_gen job (record { some = counts.0.some; most = counts.0.most }) o p a b
     go (Some (Report job)) rising counts known o p a b =
         one_of_block job.files content (λ d. DesignMeans job.kind (counted_by job.miller d)) known (λ d s. one_of_design job.kind (counted_by job.miller d) (counted_sound job.miller d rising s)) o p a b

@@ -4,7 +4,7 @@ use Rattle.std.specs.Prelude.{◌≢◌, MatchOption, option_map}
 use Rattle.std.proofs.lemmas.Option.{same_Some}
 use Rattle.command_line.specs.Words.{Text, job_of}
 use Rattle.command_line.specs.declared.words.Job.{Job}
-use Rattle.command_line.specs.declared.words.Job.TheVariants.{Report, Solve, Replay, Link, Gen}
+use Rattle.command_line.specs.declared.words.Job.TheVariants.{Report, Solve, Replay, Eco, Link, Gen}
 use Rattle.xtalk_top.specs.Outcome.{Contents, Outcome, prints, refuses, unread}
 use Rattle.xtalk_top.specs.Call.{AreKnown, HadNoFault, IsFailure, JobMeans, Means, status_of}
 use Rattle.xtalk_top.specs.Laws.{AskAlike, Call, CallShows, IsCallWith, Streams, by_one_worker}
@@ -37,6 +37,7 @@ by_one : (job : Job) (content : Contents) (o : Outcome) → JobMeans job content
 by_one (Report job) content o m = m
 by_one (Solve job) content o m = m
 by_one (Replay job) content o m = m
+by_one (Eco job) content o m = m
 by_one (Link job) content o m = m
 by_one (Gen job) content o m = m
 
@@ -44,6 +45,7 @@ by_all : (job : Job) (content : Contents) (o : Outcome) → JobMeans (by_one_wor
 by_all (Report job) content o m = m
 by_all (Solve job) content o m = m
 by_all (Replay job) content o m = m
+by_all (Eco job) content o m = m
 by_all (Link job) content o m = m
 by_all (Gen job) content o m = m
 

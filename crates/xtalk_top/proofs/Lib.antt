@@ -11,3 +11,7 @@ mod Agreement
 mod Given
 mod Openings
 mod Calls
+mod OneDesign
+mod OneEdit
+mod EditLines
+mod EditSteps

@@ -8,12 +8,13 @@ use Rattle.xtalk_top.specs.Outcome.{Contents, Outcome, prints, refuses, unread, 
 use Rattle.xtalk_top.specs.Report.{ReportMeans}
 use Rattle.xtalk_top.specs.Solve.{SolveMeans}
 use Rattle.xtalk_top.specs.Replay.{ReplayMeans}
+use Rattle.xtalk_top.specs.Eco.{EcoMeans}
 use Rattle.xtalk_top.specs.Link.{LinkMeans}
 use Rattle.xtalk_top.specs.Gen.{GenMeans}
 use Rattle.xtalk_top.specs.FailureWords.{count_limit_words, window_limit_words, link_words}
 use Rattle.command_line.specs.Words.{Text, job_of}
 use Rattle.command_line.specs.declared.words.Job.{Job}
-use Rattle.command_line.specs.declared.words.Job.TheVariants.{Report, Solve, Replay, Link, Gen}
+use Rattle.command_line.specs.declared.words.Job.TheVariants.{Report, Solve, Replay, Eco, Link, Gen}
 use Rattle.xtalk_top.specs.declared.refusal.DesignRefusal.TheVariants.{Limit}
 use Rattle.xtalk_top.specs.declared.refusal.Unlinked.TheVariants as unlinked
 use Rattle.xtalk_top.specs.declared.refusal.TextRefusal.TheVariants.{At, Beyond}
@@ -32,6 +33,7 @@ abbrev pub JobMeans : Job → Contents → Outcome → Type 0
 JobMeans (Report job) content outcome = ReportMeans job content outcome
 JobMeans (Solve job) content outcome = SolveMeans job content outcome
 JobMeans (Replay job) content outcome = ReplayMeans job content outcome
+JobMeans (Eco job) content outcome = EcoMeans job content outcome
 JobMeans (Link job) content outcome = LinkMeans job content outcome
 JobMeans (Gen job) content outcome = GenMeans job outcome
 

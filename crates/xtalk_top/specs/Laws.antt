@@ -5,7 +5,7 @@ use Rattle.report_kind.specs.declared.kind.ReportKind.TheVariants.{All}
 use Rattle.command_line.specs.declared.values.Engine.TheVariants.{Rounds}
 use Rattle.command_line.specs.Words.{Text, job_of}
 use Rattle.command_line.specs.declared.words.Job.{Job}
-use Rattle.command_line.specs.declared.words.Job.TheVariants.{Report, Solve, Replay, Link, Gen}
+use Rattle.command_line.specs.declared.words.Job.TheVariants.{Report, Solve, Replay, Eco, Link, Gen}
 use Rattle.xtalk_top.specs.Outcome.{Contents, Outcome}
 use Rattle.xtalk_top.specs.Call.{AreKnown, HadNoFault, IsCall, Means, Shows, WritesLine}
 
@@ -17,6 +17,7 @@ by_one_worker (Report job) = Report (record job { workers = 1; engine = Rounds }
 by_one_worker (Solve job) = Solve (record job { workers = 1; engine = Rounds })
 by_one_worker (Replay job) =
     Solve (record { file = job.file; workers = 1; kind = All; miller = job.miller; engine = Rounds })
+by_one_worker (Eco job) = Eco (record job { workers = 1 })
 by_one_worker (Link job) = Link job
 by_one_worker (Gen job) = Gen (record job { workers = 1 })
 

@@ -4,6 +4,7 @@ pub mod Runs
 pub mod Report
 pub mod Solve
 pub mod Replay
+pub mod Eco
 pub mod Link
 pub mod Gen
 pub mod FailureWords

@@ -4,7 +4,7 @@ use Rattle.xt_io.specs.Outside.{AreOpened}
 use Rattle.command_line.specs.Words.{Text}
 use Rattle.command_line.specs.declared.words.BlockFiles.{BlockFiles}
 use Rattle.command_line.specs.declared.words.Job.{Job}
-use Rattle.command_line.specs.declared.words.Job.TheVariants.{Report, Solve, Replay, Link, Gen}
+use Rattle.command_line.specs.declared.words.Job.TheVariants.{Report, Solve, Replay, Eco, Link, Gen}
 use Rattle.xtalk_top.specs.declared.refusal.Stop.{Stop}
 
 -- the files of a job, in the order of its command
@@ -15,6 +15,7 @@ abbrev pub files_of : Job → List Text
 files_of (Report job) = block_files job.files
 files_of (Solve job) = job.file ∷ []
 files_of (Replay job) = job.file ∷ []
+files_of (Eco job) = job.file ∷ job.edits ∷ []
 files_of (Link job) = block_files job.files
 files_of (Gen job) = []
 

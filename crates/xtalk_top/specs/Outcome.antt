@@ -106,11 +106,15 @@ pub record IsSolution (kind : ReportKind) (d : Parts) (text : Text) : Type 0 whe
   pub report : IsReport kind d text
   pub bounds : AreBounds d report.low report.high
 
--- a design that is solved: its envelope passes a limit; or it keeps the limits, and such a text is printed
-abbrev pub SolvedMeans : (Text → Type 0) → Parts → Outcome → Type 0
-SolvedMeans IsText d outcome =
+-- the envelope of a design passes a limit; or it keeps the limits, and what comes next leads to the outcome
+abbrev pub LimitsMean : Parts → Type 0 → Outcome → Type 0
+LimitsMean d Leads outcome =
     ((passed : PassedLimit What ℤ) × IsPassed d passed × (outcome ≡ refuses (Design (Limit passed))))
-    ⊎ (KeepsLimits d × (text : Text) × IsText text × (outcome ≡ prints text))
+    ⊎ (KeepsLimits d × Leads)
+
+-- a design that is solved: where it keeps the limits, such a text is printed
+abbrev pub SolvedMeans : (Text → Type 0) → Parts → Outcome → Type 0
+SolvedMeans IsText d outcome = LimitsMean d ((text : Text) × IsText text × (outcome ≡ prints text)) outcome
 
 -- the text is its report
 abbrev pub DesignMeans : ReportKind → Parts → Outcome → Type 0

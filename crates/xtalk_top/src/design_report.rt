@@ -6,15 +6,34 @@ ghost use Rattle.xt_model.specs.Sound.{IsSound};
 ghost use Rattle.command_line.specs.Words.{IsWorkerCount};
 ghost use Rattle.xtalk_top.specs.Outcome.{DesignMeans, prints};
 ghost use Rattle.xtalk_top.specs.Call.{IsStop};
+ghost use Rattle.xtalk_top.specs.Eco.{AreFound};
 
 use crate::refusal::Stop;
 use crate::runs::Runs;
 use crate::solution::solved;
 use chaos_core::Gate;
+use chaos_run::Both;
 use report_text::{ReportKind, write_report};
 use std::alloc::Global;
 use std::thread::Threads;
 use xt_model::{Design, NoMemory};
+
+/// The report of a design whose least and greatest windows are found.
+pub fn report_in(
+    alloc: Global,
+    design: &Design,
+    found: &Both,
+    kind: ReportKind,
+) -> Result<Vec<u8>, Stop>
+    requires { AreFound design.now found.now.low found.now.high }
+    ensures ok { IfOk result (λ text. DesignMeans kind design.now (prints text.items)) }
+    ensures stop { IfErr result (IsStop (DesignMeans kind design.now) (λ _. ⊥)) }
+{
+    match write_report(alloc, design, &found.low, &found.high, kind) {
+        Ok(text) => Ok(text),
+        Err(NoMemory) => Err(Stop::NoMemory),
+    }
+}
 
 /// The report of a design: of its least and its greatest windows.
 pub fn report<R: Threads + Sync, G: Gate>(
@@ -32,8 +51,5 @@ pub fn report<R: Threads + Sync, G: Gate>(
     ensures stop { IfErr result (IsStop (DesignMeans kind design.now) (λ _. ⊥)) }
 {
     let found = solved(rt, alloc, gate, design, runs)?;
-    match write_report(alloc, design, &found.low, &found.high, kind) {
-        Ok(text) => Ok(text),
-        Err(NoMemory) => Err(Stop::NoMemory),
-    }
+    report_in(alloc, design, &found, kind)
 }

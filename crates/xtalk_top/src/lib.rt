@@ -4,6 +4,10 @@
 mod block;
 mod counted;
 mod design_report;
+mod eco;
+mod edit_lines;
+mod edit_refusal;
+mod edits;
 mod generated;
 mod input;
 mod laws;

@@ -6,7 +6,7 @@ ghost use Rattle.xt_model.specs.declared.quad.Pair.{Pair};
 ghost use Rattle.xt_model.specs.Levels.{AreLevelled};
 ghost use Rattle.xt_model.specs.Sound.{IsSound};
 ghost use Rattle.xt_meaning.specs.Barrier.{IsFittingStart, IsWithinEnvelope};
-ghost use Rattle.xt_meaning.specs.Envelope.{IsEnvelope};
+ghost use Rattle.xt_meaning.specs.Envelope.{IsAccepted, IsEnvelope};
 ghost use Rattle.xt_meaning.specs.Fixpoint.{IsFixpoint, IsLeastFixpoint, IsGreatestFixpoint};
 ghost use Rattle.envelope.specs.Firsts.{IsFirstPassed};
 ghost use Rattle.command_line.specs.Words.{IsWorkerCount};
@@ -23,9 +23,10 @@ use std::alloc::Global;
 use std::thread::Threads;
 use xt_model::{Design, Name, NetId, NoMemory, Windows};
 
-// The envelope of a design.
-fn envelope_of(alloc: Global, design: &Design) -> Result<Windows, Stop>
+/// The envelope of a design.
+pub fn envelope_of(alloc: Global, design: &Design) -> Result<Windows, Stop>
     ensures envelope { IfOk result (IsEnvelope design.now) }
+    ensures accepted { IfOk result (IsAccepted design.now) }
     ensures starts { IfOk result (IsFittingStart Narrow design.now) }
     ensures within { IfOk result (λ _. (v : List Pair) → IsFixpoint design.now v → IsWithinEnvelope design.now v) }
     ensures kept { IfOk result (λ _. KeepsLimits design.now) }

@@ -10,6 +10,7 @@ ghost use Rattle.xtalk_top.specs.declared.refusal.Failure.{Failure};
 ghost use Rattle.xtalk_top.specs.declared.refusal.Failure.TheVariants.{NoText, Unwritten};
 ghost use Rattle.xtalk_top.specs.declared.refusal.Stop.TheVariants.{Refused};
 
+use crate::eco::eco;
 use crate::generated::summary_of_generated;
 use crate::link::text_of_block;
 use crate::refusal::{Failure, Refusal, Stop};
@@ -153,6 +154,7 @@ fn job_text<R: Threads + Sync, F: Files, G: Gate>(
         Job::Report(job) => report_of_block(rt, alloc, gate, files, job),
         Job::Solve(job) => solve(rt, alloc, gate, files, job),
         Job::Replay(job) => replay(rt, alloc, gate, files, job),
+        Job::Eco(job) => eco(rt, alloc, gate, files, job),
         Job::Link(job) => text_of_block(alloc, files, job),
         Job::Gen(job) => summary_of_generated(rt, alloc, gate, job),
     }

@@ -16,4 +16,4 @@ returns-in-Ok-clause-ok g c =
       is_greatest = c.in_ok-found.ensures.greatest;
       written = written.4;
     } in
-    inr (c.in_ok-found.ensures.within, c.in-Ok.text.items, record { summary = summary; bounds = c.in_ok-found.ensures.bounds }, refl)
+    inr (c.in_ok-found.ensures.within, (c.in-Ok.text.items, record { summary = summary; bounds = c.in_ok-found.ensures.bounds }, refl))

@@ -22,6 +22,9 @@ returns-in-Solve-clause-means g c = rw c.in-Solve.is c.solve.ensures.means
 pub returns-in-Replay-clause-means : goal.returns-in-Replay-clause-means
 returns-in-Replay-clause-means g c = rw c.in-Replay.is c.replay.ensures.means
 
+pub returns-in-Eco-clause-means : goal.returns-in-Eco-clause-means
+returns-in-Eco-clause-means g c = rw c.in-Eco.is c.eco.ensures.means
+
 pub returns-in-Link-clause-means : goal.returns-in-Link-clause-means
 returns-in-Link-clause-means g c = rw c.in-Link.is c.text_of_block.ensures.means
 
@@ -40,6 +43,9 @@ returns-in-Solve-clause-opened g c = rw c.in-Solve.is (opens_all _ _ (g.F.Files.
 
 pub returns-in-Replay-clause-opened : goal.returns-in-Replay-clause-opened
 returns-in-Replay-clause-opened g c = rw c.in-Replay.is (opens_all _ _ (g.F.Files.opened c.args.files.now) (g.F.Files.opened c.replay.new.files) c.replay.ensures.opened)
+
+pub returns-in-Eco-clause-opened : goal.returns-in-Eco-clause-opened
+returns-in-Eco-clause-opened g c = rw c.in-Eco.is c.eco.ensures.opened
 
 pub returns-in-Link-clause-opened : goal.returns-in-Link-clause-opened
 returns-in-Link-clause-opened g c = rw c.in-Link.is c.text_of_block.ensures.opened

@@ -1,0 +1,46 @@
+//! The command `eco`.
+
+ghost use Rattle.std.specs.Prelude.{[], ◌∷◌};
+ghost use Rattle.command_line.specs.Words.{IsWorkerCount};
+ghost use Rattle.xtalk_top.specs.Outcome.{prints};
+ghost use Rattle.xtalk_top.specs.Opened.{HasValue, OpensFirst};
+ghost use Rattle.xtalk_top.specs.Call.{Answers};
+ghost use Rattle.xtalk_top.specs.Eco.{EcoMeans};
+
+use crate::counted::counted_by;
+use crate::edits::report_of_edits;
+use crate::input::{read_design, read_file};
+use crate::refusal::Stop;
+use chaos_core::Gate;
+use command_line::EcoJob;
+use std::alloc::Global;
+use std::thread::Threads;
+use xt_io::Files;
+
+/// The whole report of the design whose linked text the job's file holds, by the job's Miller numbers where it has any,
+/// after the edits that the job's second file says, solved by the job's workers.
+pub fn eco<R: Threads + Sync, F: Files, G: Gate>(
+    rt: &R,
+    alloc: Global,
+    gate: &G,
+    files: &mut F,
+    job: EcoJob,
+) -> Result<Vec<u8>, Stop>
+    requires { IsWorkerCount job.workers }
+    ensures means { let Meant = EcoMeans job (F.content files.old) in
+        Answers result (λ text. Meant (prints text.items)) Meant (F.faults files.old) (F.faults files.new) }
+    ensures opened { OpensFirst (job.file ∷ job.edits ∷ []) (HasValue result)
+        (F.opened files.old) (F.opened files.new) }
+{
+    let EcoJob {
+        file,
+        edits,
+        workers,
+        miller,
+    } = job;
+    let (file, bytes) = read_file(alloc, files, file)?;
+    let design = read_design(alloc, file, bytes)?;
+    let (edits, lines) = read_file(alloc, files, edits)?;
+    let design = counted_by(design, miller);
+    report_of_edits(rt, alloc, gate, &edits, &lines, design, workers)
+}
