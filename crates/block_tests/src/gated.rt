@@ -79,12 +79,22 @@ fn reports<R: Threads + Sync>(
     Ok(status == 0 && out.bytes() == REPORT.as_bytes() && gate.passed() == Some(workers))
 }
 
-/// Words for the block's report, and the bits of the workers that pass the gate. One worker alone passes none.
-const REPORTS: [(&str, u64); 4] = [
+/// Words for the block's report, and the bits of the workers that pass the gate. One worker alone passes none, but for
+/// runs by marks.
+const REPORTS: [(&str, u64); 7] = [
     ("report r.lib r.v r.spef r.sdc", 0),
     ("report r.lib r.v r.spef r.sdc --workers 2", 0b11),
     ("report r.lib r.v r.spef r.sdc --workers 7", 0b111_1111),
     ("report r.lib r.v r.spef r.sdc --workers 64", u64::MAX),
+    ("report r.lib r.v r.spef r.sdc --engine marks", 0b1),
+    (
+        "report r.lib r.v r.spef r.sdc --engine=marks --workers 2",
+        0b11,
+    ),
+    (
+        "report r.lib r.v r.spef r.sdc --workers 64 --engine marks",
+        u64::MAX,
+    ),
 ];
 
 #[test]

@@ -64,17 +64,21 @@ fn prints<R: Threads + Sync, G: Gate>(
     Ok(status == 0 && out.bytes() == printed && err.bytes().is_empty())
 }
 
-/// Whether two workers meet, and print the report of the coupled gates.
-fn two_meet<R: Threads + Sync>(rt: &R, alloc: Global) -> Result<bool, Fail> {
+/// Whether two workers meet, and print the report of the coupled gates, as these words ask for.
+fn two_meet<R: Threads + Sync>(rt: &R, alloc: Global, line: &str) -> Result<bool, Fail> {
     let gate = MeetGate::new();
-    let line = "solve one.xt --workers 2";
     Ok(prints(rt, alloc, &gate, line, LOAD_PAIR, LOAD_PAIR_REPORT)? && !gate.late())
 }
 
 // Workers that run one after another never meet.
 #[test]
 fn two_workers_meet_and_the_report_is_printed(rt: HostRuntime) -> Result<(), Fail> {
-    assert!(rt; two_meet(&rt, rt.alloc())?);
+    for line in [
+        "solve one.xt --workers 2",
+        "solve one.xt --workers 2 --engine marks",
+    ] {
+        assert!(rt; two_meet(&rt, rt.alloc(), line)?, "{line}");
+    }
     Ok(())
 }
 
@@ -101,8 +105,8 @@ fn passes<R: Threads + Sync>(
 }
 
 /// Words, the text of their file, what they print, and the bits of the workers that pass the gate. One worker alone
-/// passes none, and so do the workers of `replay`, who take turns.
-const PASSES: [(&str, &[u8], &[u8], u64); 6] = [
+/// passes none, but for runs by marks, and so do the workers of `replay`, who take turns.
+const PASSES: [(&str, &[u8], &[u8], u64); 8] = [
     (
         "solve one.xt --workers 7",
         LOAD_PAIR,
@@ -111,6 +115,13 @@ const PASSES: [(&str, &[u8], &[u8], u64); 6] = [
     ),
     ("solve one.xt --workers 64", CROSS, CROSS_REPORT, u64::MAX),
     ("solve one.xt", CROSS, CROSS_REPORT, 0),
+    ("solve one.xt --engine marks", CROSS, CROSS_REPORT, 0b1),
+    (
+        "solve --engine=marks one.xt --workers 64",
+        LOAD_PAIR,
+        LOAD_PAIR_REPORT,
+        u64::MAX,
+    ),
     (
         "replay one.xt --order 5 --workers 3",
         CROSS,
@@ -152,6 +163,8 @@ fn any_number_of_workers_gives_the_same_report(rt: HostRuntime) -> Result<(), Fa
         "solve one.xt --workers 2",
         "solve one.xt --workers 7",
         "solve one.xt --workers 64",
+        "solve one.xt --engine marks",
+        "solve one.xt --engine=marks --workers 7",
     ] {
         for (text, report) in &REPORTS {
             assert!(rt;

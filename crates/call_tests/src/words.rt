@@ -6,7 +6,7 @@ use report_text::ReportKind;
 use std::alloc::{AllocError, Global};
 use std::test::Fail;
 use xt_model::Miller;
-use xtalk_top::{BlockFiles, Job, parse_words};
+use xtalk_top::{BlockFiles, Engine, Job, parse_words};
 
 /// The Miller numbers that words give, or `-`.
 fn miller_in_words(alloc: Global, miller: &Option<Miller>) -> Result<String, AllocError> {
@@ -33,15 +33,24 @@ fn files_in_words(alloc: Global, files: &BlockFiles) -> Result<String, AllocErro
     format!(in alloc; "{lib} {netlist} {spef} {sdc}")
 }
 
+/// The engine, where it is not that of rounds.
+fn engine_in_words(engine: Engine) -> &'static str {
+    match engine {
+        Engine::Rounds => "",
+        Engine::Marks => " marks",
+    }
+}
+
 /// What a job is to do: the file of a text, or those of a block; the order of `replay`; how many workers; which report;
-/// Miller numbers.
+/// Miller numbers; the engine.
 fn in_words(alloc: Global, job: &Job) -> Result<String, AllocError> {
     match job {
         Job::Solve(job) => {
             let miller = miller_in_words(alloc, &job.miller)?;
             let (file, kind) = (job.file.as_str(), kind_in_words(job.kind));
             let (workers, miller) = (job.workers, miller.as_str());
-            format!(in alloc; "solve {file} {workers} {kind} {miller}")
+            let engine = engine_in_words(job.engine);
+            format!(in alloc; "solve {file} {workers} {kind} {miller}{engine}")
         }
         Job::Replay(job) => {
             let miller = miller_in_words(alloc, &job.miller)?;
@@ -54,7 +63,8 @@ fn in_words(alloc: Global, job: &Job) -> Result<String, AllocError> {
             let miller = miller_in_words(alloc, &job.miller)?;
             let (files, kind) = (files.as_str(), kind_in_words(job.kind));
             let (workers, miller) = (job.workers, miller.as_str());
-            format!(in alloc; "report {files} {workers} {kind} {miller}")
+            let engine = engine_in_words(job.engine);
+            format!(in alloc; "report {files} {workers} {kind} {miller}{engine}")
         }
         Job::Link(job) => {
             let files = files_in_words(alloc, &job.files)?;
@@ -87,6 +97,9 @@ report a b c d 1 checks - | report a b --kind checks c d
 report a b c d 2 noise 4,4,4 | report a b c --kind=noise --miller 4,4,4 d --workers 2
 report a b c d 1 all 4,4,4 | report a --miller=4,04,004 b c d
 link a b c d 0,4,12 | link a b --miller 0,4,12 c d
+solve f 1 all - marks | solve --engine marks f
+solve f 2 noise - | solve f --engine=rounds --workers 2 --kind noise
+report a b c d 3 all - marks | report a --engine=marks b c --workers 3 d
 ";
 
 /// What the words of a line ask for.
@@ -157,6 +170,13 @@ solve one.xt --kind=check
 solve one.xt --kind=Noise
 solve one.xt --kind all --kind noise
 solve one.xt --kin=all
+solve one.xt --engine
+solve one.xt --engine ∅
+solve one.xt --engine=Marks
+solve one.xt --engine mark
+solve one.xt --engine marks --engine=rounds
+link a b c d --engine marks
+replay one.xt --order=5 --workers=3 --engine=marks
 solve one.xt --miller 4,0,8
 solve one.xt --miller 0,9,8
 solve one.xt --miller 0,4,13

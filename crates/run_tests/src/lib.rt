@@ -8,6 +8,8 @@ mod findings;
 #[cfg(test)]
 mod large;
 #[cfg(test)]
+mod marks;
+#[cfg(test)]
 mod orders;
 #[cfg(test)]
 mod passes;
