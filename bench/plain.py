@@ -1,7 +1,7 @@
 #!/usr/bin/env python3
 """An independent judge of `xtalk solve`, slow and plain, that shares nothing with the program.
 
-    plain.py solve WORDS..   prints what the program has to print and ends with its status
+    plain.py solve WORDS..   prints what the program has to print and ends with its status; so with `replay` and `eco`
     plain.py slow WORDS..    the same, with every small box of a table looked at point by point
     plain.py selftest [N]    compares the short cuts taken here with plain counting, N times
 
@@ -610,10 +610,12 @@ def answer(file, data, verdict, kind="all"):
         return 5, "", line("limit:", kind, net, value)
     return 0, report(verdict.design, verdict.low, verdict.high, kind), ""
 
-OPTIONS = {"solve": ("--workers", "--kind", "--miller"), "replay": ("--order", "--workers", "--miller")}
+OPTIONS = {"solve": ("--workers", "--kind", "--miller"), "replay": ("--order", "--workers", "--miller"),
+           "eco": ("--workers", "--miller")}
+FILES = {"solve": 1, "replay": 1, "eco": 2}
 
 def job(words):
-    """The file, the kind of report and the Miller numbers, if any, that a command line asks
+    """The files, the kind of report and the Miller numbers, if any, that a command line asks
     for, or None. `replay` asks for the whole report, in an order that does not matter."""
     files, given, rest = [], {}, list(words[1:])
     while rest:
@@ -627,19 +629,19 @@ def job(words):
             return None
         given[name] = value
     workers, kind = given.get("--workers", "1"), given.get("--kind", "all")
-    if words[:1] not in (["solve"], ["replay"]) or len(files) != 1 or not plain_word(files[0]):
+    if not words or FILES.get(words[0]) != len(files) or not all(map(plain_word, files)):
         return None
     if words[0] == "replay" and not ("--workers" in given and is_number(given.get("--order", "")) and int(given["--order"]) < 2**64):
         return None
     if not is_number(workers) or not 1 <= int(workers) <= 64 or kind not in ("all", "checks", "noise"):
         return None
     if "--miller" not in given:
-        return files[0], kind, None
+        return files, kind, None
     pieces = given["--miller"].split(",")
     if len(pieces) != 3 or not all(map(is_number, pieces)):
         return None
     miller = tuple(map(int, pieces))
-    return (files[0], kind, miller) if sound_miller(miller) else None
+    return (files, kind, miller) if sound_miller(miller) else None
 
 def is_number(text):
     """Whether a text is one to twenty decimal digits."""
@@ -649,20 +651,30 @@ def plain_word(word):
     """Whether a word can be a file or a value."""
     return word != "" and not word.startswith("-")
 
+def content(name):
+    """The bytes of a file, and status and line where there are none."""
+    try:
+        with open(name, "rb") as file:
+            data = file.read(MOST_BYTES + 1)
+    except OSError:
+        return None, (6, f"read fault: {name}\n")
+    return data, (5, line("limit:", "file", name, MOST_BYTES + 1)) if len(data) > MOST_BYTES else None
+
 def outcome(words):
     """Status, standard output and standard error of the program on its command line."""
     wanted = job(words)
     if wanted is None:
         return 2, "", "xtalk: bad command line\n"
-    name, kind, miller = wanted
-    try:
-        with open(name, "rb") as file:
-            data = file.read(MOST_BYTES + 1)
-    except OSError:
-        return 6, "", f"read fault: {name}\n"
-    if len(data) > MOST_BYTES:
-        return 5, "", line("limit:", "file", name, MOST_BYTES + 1)
-    return answer(name, data, judge(data, miller), kind)
+    names, kind, miller = wanted
+    data, stop = content(names[0])
+    if not stop and words[0] != "eco":
+        return answer(names[0], data, judge(data, miller), kind)
+    stop = stop or refusals.answer(names[0], data)
+    text, stop = (None, stop) if stop else content(names[1])
+    if stop:
+        return stop[0], "", stop[1]
+    import eco  # which needs this module
+    return eco.answer(names[0], data, names[1], text, miller)
 
 def selftest_of_noise(rng):
     """Compares the peak of a net with its shares at all moments."""
