@@ -370,6 +370,8 @@ def value_of(name, read):
     except (liberty.Refusal, verilog.Refusal, spef.Refusal, sdc.Refusal) as refusal:
         code, line = refusal.args
         raise Refused(3, f"{name}:{line}: {code}") from refusal
+    except verilog.Limit as limit:
+        raise Refused(5, f"limit: {limit} {verilog.MOST_NETS + 1}") from limit
 
 
 def read_spef(data):
@@ -383,7 +385,7 @@ def read_spef(data):
 def linked(files, miller=None):
     """The linked text of four files."""
     library = value_of(files[0], lambda data: liberty.Meaning(liberty.Grammar(data).library()))
-    module = value_of(files[1], sdc.module_of)
+    module = value_of(files[1], verilog.flat)
     parasitics = value_of(files[2], read_spef)
     constraints = value_of(files[3], lambda data: sdc.Constraints(data, module, library.time_scale, library.cap_scale))
     design, checks = Linker(library, module, parasitics, constraints).design()

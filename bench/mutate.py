@@ -330,8 +330,8 @@ def draw_v(rng):
     text = "".join(v_whole(rng, name) for name in now_and_then(rng, .3, ["mn", "mnm"], ["m"]))
     if rng.random() < .5:
         text = mutated(rng, rng.choice([text] * 3 + V_SEEDS), V_TOKEN, V_POOL)
-    several = rng.random() < .5
-    return text, "several" if several else "one", verilog.listing(text.encode("latin-1"), several)
+    way = rng.choice(["one", "several"])
+    return text, way, verilog.listing(text.encode("latin-1"), way)
 
 
 # ---- Parasitics --------------------------------------------------------------------------

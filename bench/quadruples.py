@@ -319,11 +319,11 @@ def given(*words):
     return run.returncode, run.stdout.decode("latin-1"), run.stderr.decode("latin-1")
 
 
-def compare(program, count, seed):
-    """Compares, and returns how many differ."""
+def compare(program, quadruples, called):
+    """Compares, and returns how many differ; those that do are kept in folders of this name with their numbers."""
     kinds, differ = Counter(), 0
     with tempfile.TemporaryDirectory() as folder:
-        for number, texts in enumerate(drawn(seed, count)):
+        for number, texts in enumerate(quadruples):
             files = written(Path(folder) / str(number), texts)
             linked = answer(files)
             kinds[kind_of(linked)] += 1
@@ -332,10 +332,10 @@ def compare(program, count, seed):
                 found = given(program, command, *files, *options)
                 if found != wanted:
                     differ += 1
-                    kept = written(Path(tempfile.gettempdir()) / f"quadruple-{seed}-{number}", texts)
+                    kept = written(Path(tempfile.gettempdir()) / f"{called}-{number}", texts)
                     print(f"{command} {' '.join(kept)}: wanted {wanted[0]} {wanted[2].strip()}, "
                           f"given {found[0]} {found[2].strip()}")
-    print(f"{count} quadruples {dict(kinds)}, {differ} differences")
+    print(f"{sum(kinds.values())} quadruples {dict(kinds)}, {differ} differences")
     return differ
 
 
@@ -357,7 +357,8 @@ def main(words):
         print(dict(kinds.most_common()))
         return 0
     if words[:1] == ["compare"] and len(words) == 4:
-        return 1 if compare(words[1], int(words[2]), int(words[3])) else 0
+        count, seed = int(words[2]), int(words[3])
+        return 1 if compare(words[1], drawn(seed, count), f"quadruple-{seed}") else 0
     print(__doc__.strip(), file=sys.stderr)
     return 2
 

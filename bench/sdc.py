@@ -383,7 +383,7 @@ def listing(text, module, time_scale, cap_scale):
 
 
 def module_of(text):
-    """The module of a netlist."""
+    """The module of a netlist of one module."""
     return verilog.Reader(text, False).modules()[0]
 
 

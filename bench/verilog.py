@@ -1,12 +1,14 @@
 #!/usr/bin/env python3
 """An independent reader of structural Verilog, plain, that shares nothing with the program but the format.
 
-    verilog.py one|several < TEXT   prints what the netlist says, or the one refusal that it has
+    verilog.py one|several|flat < TEXT   prints what the netlist says, or the one refusal that it has
+    verilog.py text < TEXT               prints the flat netlist as a text of one module
 
 `one` reads a text of one module, in which no connection names a whole bus; `several` reads a list of
-modules. A refusal is the line `CODE LINE`. Otherwise there is a line for each thing that a module has, in
+modules; `flat` puts the modules of a list in the place of their instances. A refusal is the line `CODE LINE`,
+a limit that is passed `limit WHAT`. Otherwise there is a line for each thing that a module has, in
 its order: `module NAME`; `net NAME ROLE` or `net NAME ROLE LEFT RIGHT` of a bus, where the role is input,
-output or inner; `instance CELL NAME LINE`, and behind it a line for each of its pins, `pin NAME open`,
+output or inner; `instance CELL NAME LINE`, and after it a line for each of its pins, `pin NAME open`,
 `pin NAME constant`, `pin NAME bit NET BIT` or `pin NAME whole NET`, with the number of the net among the
 module's and the number of the bit, which is 0 where the net is no bus.
 """
@@ -17,12 +19,16 @@ import tokens as lexer
 
 GREATEST_BOUND = 1048575
 LONGEST_NAME = 1024
+MOST_NETS, MOST_INSTANCES = 262144, 262144
 NO_NAMES = {b"module", b"endmodule", b"input", b"output", b"wire", b"tri", b"supply0", b"supply1"}
 DECLARES = {b"input": "input", b"output": "output", b"wire": None, b"tri": None, b"supply0": None, b"supply1": None}
 UNSUPPORTED = {b"assign", b"inout", b"parameter", b"always", b"initial", b"reg", b"function", b"task", b"generate"}
 
 class Refusal(Exception):
     """The one answer of a text that means nothing: its code and its line."""
+
+class Limit(Exception):
+    """What there is too much of where the modules of a text are put in the place of their instances."""
 
 class Token:
     """A token: what it is, its bytes or its name, and its line. What it is: name, word, number, constant,
@@ -288,13 +294,145 @@ class Reader:
         self.expect(")")
         return f"bit {number} {bit}"
 
-def listing(text, several):
+# ---- Modules in the place of their instances ------------------------------------------------
+
+def width(net):
+    """Of how many bits a net is."""
+    return 1 if net.bounds is None else abs(net.bounds[0] - net.bounds[1]) + 1
+
+def connects(module, inner, pin, wire):
+    """Whether a pin of an instance may be connected like that: of a cell's instance, where there is no inner module, or
+    of a module's, whose port it then is, with as many bits."""
+    what, *places = wire.split()
+    if inner is None:
+        return what != "whole"
+    port = inner.nets[inner.numbers[pin]] if pin in inner.numbers else None
+    if port is None or port.role is None:
+        return False
+    return what == "open" or width(port) == (width(module.nets[int(places[0])]) if what == "whole" else 1)
+
+def contain_themselves(inner):
+    """Whether some module is below itself; `inner` has the names of the modules that each module has instances of."""
+    left = dict(inner)
+    while left:
+        ended = [name for name, names in left.items() if not names & left.keys()]
+        if not ended:
+            return True
+        for name in ended:
+            del left[name]
+    return False
+
+class Flat(Module):
+    """The flat netlist of a top and of the modules below it. Of each net of a module at a path there is a function that
+    gives for a place, counted from 0 at the left bound, the flat wire: that of the net itself, or of what the port is
+    connected to."""
+
+    def __init__(self, modules, top):
+        super().__init__(top.name)
+        self.modules, self.bits, self.entered = modules, 0, 0
+        self.put(b"", top, {})
+
+    def own(self, prefix, net):
+        """Takes a net of a module at a path, which is a port at the top alone, and gives what it is at each place."""
+        number, flat = len(self.nets), Net(prefix + net.name)
+        flat.bounds, flat.role, flat.is_declared = net.bounds, None if prefix else net.role, True
+        self.nets.append(flat)
+        self.bits += width(net)
+        left, right = net.bounds or (0, 0)
+        return lambda place: f"bit {number} {left + place if left < right else left - place}"
+
+    def put(self, prefix, module, connected):
+        """Puts a module at a path. `connected` has its ports that are connected, and what they are at each place."""
+        at = [connected.get(net.name) or self.own(prefix, net) for net in module.nets]
+
+        def wire_of(wire):
+            """What a wire of the module is at each place."""
+            what, *places = wire.split()
+            if what == "whole":
+                return at[int(places[0])]
+            if what == "bit":
+                left, _ = module.nets[int(places[0])].bounds or (0, 0)
+                one = at[int(places[0])](abs(int(places[1]) - left))
+                return lambda place: one
+            return lambda place: what
+
+        for cell, name, line, pins in module.instances:
+            self.entered += 1
+            if cell not in self.modules:
+                self.instances.append((cell, prefix + name, line, [(pin, wire_of(wire)(0)) for pin, wire in pins]))
+                continue
+            if self.entered > MOST_INSTANCES:
+                raise Limit("instances")
+            if self.bits > MOST_NETS:
+                raise Limit("nets")
+            self.put(prefix + name + b"/", self.modules[cell],
+                     {pin: wire_of(wire) for pin, wire in pins if wire != "open"})
+
+    def has_name_twice(self):
+        """Whether two nets, or two instances, have one name; a bit of a bus has a name as well."""
+        names = [name for _, name, _, _ in self.instances]
+        self.numbers = {net.name: number for number, net in enumerate(self.nets)}
+        return (len({*names}) < len(names) or len(self.numbers) < len(self.nets)
+                or any(net.bounds is None and self.bit_named(net.name) for net in self.nets))
+
+    def has_long_name(self):
+        names = [net.name for net in self.nets] + [name for _, name, _, _ in self.instances]
+        return any(len(name) > LONGEST_NAME for name in names)
+
+def flat(text):
+    """The flat netlist of a text."""
+    modules = {module.name: module for module in Reader(text, True).modules()}
+    for module in modules.values():
+        for cell, _, line, pins in module.instances:
+            if not all(connects(module, modules.get(cell), pin, wire) for pin, wire in pins):
+                raise Refusal("V7", line)
+    inner = {name: {cell for cell, *_ in module.instances} & modules.keys() for name, module in modules.items()}
+    if contain_themselves(inner):
+        raise Refusal("V8", 1)
+    last, tops = text.count(b"\n") + 1, modules.keys() - set().union(*inner.values())
+    if len(tops) != 1:
+        raise Refusal("V9", last)
+    sys.setrecursionlimit(20 * len(modules) + 1000)
+    netlist = Flat(modules, modules[tops.pop()])
+    if netlist.has_name_twice():
+        raise Refusal("V5", last)
+    if netlist.has_long_name():
+        raise Refusal("V1", last)
+    return netlist
+
+def one_module(netlist):
+    """A flat netlist as the lines of a text of one module, with every name escaped."""
+    def wire_text(wire):
+        what, *places = wire.split()
+        if what != "bit":
+            return {"open": "", "constant": "1'b0"}[what]
+        net = netlist.nets[int(places[0])]
+        return f"\\{net.name.decode()} " + (f"[{places[1]}]" if net.bounds else "")
+
+    yield f"module \\{netlist.name.decode()} ;"
+    for net in netlist.nets:
+        bounds = f"[{net.bounds[0]}:{net.bounds[1]}] " if net.bounds else ""
+        yield f" {net.role or 'wire'} {bounds}\\{net.name.decode()} ;"
+    for cell, name, _, pins in netlist.instances:
+        connections = ", ".join(f".\\{pin.decode()} ({wire_text(wire)})" for pin, wire in pins)
+        yield f" \\{cell.decode()} \\{name.decode()} ({connections});"
+    yield "endmodule"
+
+# ---- Answers --------------------------------------------------------------------------------
+
+def modules_of(text, way):
+    """The modules of a text, read in one of the three ways."""
+    return [flat(text)] if way == "flat" else Reader(text, way == "several").modules()
+
+def listing(text, way):
     """The lines that are printed for a text."""
     try:
-        modules = Reader(text, several).modules()
+        modules = modules_of(text, way)
     except Refusal as refusal:
         code, line = refusal.args
         return [f"{code} {line}"]
+    except Limit as limit:
+        return [f"limit {limit}"]
     lines = []
     for module in modules:
         lines.append(f"module {module.name.decode()}")
@@ -308,10 +446,11 @@ def listing(text, several):
 
 def main(words):
     """Runs the command that the words give, and returns its status."""
-    if len(words) != 1 or words[0] not in ("one", "several"):
+    if len(words) != 1 or words[0] not in ("one", "several", "flat", "text"):
         print(__doc__.strip(), file=sys.stderr)
         return 2
-    for line in listing(sys.stdin.buffer.read(), words[0] == "several"):
+    text = sys.stdin.buffer.read()
+    for line in one_module(flat(text)) if words[0] == "text" else listing(text, words[0]):
         print(line)
     return 0
 
