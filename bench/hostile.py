@@ -103,6 +103,40 @@ def many_wires(size):
     return block(net="module m; wire " + many(size, lambda i: f"{'' if not i else ','}w{i:x}") + "; endmodule\n")
 
 
+def modules_that_double(size):
+    leaf = "module d0; " + many(size, lambda i: f"BUF b{i} ();\n") + "endmodule\n"
+    return block(net=leaf + "".join(f"module d{i}; d{i - 1} l (), r (); endmodule\n" for i in range(1, 31)))
+
+
+def modules_in_modules(size):
+    """A chain of modules; the last one is a cell of the library, so that its one name is too long."""
+    text = many(size, lambda i: f"module m{i}; m{i + 1} u (); endmodule\n")
+    return block(net=f"{text}module m{text.count(';') // 2}; BUF b (); endmodule\n")
+
+
+def modules_in_a_circle(size):
+    text = many(size, lambda i: f"module m{i}; m{i + 1} u (), v (); endmodule\n")
+    return block(net=f"{text}module m{text.count('module m')}; m0 u (); endmodule\n")
+
+
+def names_along_a_path(size):
+    """A chain of modules with a cell in each: their names together take the square of its length."""
+    text = many(size, lambda i: f"module m{i}; m{i + 1} u (); BUF b (); endmodule\n")
+    return block(net=f"{text}module m{text.count('module m')}; endmodule\n")
+
+
+def modules_beside_modules(size):
+    text = many(size // 2, lambda i: f"module m{i} (p); input p; endmodule\n")
+    instances = "".join(f"m{i} u{i} (.p(n));\n" for i in range(text.count("module m")))
+    return block(net=f"{text}module top; {instances}endmodule\n")
+
+
+def wide_ports_passed_on(size):
+    inner = "module n (a); input [200000:0] a; BUF b (.A(a[7])); endmodule\n"
+    instances = many(size, lambda i: f"n u{i} (.a(b));\n")
+    return block(net=f"{inner}module top (b); input [1:200001] b; {instances}endmodule\n")
+
+
 def many_pins(size):
     return block(net="module m; BUF b(" + many(size, lambda i: f"{'' if not i else ','}.p{i:x}()") + "); endmodule\n")
 
@@ -219,6 +253,8 @@ def long_names(size):
 TEXTS = [
     bus_named_often, two_buses_in_turn, all_inputs_often, bits_one_by_one, commands_for_bits, clock_among_its_bus, many_ports,
     long_cell_name, wide_buses, many_wires, many_pins, one_long_comment,
+    modules_that_double, modules_in_modules, modules_in_a_circle, names_along_a_path, modules_beside_modules,
+    wide_ports_passed_on,
     long_mapped_name, long_mapped_couplings, one_name_in_two_ways, many_mapped_names, many_nodes, many_empty_nets,
     related_names_that_are_no_pins, related_pin_named_often, related_pins_on_no_net, related_pins_of_a_wide_cell,
     groups_in_groups, groups_side_by_side, many_attributes, many_cells, many_values,
