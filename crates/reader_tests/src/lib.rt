@@ -1,7 +1,10 @@
-//! Tests of the readers of Liberty, Verilog, SPEF and SDC, and of the tokens, numbers and names that they depend on:
-//! short texts, and what they mean or why they are refused. No crate depends on this one.
+//! Tests of the readers of Liberty, Verilog, SPEF and SDC, of the tokens, numbers and names that they depend on, and of
+//! the flat netlist of several modules: short texts, and what they mean or why they are refused. No crate depends on
+//! this one.
 #![tactic(auto)]
 
+#[cfg(test)]
+mod flat;
 #[cfg(test)]
 mod groups;
 #[cfg(test)]

@@ -200,7 +200,7 @@ fn push_instances(alloc: Global, out: &mut String, netlist: &Netlist) -> Result<
 }
 
 /// Appends a module: its name, its nets and its instances.
-fn push_module(alloc: Global, out: &mut String, netlist: &Netlist) -> Result<(), Fail> {
+pub fn push_module(alloc: Global, out: &mut String, netlist: &Netlist) -> Result<(), Fail> {
     let name = word(netlist.module.bytes())?;
     let head = format!(in alloc; "module {name}\n")?;
     out.push_str(head.as_str())?;
