@@ -353,6 +353,130 @@ fall quiet
 sink u/A 0
 sink y 0
 
+Two instances of one module, whose inner nets couple | 3 0 | none | \
+    (a); input a; h u1 (.a(a)), u2 (.a(a)); endmodule module h (a); input a; INV i (.A(a), .Y(n)); INV j (.A(n)); | \
+    *D_NET u1/n 0 *CAP 1 u1/n:1 2 2 u1/n:1 u2/n:1 5 *END *D_NET u2/n 0 *CAP 1 u2/j:A u1/i:Y 5 *END
+net a i 2000 0 2 0
+net u1/n w 3000 1 1 2
+net u2/n w 1000 1 1 2
+rise quiet
+fall quiet
+sink u1/i/A 0
+sink u2/i/A 0
+couple 2 5000
+sink u1/j/A 0 0
+arc 0 0 rise fall 1 3
+arc 0 0 fall rise 0 2
+couple 1 5000
+sink u2/j/A 0 0
+arc 0 1 rise fall 1 3
+arc 0 1 fall rise 0 2
+
+The same where the divider of the parasitics is a point | 3 0 | none | \
+    (a); input a; h u1 (.a(a)), u2 (.a(a)); endmodule module h (a); input a; INV i (.A(a), .Y(n)); INV j (.A(n)); | \
+    *DIVIDER . *D_NET u1.n 0 *CAP 1 u1.n:1 2 2 u1.n:1 u2.n:1 5 *END *D_NET u2.n 0 *CAP 1 u2.j:A u1.i:Y 5 *END
+net a i 2000 0 2 0
+net u1/n w 3000 1 1 2
+net u2/n w 1000 1 1 2
+rise quiet
+fall quiet
+sink u1/i/A 0
+sink u2/i/A 0
+couple 2 5000
+sink u1/j/A 0 0
+arc 0 0 rise fall 1 3
+arc 0 0 fall rise 0 2
+couple 1 5000
+sink u2/j/A 0 0
+arc 0 1 rise fall 1 3
+arc 0 1 fall rise 0 2
+
+A bus through three modules: bits by their places from the left | 7 0 | none | \
+    (b, y); input [0:3] b; output [5:3] y; p u (.p(b), .q(y)); endmodule module p (p, q); input [9:6] p; \
+    output [0:2] q; n v (.r(p), .s(q)); endmodule module n (r, s); input [1:4] r; output [3:1] s; \
+    l w (.a(r), .o(s)); endmodule module l (a, o); input [7:4] a; output [0:2] o; INV i (.A(a[6]), .Y(o[2]));
+net b[0] i 0 0 0 0
+net b[1] i 1000 0 1 0
+net b[2] i 0 0 0 0
+net b[3] i 0 0 0 0
+net y[5] w 0 0 1 0
+net y[4] w 0 0 1 0
+net y[3] w 0 0 1 2
+rise quiet
+fall quiet
+rise quiet
+fall quiet
+sink u/v/w/i/A 0
+rise quiet
+fall quiet
+rise quiet
+fall quiet
+rise quiet
+fall quiet
+sink y[5] 0
+rise quiet
+fall quiet
+sink y[4] 0
+sink y[3] 0
+arc 1 0 rise fall 1 3
+arc 1 0 fall rise 0 2
+
+A port on a constant, and an open one, which is a net below | 2 0 | none | \
+    (y); output y; h u (.c(1'b0), .y(y)); endmodule \
+    module h (c, d, y); input c, d; output y; GATE g (.A(c), .B(d), .Y(y));
+net y w 0 0 1 3
+net u/d w 2000 0 1 0
+sink y 0
+arc 1 0 rise rise 8 9
+arc 1 0 fall rise 8 9
+arc 1 0 fall fall 10 11
+rise quiet
+fall quiet
+sink u/g/B 0
+
+Nets of the top, then those of each instance of a module in order; checks in the order of instances | 8 6 | 100000 | \
+    (ck, d); input ck, d; h u (.ck(ck), .d(d)); FF f (.CK(ck), .D(n), .Q()); wire n; h v (.ck(ck)); endmodule \
+    module h (ck, d); input ck, d; wire q; FF f (.CK(ck), .D(d), .Q(q)); INV i (.A(q), .Y(y)); | | \
+    create_clock -period 100 ck
+net ck i 3000 0 3 0
+net d i 2000 0 1 0
+net n w 2000 0 1 0
+net u/q w 1000 0 1 2
+net u/y w 0 0 0 2
+net v/d w 2000 0 1 0
+net v/q w 1000 0 1 2
+net v/y w 0 0 0 2
+rise 0 0 0 0
+fall 50000 50000 0 0
+sink u/f/CK 0
+sink f/CK 0
+sink v/f/CK 0
+rise quiet
+fall quiet
+sink u/f/D 0
+rise quiet
+fall quiet
+sink f/D 0
+sink u/i/A 0
+arc 0 0 rise rise 14 16
+arc 0 0 rise fall 15 17
+arc 3 0 rise fall 1 3
+arc 3 0 fall rise 0 2
+rise quiet
+fall quiet
+sink v/f/D 0
+sink v/i/A 0
+arc 0 2 rise rise 14 16
+arc 0 2 rise fall 15 17
+arc 6 0 rise fall 1 3
+arc 6 0 fall rise 0 2
+flop setup u/f/D 1 0 0 0 12 13
+flop hold u/f/D 1 0 0 0 - -
+flop setup f/D 2 0 0 1 12 13
+flop hold f/D 2 0 0 1 - -
+flop setup v/f/D 5 0 0 2 12 13
+flop hold v/f/D 5 0 0 2 - -
+
 A net without a listed wire between two that couple to it | 3 0 | none | (a, b, c); input a, b, c; | \
     *D_NET c 1 *CAP 1 c b 1 *END *D_NET a 1 *CAP 1 b:2 a:1 2 *END
 net a i 0 1 0 0

@@ -15,6 +15,8 @@ mod faults;
 #[cfg(test)]
 mod gated;
 #[cfg(test)]
+mod half;
+#[cfg(test)]
 mod limits;
 #[cfg(test)]
 mod linking;

@@ -54,6 +54,25 @@ As many nets as there may be | 4 link: K1 u NOPE | (a); input [262143:0] a; NOPE
 Nets before instances | 5 limit: nets 262145 | (a); input [262144:0] a; NOPE⟨262144: u#(),⟩ v();
 Instances before their cells | 5 limit: instances 262145 | ; NOPE⟨262144: u#(),⟩ v();
 As many instances as there may be, of no cell | 4 link: K1 u0 NOPE | ; NOPE⟨262143: u#(),⟩ v();
+Thirty modules that double: instances before those of the last are there | 5 limit: instances 262145 | \
+    ; D u (), v (); endmodule module a; endmodule module b; a u (), v (); endmodule module c; b u (), v (); \
+    endmodule module d; c u (), v (); endmodule module e; d u (), v (); endmodule module f; e u (), v (); endmodule \
+    module g; f u (), v (); endmodule module h; g u (), v (); endmodule module i; h u (), v (); endmodule module j; \
+    i u (), v (); endmodule module k; j u (), v (); endmodule module l; k u (), v (); endmodule module n; \
+    l u (), v (); endmodule module o; n u (), v (); endmodule module p; o u (), v (); endmodule module q; \
+    p u (), v (); endmodule module r; q u (), v (); endmodule module s; r u (), v (); endmodule module t; \
+    s u (), v (); endmodule module u; t u (), v (); endmodule module v; u u (), v (); endmodule module w; \
+    v u (), v (); endmodule module x; w u (), v (); endmodule module y; x u (), v (); endmodule module z; \
+    y u (), v (); endmodule module A; z u (), v (); endmodule module B; A u (), v (); endmodule module C; \
+    B u (), v (); endmodule module D; C u (), v ();
+Bits of nets before the fourth of four modules, whose own are not yet there | 5 limit: nets 262145 | \
+    ; h⟨3: u#(),⟩ v(); endmodule module h; wire [131071:0] n;
+Bits of three modules, which are met by linking | 5 limit: nets 393216 | \
+    ; h⟨2: u#(),⟩ v(); endmodule module h; wire [131071:0] n;
+As many instances as there may be, each module's with one of a cell | 4 link: K1 u0/i NOPE | \
+    ; h⟨131071: u#(),⟩ v(); endmodule module h; NOPE i ();
+One of a cell before them is one too many at the last | 5 limit: instances 262145 | \
+    ; NOPE i (), j (); h⟨131071: u#(),⟩ v(); endmodule module h; NOPE i ();
 64 capacitors of 2^40 aF are as much as a net may have, and then a pin of 1000 aF | \
     5 limit: load a 70368744178664 | (a); input a; INV u (.A(a)); | *D_NET a 0 *CAP⟨64: # a 1099511627.776⟩ *END
 Each coupling counts twice | 5 limit: load a 70368744178664 | (a, b); input a, b; INV u (.A(a)); | \

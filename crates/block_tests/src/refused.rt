@@ -51,6 +51,29 @@ A wire before a loop of arcs | 4 link: K6 a v:A | (a); input a; INV u (.A(n), .Y
     *D_NET a 0 *RES 1 a a:1 5 *END
 A loop of arcs before a check without clock | 4 link: K4 n | \
     (ck, d); input ck, d; FF f (.CK(ck), .D(d), .Q()); INV u (.A(n), .Y(n));
+A whole bus at a cell, which is no module | 3 x.v:1: V7 | (a); input [0:0] a; INV u (.A(a));
+A port of another width, before a module that contains itself | 3 x.v:1: V7 | \
+    (a); input a; h u (.p(a)); endmodule module h (p); input [1:0] p; h v (.p(p));
+A module that contains itself, so that none is the top | 3 x.v:1: V8 | ; m u ();
+Two modules that no other has | 3 x.v:2: V9 | ; endmodule module b;
+A net below the top with the name of a bit at the top | 3 x.v:2: V5 | \
+    (\\h/b[1] ); input \\h/b[1] ; h h (); endmodule module h; wire [3:0] b;
+An instance below the top with the name of one at the top | 3 x.v:2: V5 | \
+    (a); input a; INV \\h/i (.A(a)); h h (); endmodule module h; INV i ();
+A module with a cell's name is the module | 3 x.v:1: V7 | (a); input a; INV u (.A(a)); endmodule module INV (B); input B;
+Netlists before parasitics | 3 x.v:1: V8 | ; m u (); | *D_NET
+No such cell below the top | 4 link: K1 g/h/u NOPE | \
+    ; g g (); endmodule module h; NOPE u (); endmodule module g; h h ();
+No such pin below the top | 4 link: K2 h/u Z | ; h h (); endmodule module h; INV u (.Z());
+Instances in the order of the text, those of a module where it is | 4 link: K2 h/u Z | \
+    ; h h (); INV u (.X()); endmodule module h; INV u (.Z());
+Two drivers, one below the top | 4 link: K3 y | \
+    (a, y); input a; output y; h h (.a(a), .y(y)); INV v (.A(a), .Y(y)); endmodule \
+    module h (a, y); input a; output y; INV u (.A(a), .Y(y));
+A loop through two modules | 4 link: K4 p | \
+    ; h g (.a(p), .y(q)), h (.a(q), .y(p)); endmodule module h (a, y); input a; output y; INV u (.A(a), .Y(y));
+A sink below the top that is not reached | 4 link: K6 a h/u:A | \
+    (a); input a; h h (.a(a)); endmodule module h (a); input a; INV u (.A(a)); | *D_NET a 0 *RES 1 a a:1 5 *END
 Two ends of one text: the first of them has it | 4 link: K5 u:A | (\\u:A ); input \\u:A ; INV u (.A(\\u:A )); | \
     *D_NET u:A 0 *RES 1 u:A u:A 5 *END
 Two ends of one text: the other is met by no resistor | 4 link: K6 u:A u:A | \
