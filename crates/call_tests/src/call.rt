@@ -39,13 +39,14 @@ pub struct Ended {
 }
 
 /// What is outside: the numbers of the calls on the files and on the output that fail, the most bytes that the output
-/// takes at a time, and how many it has room for.
+/// takes at a time, how many it has room for, and the text of the file `edits`.
 #[derive(Drop)]
 pub struct Outside {
     pub files: Vec<u64>,
     pub out: Vec<u64>,
     pub most: usize,
     pub room: usize,
+    pub edits: String,
     ghost some: { 0 < most },
 }
 
@@ -56,6 +57,7 @@ pub fn calm(alloc: Global) -> Outside {
         out: Vec::new(alloc),
         most: 1 << 30,
         room: 4096,
+        edits: String::new(alloc),
     }
 }
 
@@ -69,27 +71,35 @@ pub fn words_of(alloc: Global, line: &str) -> Result<Vec<String>, AllocError> {
     Ok(words)
 }
 
-/// The one file `one.xt`.
-fn one_file(alloc: Global, text: &[u8], fail: Vec<u64>) -> Result<MemoryFiles, Fail> {
+/// The files `one.xt` and `edits`.
+fn two_files(
+    alloc: Global,
+    text: &[u8],
+    edits: &[u8],
+    fail: Vec<u64>,
+) -> Result<MemoryFiles, Fail> {
     let mut held = Vec::new(alloc);
-    held.push((
-        String::from_str(alloc, "one.xt")?,
-        Vec::from_slice(alloc, text)?,
-    ))?;
+    for (name, bytes) in [("one.xt", text), ("edits", edits)] {
+        held.push((
+            String::from_str(alloc, name)?,
+            Vec::from_slice(alloc, bytes)?,
+        ))?;
+    }
     Ok(MemoryFiles::new(alloc, held, fail)?)
 }
 
-/// The file `one.xt` with this text, and two streams.
+/// The file `one.xt` with this text, the file `edits`, and two streams.
 pub fn streams_of(alloc: Global, text: &[u8], outside: Outside) -> Result<Streams, Fail> {
     let Outside {
         files,
         out,
         most,
         room,
+        edits,
     } = outside;
     let err = MemorySink::new(alloc, Vec::new(alloc), 4096, 4096)?;
     let out = MemorySink::new(alloc, out, most, room)?;
-    let files = one_file(alloc, text, files)?;
+    let files = two_files(alloc, text, edits.as_str().as_bytes(), files)?;
     Ok(Streams { files, out, err })
 }
 
@@ -136,16 +146,18 @@ pub fn refuses<R: Threads + Sync>(
     Ok(ended.status == status && ended.out.bytes().is_empty() && ended.err.bytes() == line)
 }
 
-/// What a call with these words says where `one.xt` has this text: its status, then its line on the error stream, then
-/// its output, of 64 MiB at most.
+/// What a call with these words says where `one.xt` has this text up to a line `--`, if there is one, and `edits` what
+/// comes after that: its status, then its line on the error stream, then its output, of 64 MiB at most.
 fn outcome<R: Threads + Sync>(
     rt: &R,
     alloc: Global,
     words: &str,
     text: &str,
 ) -> Result<String, Fail> {
+    let (text, edits) = text.split_once("--\n").unwrap_or((text, ""));
     let mut outside = calm(alloc);
     outside.room = 1 << 26;
+    outside.edits.push_str(edits)?;
     let ended = run(rt, alloc, words, text.as_bytes(), outside)?;
     let line = str::from_utf8(ended.err.bytes()).unwrap_or("?");
     let out = str::from_utf8(ended.out.bytes()).unwrap_or("?");

@@ -9,6 +9,8 @@ mod checks;
 #[cfg(test)]
 mod designs;
 #[cfg(test)]
+mod eco;
+#[cfg(test)]
 mod edge;
 #[cfg(test)]
 mod gated;

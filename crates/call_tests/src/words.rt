@@ -41,8 +41,8 @@ fn engine_in_words(engine: Engine) -> &'static str {
     }
 }
 
-/// What a job is to do: the file of a text, or those of a block; the order of `replay`; how many workers; which report;
-/// Miller numbers; the engine.
+/// What a job is to do: the files of a text and of edits, or those of a block; the order of `replay`; how many workers;
+/// which report; Miller numbers; the engine.
 fn in_words(alloc: Global, job: &Job) -> Result<String, AllocError> {
     match job {
         Job::Solve(job) => {
@@ -72,6 +72,12 @@ fn in_words(alloc: Global, job: &Job) -> Result<String, AllocError> {
             let (files, miller) = (files.as_str(), miller.as_str());
             format!(in alloc; "link {files} {miller}")
         }
+        Job::Eco(job) => {
+            let miller = miller_in_words(alloc, &job.miller)?;
+            let (file, edits) = (job.file.as_str(), job.edits.as_str());
+            let (workers, miller) = (job.workers, miller.as_str());
+            format!(in alloc; "eco {file} {edits} {workers} {miller}")
+        }
         Job::Gen(_) => format!(in alloc; "gen"),
     }
 }
@@ -85,6 +91,10 @@ solve f 64 checks - | solve --kind checks f --workers 64
 solve f 3 checks - | solve --workers 3 --kind=checks f
 solve f 1 noise - | solve f --kind noise
 solve f 7 all - | solve --workers=00000000000000000007 f
+eco f e 1 - | eco f e
+eco f e 64 - | eco --workers=064 f e
+eco e f 3 0,4,12 | eco e --miller 0,4,12 f --workers 3
+eco f f 1 4,4,4 | eco f f --miller=4,04,4
 replay f 5 3 - | replay f --order 5 --workers 3
 replay f 0 64 - | replay --workers=064 --order=0 f
 replay f 18446744073709551615 1 - | replay --order=18446744073709551615 f --workers=1
@@ -201,6 +211,18 @@ replay one.xt --order=18446744073709551616 --workers=3
 replay one.xt --order=5 --workers=3 --kind=all
 replay one.xt --order=5 --workers=3 --kind noise
 replay one.xt --order=5 --workers=3 --miller=4,0,8
+eco one.xt
+eco one.xt edits edits
+eco one.xt ∅
+eco ∅ edits
+eco one.xt -
+eco one.xt edits --kind all
+eco one.xt edits --order 5
+eco one.xt edits --workers 0
+eco one.xt edits --workers 65
+eco one.xt edits --miller 0,4
+eco one.xt edits --miller=4,4,4 --miller=4,4,4
+Eco one.xt edits
 gen
 gen --number 7
 gen --nets 1
