@@ -3,8 +3,8 @@
 
     python3 bench/examples.py [PROGRAM]
 
-Each linked text goes through plain.py, the block through link.py and then plain.py; with PROGRAM, an executable that was
-built before or the launcher, also through that. What comes out has to be the report beside the text, byte for byte. It
+Each linked text goes through plain.py, with the edits that it has also through eco.py, the block through link.py and then
+plain.py; with PROGRAM, an executable that was built before or the launcher, also through that. What comes out has to be the report beside the text, byte for byte. It
 prints a line for each difference, and how many reports hold.
 """
 import subprocess
@@ -23,11 +23,11 @@ def output(*words):
 
 def by_plain(words, folder):
     """The report by the plain programs."""
-    text = words[1]
     if words[0] == "report":
         text = folder / "block.xt"
         text.write_bytes(output(sys.executable, TOP / "bench/link.py", *words[1:]))
-    return output(sys.executable, TOP / "bench/plain.py", "solve", text)
+        words = ["solve", text]
+    return output(sys.executable, TOP / "bench/plain.py", *words)
 
 
 def main():
@@ -35,6 +35,8 @@ def main():
         print(__doc__)
         return
     commands = {text.with_suffix(".report"): ["solve", text] for text in sorted(EXAMPLES.glob("*.xt"))}
+    for edits in sorted(EXAMPLES.glob("*.edits")):
+        commands[edits.with_suffix(".edits.report")] = ["eco", edits.with_suffix(".xt"), edits]
     commands[EXAMPLES / "block.report"] = ["report", *BLOCK]
     faults = [f"{path.name} is the report of no text" for path in EXAMPLES.glob("*.report") if path not in commands]
     with tempfile.TemporaryDirectory() as folder:

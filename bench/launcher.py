@@ -346,7 +346,7 @@ def completed(at):
     script = (f'source "{at.top}/tools/xtalk.bash"; complete -p xtalk >/dev/null || exit; COMP_WORDS=("$@"); '
               'COMP_CWORD=$(($# - 1)); _xtalk; printf "%s\\n" "${COMPREPLY[@]}"')
     rows = {
-        ("",): "report link solve replay gen --help", ("re",): "report replay", ("nothing", ""): "",
+        ("",): "report link solve eco replay gen --help", ("re",): "report replay", ("nothing", ""): "",
         ("report", ""): "cells.lib sub", ("report", "cells.lib", ""): "a_b.v b.v sub", ("link", "x", "y", ""): "b.spef sub",
         ("report", "x", "y", "z", ""): "b.sdc sub", ("report", "1", "2", "3", "4", ""): "--workers --kind --miller",
         ("report", "--kind", ""): "all checks noise", ("report", "--kind", "a"): "all", ("report", "--kind", "all", ""): "cells.lib sub",

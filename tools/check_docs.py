@@ -257,8 +257,8 @@ def check_usage():
 
 def check_examples():
     examples = TOP / "examples"
-    for text in [*examples.glob("*.xt"), *examples.glob("*.v")]:
-        if not text.with_suffix(".report").is_file():
+    for text in [*examples.glob("*.xt"), *examples.glob("*.v"), *examples.glob("*.edits")]:
+        if not text.with_suffix(".edits.report" if text.suffix == ".edits" else ".report").is_file():
             find(text, 1, "has no report beside it")
     for crate in (TOP / "crates").iterdir():
         words = (crate / "args").read_text().split() if (crate / "args").is_file() else []

@@ -6,13 +6,14 @@ _xtalk() {
     local options files=() word number=0 skip=
     COMPREPLY=()
     if [ "$COMP_CWORD" -eq 1 ]; then
-        mapfile -t COMPREPLY < <(compgen -W 'report link solve replay gen --help' -- "$now")
+        mapfile -t COMPREPLY < <(compgen -W 'report link solve eco replay gen --help' -- "$now")
         return
     fi
     case $command in
     report) options='--workers --kind --miller' files=(lib v spef sdc) ;;
     link) options='--miller' files=(lib v spef sdc) ;;
     solve) options='--workers --kind --miller' files=(xt) ;;
+    eco) options='--workers --miller' files=(xt edits) ;;
     replay) options='--order --workers --miller' files=(xt) ;;
     gen) options='--number --nets --workers' ;;
     *) return ;;
