@@ -14,7 +14,13 @@ from pathlib import Path
 
 TOP = Path(__file__).resolve().parent.parent
 EXAMPLES = TOP / "examples"
-BLOCK = [EXAMPLES / f"block.{end}" for end in ("lib", "v", "spef", "sdc")]
+KINDS = ("lib", "v", "spef", "sdc")
+
+
+def files(netlist):
+    """The files of a block; what it has none of its own of is that of block.v."""
+    own = [netlist.with_suffix(f".{kind}") for kind in KINDS]
+    return [path if path.is_file() else EXAMPLES / f"block{path.suffix}" for path in own]
 
 
 def output(*words):
@@ -37,7 +43,8 @@ def main():
     commands = {text.with_suffix(".report"): ["solve", text] for text in sorted(EXAMPLES.glob("*.xt"))}
     for edits in sorted(EXAMPLES.glob("*.edits")):
         commands[edits.with_suffix(".edits.report")] = ["eco", edits.with_suffix(".xt"), edits]
-    commands[EXAMPLES / "block.report"] = ["report", *BLOCK]
+    for netlist in sorted(EXAMPLES.glob("*.v")):
+        commands[netlist.with_suffix(".report")] = ["report", *files(netlist)]
     faults = [f"{path.name} is the report of no text" for path in EXAMPLES.glob("*.report") if path not in commands]
     with tempfile.TemporaryDirectory() as folder:
         for path, words in commands.items():
