@@ -610,7 +610,7 @@ def answer(file, data, verdict, kind="all"):
         return 5, "", line("limit:", kind, net, value)
     return 0, report(verdict.design, verdict.low, verdict.high, kind), ""
 
-OPTIONS = {"solve": ("--workers", "--kind", "--miller"), "replay": ("--order", "--workers", "--miller")}
+OPTIONS = {"solve": ("--workers", "--kind", "--miller", "--engine"), "replay": ("--order", "--workers", "--miller")}
 
 def job(words):
     """The file, the kind of report and the Miller numbers, if any, that a command line asks
@@ -632,6 +632,8 @@ def job(words):
     if words[0] == "replay" and not ("--workers" in given and is_number(given.get("--order", "")) and int(given["--order"]) < 2**64):
         return None
     if not is_number(workers) or not 1 <= int(workers) <= 64 or kind not in ("all", "checks", "noise"):
+        return None
+    if given.get("--engine", "rounds") not in ("rounds", "marks"):
         return None
     if "--miller" not in given:
         return files[0], kind, None
