@@ -598,6 +598,8 @@ def random_words(rng, folder):
     pieces = [[file]] * 8 + [[""], ["-"], ["--"], ["-w", "2"], ["--work=2"], ["--workers"], ["--kind"], ["all"]]
     pieces += [["--workers", n] for n in numbers] + [[f"--workers={n}"] for n in numbers]
     pieces += [["--kind", k] for k in kinds] + [[f"--kind={k}"] for k in kinds]
+    engines = ["rounds", "marks", "mark", "MARKS", "", "-marks", "rounds "]
+    pieces += [["--engine", e] for e in engines] + [[f"--engine={e}"] for e in engines]
     pieces += [["--miller", m] for m in millers] + [[f"--miller={m}"] for m in millers]
     orders = ["0", "5", "18446744073709551615", "18446744073709551616", "-5", "", "0x5", "0" * 19 + "7", "0" * 20 + "7"]
     pieces += [["--order"]] + [["--order", n] for n in orders] + [[f"--order={n}"] for n in orders]
@@ -615,7 +617,8 @@ def random_command(rng, file):
     """The words of `solve`, of a report of some kind, or those of `replay` in some order; and the kind."""
     if rng.random() < 0.7:
         kind = rng.choice(["all", "all", "checks", "noise"])
-        return ["solve", file, *(["--kind", kind] if kind != "all" else [])], kind
+        engine = rng.choice([[], [], ["--engine", "marks"], ["--engine", "rounds"]])
+        return ["solve", file, *(["--kind", kind] if kind != "all" else []), *engine], kind
     order = rng.choice([0, 1, 5, 2**64 - 1, rng.randrange(2**64)])
     return ["replay", file, "--order", str(order), "--workers", str(rng.choice([1, 2, 3, 7, 64]))], "all"
 

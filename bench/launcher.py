@@ -348,9 +348,9 @@ def completed(at):
     rows = {
         ("",): "report link solve eco replay gen --help", ("re",): "report replay", ("nothing", ""): "",
         ("report", ""): "cells.lib sub", ("report", "cells.lib", ""): "a_b.v b.v sub", ("link", "x", "y", ""): "b.spef sub",
-        ("report", "x", "y", "z", ""): "b.sdc sub", ("report", "1", "2", "3", "4", ""): "--workers --kind --miller",
+        ("report", "x", "y", "z", ""): "b.sdc sub", ("report", "1", "2", "3", "4", ""): "--workers --kind --miller --engine",
         ("report", "--kind", ""): "all checks noise", ("report", "--kind", "a"): "all", ("report", "--kind", "all", ""): "cells.lib sub",
-        ("report", "x", "--workers", "2", "-"): "--kind --miller", ("solve", ""): "d.xt sub", ("solve", "n"): "note.txt",
+        ("report", "x", "--workers", "2", "-"): "--kind --miller --engine", ("solve", ""): "d.xt sub", ("solve", "n"): "note.txt",
         ("replay", "d.xt", "--o"): "--order", ("gen", ""): "--number --nets --workers", ("link", "--k"): "",
     }
     for words, wanted in rows.items():

@@ -610,7 +610,7 @@ def answer(file, data, verdict, kind="all"):
         return 5, "", line("limit:", kind, net, value)
     return 0, report(verdict.design, verdict.low, verdict.high, kind), ""
 
-OPTIONS = {"solve": ("--workers", "--kind", "--miller"), "replay": ("--order", "--workers", "--miller"),
+OPTIONS = {"solve": ("--workers", "--kind", "--miller", "--engine"), "replay": ("--order", "--workers", "--miller"),
            "eco": ("--workers", "--miller")}
 FILES = {"solve": 1, "replay": 1, "eco": 2}
 
@@ -634,6 +634,8 @@ def job(words):
     if words[0] == "replay" and not ("--workers" in given and is_number(given.get("--order", "")) and int(given["--order"]) < 2**64):
         return None
     if not is_number(workers) or not 1 <= int(workers) <= 64 or kind not in ("all", "checks", "noise"):
+        return None
+    if given.get("--engine", "rounds") not in ("rounds", "marks"):
         return None
     if "--miller" not in given:
         return files, kind, None

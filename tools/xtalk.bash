@@ -10,9 +10,9 @@ _xtalk() {
         return
     fi
     case $command in
-    report) options='--workers --kind --miller' files=(lib v spef sdc) ;;
+    report) options='--workers --kind --miller --engine' files=(lib v spef sdc) ;;
     link) options='--miller' files=(lib v spef sdc) ;;
-    solve) options='--workers --kind --miller' files=(xt) ;;
+    solve) options='--workers --kind --miller --engine' files=(xt) ;;
     eco) options='--workers --miller' files=(xt edits) ;;
     replay) options='--order --workers --miller' files=(xt) ;;
     gen) options='--number --nets --workers' ;;
@@ -20,6 +20,7 @@ _xtalk() {
     esac
     case $before in
     --kind) mapfile -t COMPREPLY < <(compgen -W 'all checks noise' -- "$now"); return ;;
+    --engine) mapfile -t COMPREPLY < <(compgen -W 'rounds marks' -- "$now"); return ;;
     --miller) mapfile -t COMPREPLY < <(compgen -W '0,4,8 0,4,12 4,4,4' -- "$now"); return ;;
     --workers | --order | --number | --nets) return ;;
     esac
