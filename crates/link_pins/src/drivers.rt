@@ -83,7 +83,7 @@ fn port_drivers<'a>(
     requires bits { AreBits nets.now.nets bits.now }
     ensures { IfOk result (λ v. AreDrivers nets.now.nets [] v.items) }
 {
-    let mut drivers = Vec::new(alloc);
+    let mut drivers = Vec::with_capacity(alloc, nets.count() as usize)?;
     for net in 0..nets.count() {
         drivers.push(Driver::of_port(alloc, nets, net, bits[net as usize].role)?)?;
     }

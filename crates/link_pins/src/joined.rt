@@ -62,36 +62,18 @@ pub fn join<'a>(
     })
 }
 
-/// A net with the arcs into it.
-fn with_row(pins: NetPins, row: NetArcs) -> NetPins
-    ensures { result ≡ record pins { arcs = row.arcs.items } }
-{
-    let NetArcs { arcs } = row;
-    NetPins {
-        arcs: Row::from_vec(arcs),
-        ..pins
-    }
-}
-
-/// Nets with the arcs into them.
-fn with_arcs(
-    alloc: Global,
-    nets: Vec<NetPins>,
-    rows: Vec<NetArcs>,
-) -> Result<Vec<NetPins>, AllocError>
+/// Gives nets the arcs into them.
+fn with_arcs(mut nets: Vec<NetPins>, rows: Vec<NetArcs>) -> Vec<NetPins>
     requires { length rows.items ≡ length nets.items }
-    ensures { IfOk result (λ v. v.items ≡ with_rows nets.items rows.items) }
+    ensures { result.items ≡ with_rows nets.items rows.items }
 {
-    let mut made = Vec::new(alloc);
-    let mut left = nets.into_iter();
+    let mut at = 0;
     let mut rest = rows.into_iter();
-    'nets: while let Some(pins) = left.next() {
-        let Some(row) = rest.next() else {
-            unreachable!()
-        };
-        made.push(with_row(pins, row))?;
+    'nets: while let Some(row) = rest.next() {
+        nets[at].arcs = Row::from_vec(row.arcs);
+        at += 1;
     }
-    Ok(made)
+    nets
 }
 
 impl Joined {
@@ -147,7 +129,7 @@ impl Joined {
             nets: rows,
             mut checks,
         } = timings_of(alloc, cells, nets, &pins, &places)?;
-        let made = with_arcs(alloc, pins_of_nets, rows)?;
+        let made = with_arcs(pins_of_nets, rows);
         checks.append(&mut ports)?;
         Ok(Circuit {
             nets: Row::from_vec(made),

@@ -142,7 +142,7 @@ pub fn all_nets<'a>(
         mut drivers,
         mut sinks,
     } = gathered;
-    let mut made = Vec::new(alloc);
+    let mut made = Vec::with_capacity(alloc, nets.count() as usize)?;
     for net in 0..nets.count() {
         let at = net as usize;
         let name = net_name(alloc, nets, net)?;

@@ -92,13 +92,13 @@ fn pin_sinks<'a>(
     ensures sinks { IfOk result (λ s. ArePinSinks nets.now.nets (pins_of cells.now nets.now) s.nets.items) }
     ensures places { IfOk result (λ s. ArePlaces (pins_of cells.now nets.now) s.places.items) }
 {
-    let mut rows = Vec::new(alloc);
+    let mut rows = Vec::with_capacity(alloc, nets.count() as usize)?;
     for _ in 0..nets.count() {
         rows.push(NetSinks {
             sinks: Vec::new(alloc),
         })?;
     }
-    let mut places = Vec::new(alloc);
+    let mut places = Vec::with_capacity(alloc, pins.len())?;
     for pin in pins {
         let place = rows[pin.net as usize].add(alloc, cells, nets, *pin)?;
         places.push(place)?;

@@ -125,7 +125,7 @@ fn no_timings<'a>(alloc: Global, nets: &NetIndex<'a>) -> Result<Timings, AllocEr
     ensures arcs { IfOk result (λ t. All (λ row. row.arcs.items ≡ []) t.nets.items) }
     ensures checks { IfOk result (λ t. t.checks.items ≡ []) }
 {
-    let mut rows = Vec::new(alloc);
+    let mut rows = Vec::with_capacity(alloc, nets.count() as usize)?;
     for _ in 0..nets.count() {
         rows.push(NetArcs {
             arcs: Vec::new(alloc),

@@ -13,7 +13,7 @@ use Rattle.link_pins.proofs.nets.all_nets.Goals as goal
 
 pub loop-net-init : goal.loop-net-init
 loop-net-init c = record {
-  made = c.new-made.ensures.items;
+  made = c.in_ok-made.ensures.items;
   drivers = record { all = c.requires.drivers.count; each = λ i d le at b bit. (c.requires.drivers.each i b d bit at).first };
   sinks = record { all = c.requires.sinks.count; each = λ i row le at b bit. c.requires.sinks.each i b row bit at };
 }

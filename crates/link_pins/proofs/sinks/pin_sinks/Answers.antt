@@ -17,7 +17,7 @@ loop-pin-init c = record {
     count = omega (arith, c.loop.invariant.count, c.loop-test.false, c.loop.auto.counter-end, c.count-end.ensures.value);
     each = c.loop.invariant.empty;
   };
-  count = ap length c.new-places.ensures.items;
+  count = ap length c.in_ok-places.ensures.items;
   each = λ k d lt at. absurd (omega arith);
 }
 

@@ -7,8 +7,8 @@ use Rattle.link_pins.proofs.timings.no_timings.Goals as goal
 
 pub loop-init : goal.loop-init
 loop-init c = record {
-  count = ap length c.new-rows.ensures.items;
-  arcs = subst (All (λ (row : NetArcs). row.arcs.items ≡ [])) (sym c.new-rows.ensures.items) (λ k d lt. absurd (omega (arith, lt)));
+  count = ap length c.in_ok-rows.ensures.items;
+  arcs = subst (All (λ (row : NetArcs). row.arcs.items ≡ [])) (sym c.in_ok-rows.ensures.items) (λ k d lt. absurd (omega (arith, lt)));
 }
 
 pub loop-preserved : goal.loop-preserved

@@ -10,7 +10,7 @@ pub returns : goal.returns
 returns c = λ given joined.
     circuit_so c.args.cells.now c.args.nets.now given _
     (c.from_vec.ensures
-    ∙ (c.in_ok-made.ensures ∙ filled_so c.args.cells.now c.args.nets.now given c.args.self.nets.items c.in_ok-rows.field-0.nets.items joined.nets c.in_ok-rows.ensures.arcs))
+    ∙ (c.with_arcs-made.ensures ∙ filled_so c.args.cells.now c.args.nets.now given c.args.self.nets.items c.in_ok-rows.field-0.nets.items joined.nets c.in_ok-rows.ensures.arcs))
     (c.from_vec-2.ensures
     ∙ (c.in_ok-append.ensures.items
     ∙ (ap (λ (l : List CheckPoint). l ++ c.args.self.ports.items) c.in_ok-rows.ensures.checks
