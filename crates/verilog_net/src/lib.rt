@@ -7,6 +7,7 @@ mod item;
 mod name;
 mod netlist;
 mod nets;
+mod pin_names;
 mod port;
 mod read;
 mod sort;

@@ -14,15 +14,13 @@ use crate::item::Item;
 use crate::name::Name;
 use crate::netlist::{Instance, Net, Netlist, PortRole, Wire};
 use crate::nets::{has_bit, has_bit_net, is_port, named_bit, note_net, number_of, same_range};
+use crate::pin_names::PinNames;
 use name_numbers::{NameTable, Named, Names, TextKey};
 use std::alloc::Global;
 use std::marker::Model;
 use std::mem;
 use text_forms::Stop;
 use xt_model::{Code, Row};
-
-/// The greatest number of names whose memory serves again for the pins of the next instance.
-const FEW_NAMES: usize = 16;
 
 /// What the forms of a netlist said so far.
 #[derive(Drop)]
@@ -43,7 +41,7 @@ pub struct Progress<'a> {
     cell: Name,
     instance: &'a [u8],
     line: u32,
-    pin_names: Names<'a>,
+    pin_names: PinNames<'a>,
     pins: Vec<(Name, Wire)>,
     pin: &'a [u8],
 }
@@ -113,7 +111,7 @@ impl<'a> Progress<'a> {
             cell: Name::empty(),
             instance: b"",
             line: 0,
-            pin_names: Names::new(alloc, key),
+            pin_names: PinNames::new(alloc, key),
             pins: Vec::new(alloc),
             pin: b"",
         }
@@ -269,20 +267,8 @@ impl<'a> Progress<'a> {
         }
         self.instance = name;
         self.line = line;
-        self.forget_pins(alloc);
+        self.pin_names.clear(alloc);
         Ok(())
-    }
-
-    /// No pin. The memory of few names serves again; that of many is given back, since to empty it takes as long as it
-    /// is large.
-    fn forget_pins(&mut self, alloc: Global)
-        ensures { self.new ≡ record self.old { pin_names = [] } }
-    {
-        if self.pin_names.len() > FEW_NAMES {
-            let _ = mem::replace(&mut self.pin_names, Names::new(alloc, self.key));
-        } else {
-            self.pin_names.clear();
-        }
     }
 
     /// An instance of a cell.
@@ -304,8 +290,7 @@ impl<'a> Progress<'a> {
     fn begin_pin(&mut self, name: &'a [u8]) -> Result<(), Stop>
         ensures { Changes result self.new (begin_pin name.entry.now self.old) }
     {
-        let (_, fresh) = self.pin_names.enter(name)?;
-        if !fresh {
+        if !self.pin_names.enter(name)? {
             return Err(Stop::Refused(Code::V5));
         }
         self.pin = name;
