@@ -117,6 +117,6 @@ returns-in-Err-clause-opened g c =
     let opened = g.F.Files.opened in
     opens_same (files_named (job_of (bytes_of c.args.words.now))) _ _ (opened c.args.files.now) (opened c.text_of.new.files)
     (λ whole. elim whole [
-      | inl zero ↦ absurd (not_zero c.in-Err.stop c.refuse.result c.refuse.ensures.status zero)
-      | inr seven ↦ absurd (not_seven c.in-Err.stop c.refuse.result c.refuse.ensures.status seven)
+      | inl at ↦ absurd (not_zero c.in-Err.stop c.refuse.result c.refuse.ensures.status at)
+      | inr at ↦ absurd (not_seven c.in-Err.stop c.refuse.result c.refuse.ensures.status at)
     ]) c.in-Err.ensures.opened
