@@ -215,11 +215,11 @@ abbrev pub Ended : State → Type 0
 Ended s = FactsOf s × IsEnd s.instances s.pins s.ended
 
 -- a test that is not refused
-past : (b : Bool) (code : Code) (x s' : State) → (if b then Err code else Ok x) ≡ Ok s' → (b ≡ false) × (x ≡ s')
+pub past : (b : Bool) (code : Code) (x s' : State) → (if b then Err code else Ok x) ≡ Ok s' → (b ≡ false) × (x ≡ s')
 past true code x s' e = absurd (cc)
 past false code x s' e = (refl, cc)
 
-held : (b : Bool) (code : Code) (x s' : State) → (if b then Ok x else Err code) ≡ Ok s' → (b ≡ true) × (x ≡ s')
+pub held : (b : Bool) (code : Code) (x s' : State) → (if b then Ok x else Err code) ≡ Ok s' → (b ≡ true) × (x ≡ s')
 held false code x s' e = absurd (cc)
 held true code x s' e = (refl, cc)
 

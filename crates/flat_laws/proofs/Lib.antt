@@ -1,7 +1,9 @@
 mod Bits
 mod Alone
 mod Known
+mod Stages
 mod KnownTexts
+mod Spoilt
 mod ScalarNames
 mod Itself
 mod Texts

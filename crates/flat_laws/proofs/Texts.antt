@@ -1,22 +1,25 @@
 -- What a text means where one module alone is admitted, and where several are.
 use Rattle.std.specs.Prelude.{◌≡◌, refl, true, false, List, [], ◌∷◌, length, Ok, Err}
-use Rattle.std.specs.List.{AllByRecursion}
-use Rattle.std.proofs.Common.{◌⊎◌, sym, ap, ◌∙◌, inl, inr}
+use Rattle.std.specs.List.{All, AllByRecursion}
+use Rattle.std.proofs.lemmas.List.Elements.{recursion_from_All}
+use Rattle.std.proofs.Common.{arith, subst, ◌⊎◌, sym, ap, ◌∙◌, inl, inr}
 use Rattle.name_numbers.specs.Names.{Text}
 use Rattle.text_forms.specs.Forms.{Refusal}
 use Rattle.text_forms.specs.Refusals.{Meant}
 use Rattle.xt_lex.specs.Bytes.{last_line}
 use Rattle.xt_model.specs.declared.code.Code.{Code}
 use Rattle.xt_model.specs.declared.code.Code.TheVariants.{V3}
+use Rattle.verilog_net.specs.declared.netlist.Instance.{Instance}
 use Rattle.verilog_net.specs.declared.netlist.Netlist.{Netlist}
 use Rattle.verilog_net.specs.Meaning.{State}
 use Rattle.verilog_net.specs.Reading.{text_state, modules_in, modules_of, one_of, netlist_of_text}
 use Rattle.sound_reads.proofs.VerilogTexts.{netlist_fine}
-use Rattle.flat_laws.specs.Laws.{IsItself}
+use Rattle.flat_laws.specs.Laws.{IsOneBit, ConnectsBits, IsItself}
 use Rattle.flat_laws.proofs.Alone.{MeanSame, text_same}
 use Rattle.flat_laws.proofs.Known.{IsClosed}
 use Rattle.flat_laws.proofs.KnownTexts.{text_ended}
 use Rattle.flat_laws.proofs.Itself.{itself}
+use Rattle.flat_laws.proofs.Spoilt.{HavePlain, IsCleanAfter, read_alone}
 
 -- one module that ended
 record IsOne (ms : List Netlist) : Type 0 where
@@ -66,3 +69,21 @@ module _ (bytes : Text) where
 
   pub refused_alike : (why : Refusal Code) → netlist_of_text bytes ≡ Err why → (why.code ≡ V3) ⊎ (modules_of bytes ≡ Err why)
   refused_alike why e = refused_by (text_state true bytes) (text_state false bytes) why refl (text_same bytes) e
+
+  -- what a module connects, item by item
+  instances_plain : (is : List Instance) → AllByRecursion (λ i. All (λ p. IsOneBit p.1) i.pins) is → HavePlain is
+  instances_plain [] h = tt
+  instances_plain (i ∷ is) h = (recursion_from_All (λ p. IsOneBit p.1) i.pins h.0, instances_plain is h.1)
+
+  read_by : (r : Meant State) (m : Netlist) → text_state false bytes ≡ r → modules_in r ≡ Ok (m ∷ []) → ConnectsBits m → netlist_of_text bytes ≡ Ok m
+  read_by (Err why) m at e bits = absurd (cc)
+  read_by (Ok s) m at e bits =
+      let ended : s.ended ≡ m ∷ [] = cc in
+      let plain : HavePlain m.instances = instances_plain m.instances (recursion_from_All (λ i. All (λ p. IsOneBit p.1) i.pins) m.instances bits) in
+      let clean : IsCleanAfter (m ∷ []) = record { few = omega arith; plain = (plain, tt) } in
+      let alone = read_alone bytes s (subst IsCleanAfter (sym ended) clean) at in
+      let same : alone.end.ended ≡ m ∷ [] = ap (λ (t : State). t.ended) alone.whole ∙ ended in
+      ap (λ r. one_of (modules_in r)) alone.read ∙ ap (λ ms. one_of (Ok ms)) same
+
+  pub module_is_read : (m : Netlist) → modules_of bytes ≡ Ok (m ∷ []) → ConnectsBits m → netlist_of_text bytes ≡ Ok m
+  module_is_read m e bits = read_by (text_state false bytes) m refl e bits

@@ -1,6 +1,6 @@
 //! Laws of flat netlists, each as the clause of a function that does nothing.
 
-ghost use Rattle.std.specs.Prelude.{◌≡◌, ◌⊎◌, ℕ, List, Ok, Err};
+ghost use Rattle.std.specs.Prelude.{◌≡◌, ◌⊎◌, ◌∷◌, [], ℕ, List, Ok, Err};
 ghost use Rattle.name_numbers.specs.Names.{Text};
 ghost use Rattle.xt_model.specs.declared.code.Code.{Code};
 ghost use Rattle.xt_model.specs.declared.code.Code.TheVariants.{V3};
@@ -17,9 +17,11 @@ pub fn flat_netlists_connect_bits()
 {}
 
 /// A text that one module alone is read from means that module also where several are admitted, and the module is its
-/// own flat netlist.
+/// own flat netlist. And from a text of one module without a whole bus as a connection that module alone is read.
 pub fn one_module_is_itself()
-    ensures { (bytes : Text) (m : Netlist) → netlist_of_text bytes ≡ Ok m → IsItself bytes m }
+    ensures itself { (bytes : Text) (m : Netlist) → netlist_of_text bytes ≡ Ok m → IsItself bytes m }
+    ensures read { (bytes : Text) (m : Netlist) → modules_of bytes ≡ Ok (m ∷ []) → ConnectsBits m
+        → netlist_of_text bytes ≡ Ok m }
 {}
 
 /// A text that is refused where one module alone is admitted is refused at the same line and by the same code where

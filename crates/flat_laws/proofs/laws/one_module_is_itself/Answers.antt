@@ -1,5 +1,8 @@
-use Rattle.flat_laws.proofs.Texts.{module_is_itself}
+use Rattle.flat_laws.proofs.Texts.{module_is_itself, module_is_read}
 use Rattle.flat_laws.proofs.laws.one_module_is_itself.Goals as goal
 
-pub returns : goal.returns
-returns c = module_is_itself
+pub returns-clause-itself : goal.returns-clause-itself
+returns-clause-itself c = module_is_itself
+
+pub returns-clause-read : goal.returns-clause-read
+returns-clause-read c = module_is_read
