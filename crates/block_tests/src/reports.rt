@@ -3,12 +3,13 @@
 use crate::block::REPORT;
 use crate::call::{calm, compare, compare_report, field, outcome, outcome_of_block};
 use std::alloc::{AllocError, Global};
+use std::process::Abort;
 use std::test::Fail;
 use std::thread::Threads;
 
-/// A report without the lines that a report of checks alone leaves out.
+/// A report after its status, without the lines that a report of checks alone leaves out.
 fn checks_alone(alloc: Global, report: &str) -> Result<String, AllocError> {
-    let mut out = String::new(alloc);
+    let mut out = String::from_str(alloc, "0 ")?;
     for line in report.lines() {
         if !line.starts_with("net ") && !line.starts_with("guilty ") {
             out.push_str(line)?;
@@ -50,22 +51,29 @@ noise bus[0] fall ppm 250000 at 58.000
 end
 ";
 
-#[test]
-fn the_checks_and_the_noise_of_a_block_are_reported_alone(rt: HostRuntime) -> Result<(), Fail> {
-    let alloc = rt.alloc();
-    let checks = checks_alone(alloc, REPORT)?;
-    let words = "report r.lib r.v r.spef r.sdc --kind checks";
-    let seen = outcome_of_block(&rt, alloc, words, calm(alloc))?;
-    compare(
-        &rt,
-        seen.as_str().strip_prefix("0 ").unwrap_or("?"),
-        checks.as_str(),
-        words,
-    );
-    let words = "report r.lib r.v r.spef r.sdc --kind noise";
-    let seen = outcome_of_block(&rt, alloc, words, calm(alloc))?;
-    compare(&rt, seen.as_str(), NOISE, words);
+/// Compares what words say of the block with what is wanted.
+fn compare_words<R: Threads + Sync + Abort>(
+    rt: &R,
+    alloc: Global,
+    words: &str,
+    want: &str,
+) -> Result<(), Fail> {
+    let seen = outcome_of_block(rt, alloc, words, calm(alloc))?;
+    compare(rt, seen.as_str(), want, words);
     Ok(())
+}
+
+#[test]
+fn the_checks_of_a_block_are_reported_alone(rt: HostRuntime) -> Result<(), Fail> {
+    let checks = checks_alone(rt.alloc(), REPORT)?;
+    let words = "report r.lib r.v r.spef r.sdc --kind checks";
+    compare_words(&rt, rt.alloc(), words, checks.as_str())
+}
+
+#[test]
+fn the_noise_of_a_block_is_reported(rt: HostRuntime) -> Result<(), Fail> {
+    let words = "report r.lib r.v r.spef r.sdc --kind noise";
+    compare_words(&rt, rt.alloc(), words, NOISE)
 }
 
 /// What `words` say of a file `x.xt` that holds what the call before it printed.
@@ -114,17 +122,27 @@ fn outcome_of_linked<R: Threads + Sync>(
     outcome_of_printed(rt, alloc, words.as_str(), linked.as_str())
 }
 
+/// Compares what `solve` says of the linked block with what `report` says of its files, by the options of a row.
+fn compare_linked<R: Threads + Sync + Abort>(rt: &R, alloc: Global, row: &str) -> Result<(), Fail> {
+    let solved = outcome_of_linked(rt, alloc, field(row, 0), field(row, 1))?;
+    let reported = outcome_with(rt, alloc, "report", field(row, 2))?;
+    assert!(rt; solved.starts_with("0 xtalk 1\n"), "{solved} at {row}");
+    compare(rt, solved.as_str(), reported.as_str(), row);
+    Ok(())
+}
+
 // The linked text is solved to the report of the four files.
 #[test]
 fn a_linked_block_is_solved_to_its_report(rt: HostRuntime) -> Result<(), Fail> {
-    let alloc = rt.alloc();
     for row in LINKED.lines() {
-        let solved = outcome_of_linked(&rt, alloc, field(row, 0), field(row, 1))?;
-        let reported = outcome_with(&rt, alloc, "report", field(row, 2))?;
-        assert!(rt; solved.starts_with("0 xtalk 1\n"), "{solved} at {row}");
-        compare(&rt, solved.as_str(), reported.as_str(), row);
+        compare_linked(&rt, rt.alloc(), row)?;
     }
-    let solved = outcome_of_linked(&rt, alloc, "", "")?;
+    Ok(())
+}
+
+#[test]
+fn a_linked_block_is_solved_to_the_worked_report(rt: HostRuntime) -> Result<(), Fail> {
+    let solved = outcome_of_linked(&rt, rt.alloc(), "", "")?;
     compare_report(&rt, solved.as_str(), "solve");
     Ok(())
 }

@@ -36,21 +36,32 @@ fn push_group(
     Ok(())
 }
 
-/// A library and the groups in it, each with the number of groups in it.
+/// Appends a library and the groups in it, each with the number of groups in it.
+fn push_library(
+    alloc: Global,
+    out: &mut String,
+    text: &str,
+    library: &Group,
+) -> Result<(), AllocError> {
+    push_group(alloc, out, text, library)?;
+    for group in library.inner() {
+        push_spans(out, text, &[group.name()])?;
+        push_group(alloc, out, text, group)?;
+        let count = group.inner().len();
+        let count = format!(in alloc; "groups {count}\n")?;
+        out.push_str(count.as_str())?;
+    }
+    Ok(())
+}
+
+/// The library of a text.
 fn shown(alloc: Global, text: &str) -> Result<String, Fail> {
     if MOST_BYTES < text.len() {
         return Err(Fail::from("too long"));
     }
     let library = read_groups(alloc, text.as_bytes())?;
     let mut out = String::new(alloc);
-    push_group(alloc, &mut out, text, &library)?;
-    for group in library.inner() {
-        push_spans(&mut out, text, &[group.name()])?;
-        push_group(alloc, &mut out, text, group)?;
-        let count = group.inner().len();
-        let count = format!(in alloc; "groups {count}\n")?;
-        out.push_str(count.as_str())?;
-    }
+    push_library(alloc, &mut out, text, &library)?;
     Ok(out)
 }
 

@@ -107,6 +107,12 @@ fn compare_named(rt: &impl Abort, alloc: Global, name: &[u8], want: &str) -> Res
     Ok(())
 }
 
+/// The same of a name by its pattern.
+fn compare_long(rt: &impl Abort, alloc: Global, name: &str, want: &str) -> Result<(), Fail> {
+    let name = with_lines(alloc, name)?;
+    compare_named(rt, alloc, name.as_bytes(), want)
+}
+
 /// Names in quotes: of the least and the greatest byte that may be in one, of those beyond these, and beyond ASCII.
 const BYTES: [(&[u8], &str); 4] = [
     (b"\"!~\"", "read"),
@@ -121,11 +127,14 @@ fn a_name_is_printable_and_has_at_most_1024_bytes(rt: HostRuntime) -> Result<(),
     for (name, want) in &BYTES {
         compare_named(&rt, alloc, name, want)?;
     }
-    for (letters, want) in [("⟨1024:x⟩", "read"), ("⟨1025:x⟩", "L1 2")] {
-        let name = with_lines(alloc, letters)?;
-        compare_named(&rt, alloc, name.as_bytes(), want)?;
-    }
-    Ok(())
+    compare_long(&rt, alloc, "⟨1024:x⟩", "read")?;
+    compare_long(&rt, alloc, "⟨1025:x⟩", "L1 2")
+}
+
+/// The kind of the only timing group of a library.
+fn only_kind(alloc: Global, library: &Library) -> Result<String, Fail> {
+    let kind = only_timing(library)?.kind;
+    Ok(format!(in alloc; "{kind:?}")?)
 }
 
 /// What a library with one timing group means: the kind of the group, or the refusal.
@@ -136,10 +145,7 @@ fn kind_in_words(alloc: Global, direction: &str, content: &str) -> Result<String
         "library (x) {{ cell (A) {{ pin (Z) {{ direction : {direction}; timing () {{\n{content}}} }} }} }}"
     )?;
     match read(alloc, text.as_bytes()) {
-        Ok(library) => {
-            let kind = only_timing(&library)?.kind;
-            Ok(format!(in alloc; "{kind:?}")?)
-        }
+        Ok(library) => only_kind(alloc, &library),
         Err(fault) => in_words(alloc, Err::<(), TextFault>(fault)),
     }
 }
