@@ -26,8 +26,8 @@ pub enum Turns {
     InThreads,
     /// All in this thread, as a source that starts at this number picks them.
     Picked(u64),
-    /// In threads of their own, which pass a gate in each round, by marks: a net is evaluated again only where something
-    /// that it reads moved.
+    /// In threads of their own, which pass a gate in each round, by marks: a net is evaluated again only where
+    /// something that it reads moved.
     ByMarks,
 }
 
