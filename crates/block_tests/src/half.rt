@@ -1,5 +1,5 @@
-//! The block of two flip-flops with one of them and an inverter in a module of their own. Its report is the block's with
-//! the names of these two below `h`, and with their net after those of the top.
+//! The block of two flip-flops with one of them and an inverter in a module of their own. Its report is the block's
+//! with the names of these two below `h`, and with their net after those of the top.
 
 use crate::block::{LIB, SDC};
 use crate::call::{calm, compare, outcome};

@@ -60,7 +60,8 @@ A net below the top with the name of a bit at the top | 3 x.v:2: V5 | \
     (\\h/b[1] ); input \\h/b[1] ; h h (); endmodule module h; wire [3:0] b;
 An instance below the top with the name of one at the top | 3 x.v:2: V5 | \
     (a); input a; INV \\h/i (.A(a)); h h (); endmodule module h; INV i ();
-A module with a cell's name is the module | 3 x.v:1: V7 | (a); input a; INV u (.A(a)); endmodule module INV (B); input B;
+A module with a cell's name is the module | 3 x.v:1: V7 | \
+    (a); input a; INV u (.A(a)); endmodule module INV (B); input B;
 Netlists before parasitics | 3 x.v:1: V8 | ; m u (); | *D_NET
 No such cell below the top | 4 link: K1 g/h/u NOPE | \
     ; g g (); endmodule module h; NOPE u (); endmodule module g; h h ();

@@ -193,8 +193,8 @@ end
 --
 ⟦1⟧";
 
-/// The words; edits; the latest time of a at its driver; the line. The wire is 2,001 fs at most, and 2,002 once the nets
-/// are nearer by 1 aF.
+/// The words; edits; the latest time of a at its driver; the line. The wire is 2,001 fs at most, and 2,002 once the
+/// nets are nearer by 1 aF.
 const LIMITS: &str = "\
 eco one.xt edits | no⏎ | 70368744175664 | 5 limit: time a 70368744177665
 eco one.xt edits | no⏎ | 70368744175663 | 3 edits:1: E1

@@ -127,7 +127,8 @@ replay_job given = do
   miller ← if_said miller_numbers (given (codes "miller"))
   Some (Replay (record { file = file; order = order; workers = workers; miller = miller }))
 
--- a linked text and a text of edits, by one worker and with the text's own Miller numbers unless the words say otherwise
+-- a linked text and a text of edits, by one worker and with the text's own Miller numbers unless the words say
+-- otherwise
 abbrev pub eco_job : (Text → Option Text) → Option Job
 eco_job given = do
   file ← given (codes "file")

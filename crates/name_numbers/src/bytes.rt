@@ -16,7 +16,9 @@ use std::hash::{Hash, Hasher};
 #[inline]
 pub fn write_eights<'a, H: Hasher>(bytes: &'a [u8], state: &mut H) -> &'a [u8]
     ensures few { length result.now < 8 }
-    ensures written { (more : List ℕ) → fold H.write state.old (eights (bytes.entry.now ++ more)) ≡ fold H.write state.new (eights (result.now ++ more)) }
+    ensures written { (more : List ℕ)
+        → fold H.write state.old (eights (bytes.entry.now ++ more))
+        ≡ fold H.write state.new (eights (result.now ++ more)) }
 {
     let mut rest = bytes;
     'eights: while rest.len() >= 8 {
