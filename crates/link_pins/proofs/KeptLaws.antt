@@ -22,7 +22,7 @@ use Rattle.link_pins.specs.declared.related.CellGroups.{CellGroups}
 use Rattle.link_pins.specs.declared.related.PinCount.{PinCount}
 use Rattle.link_pins.specs.declared.related.PinGroup.{PinGroup}
 use Rattle.link_pins.specs.declared.related.RelatedPin.{RelatedPin}
-use Rattle.link_pins.specs.Related.{TimedPlace, with_timing, related_of, effect, group_related, counted, IsIndexed, IsGroup, AreGroups, AreAllGroups, group_at, AreKept}
+use Rattle.link_pins.specs.Related.{TimedPlace, with_timing, related_of, effect, group_related, counted, IsIndexed, IsGroup, AreGroups, AreAllGroups, group_numbered, number_at, group_at, AreKept}
 use Rattle.link_pins.specs.Seen.{pin_at, connected_at}
 use Rattle.link_pins.proofs.ArcLaws.{made_more}
 use Rattle.link_pins.proofs.TimingLaws.{flat_more}
@@ -205,6 +205,14 @@ kept_at cells p v h = by_cell (slice_get cells p.cell) refl h
         → option_and_then (λ (g : CellGroups). option_and_then (λ (n : ℕ). slice_get g.groups.items n) (slice_get g.of.items p.pin)) o ≡ Some v → KeptAt cells p v
     by_cell None e k = absurd (none-some v k)
     by_cell (Some g) e k = by_pin g e (slice_get g.of.items p.pin) refl k
+
+-- it is the group of the pin's number
+pub numbered_is : (cells : List CellGroups) (p : PinOn) (v : PinGroup) (n : ℕ) → group_at cells p ≡ Some v → number_at cells p ≡ Some n → group_numbered cells p.cell n ≡ Some v
+numbered_is cells p v n h m =
+    let k = kept_at cells p v h in
+    let own : number_at cells p ≡ Some k.number = ap (option_and_then (λ (g : CellGroups). slice_get g.of.items p.pin)) k.at_cell ∙ k.at_pin in
+    let same : k.number ≡ n = same_Some k.number n (sym own ∙ m) in
+    ap (group_numbered cells p.cell) (sym same) ∙ (ap (option_and_then (λ (g : CellGroups). slice_get g.groups.items k.number)) k.at_cell ∙ k.at_group)
 
 pub all_kept : (library : Library) (made : List CellGroups) → length library.cells ≤ length made → AreSoFar library made → AreKept library made
 all_kept library made count all = record {

@@ -20,4 +20,5 @@ mod RelatedLaws
 mod KeptLaws
 mod FoundLaws
 mod IndexLaws
+mod KnownLaws
 mod SumLaws

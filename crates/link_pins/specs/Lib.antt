@@ -3,4 +3,5 @@ pub mod Seen
 pub mod Rows
 pub mod Places
 pub mod Related
+pub mod Known
 pub mod Joined

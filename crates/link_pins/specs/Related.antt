@@ -118,6 +118,17 @@ pub record AreAllGroups (c : Cell) (g : CellGroups) : Type 0 where
   pub count : length g.of.items ≡ length c.pins
   pub groups : AreGroups c g
 
+-- the group of a number in a cell, and the number of a pin's
+abbrev pub group_numbered : List CellGroups → ℕ → ℕ → Option PinGroup
+group_numbered cells cell n = do
+  g ← slice_get cells cell
+  slice_get g.groups.items n
+
+abbrev pub number_at : List CellGroups → PinOn → Option ℕ
+number_at cells p = do
+  g ← slice_get cells p.cell
+  slice_get g.of.items p.pin
+
 -- the group that is kept for a pin
 abbrev pub group_at : List CellGroups → PinOn → Option PinGroup
 group_at cells p = do

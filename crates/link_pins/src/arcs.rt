@@ -23,11 +23,13 @@ pub struct SinkAt {
     pub sink: u32,
 }
 
-/// The sinks that the input pins of one instance are, by the places of the pins in the cell, and these places.
+/// The sinks that the input pins of one instance are, by the places of the pins in the cell, these places, and the
+/// place at which the pins of the instance begin.
 #[derive(Drop)]
 pub struct Places {
     at: Vec<Option<SinkAt>>,
     pins: Vec<usize>,
+    from: usize,
 }
 
 /// The pairs of edges of an input and of an output that a timing group has arcs for.
@@ -76,6 +78,7 @@ impl Places {
         Ok(Places {
             at: vec![in alloc; None; size]?,
             pins: Vec::new(alloc),
+            from: 0,
         })
     }
 
@@ -84,6 +87,7 @@ impl Places {
         requires room { pin < length self.now.at.items }
         ensures sinks { OnOk result (self.new.at.items ≡ set self.old.at.items pin (Some sink)) }
         ensures listed { OnOk result (AreListed self.old → AreListed self.new) }
+        ensures from { OnOk result (self.new.from ≡ self.old.from) }
     {
         self.pins.push(pin)?;
         self.at[pin] = Some(sink);
@@ -96,6 +100,7 @@ impl Places {
         requires room { pin.pin < length self.now.at.items }
         ensures sinks { OnOk result (self.new.at.items ≡ with_pin cells.now pin place self.old.at.items) }
         ensures listed { OnOk result (AreListed self.old → AreListed self.new) }
+        ensures from { OnOk result (self.new.from ≡ self.old.from) }
     {
         if pin.is_input(cells) {
             if self.at[pin.pin].is_none() {
@@ -128,7 +133,9 @@ impl Places {
         ensures count { OnOk result (length self.new.at.items ≡ length self.old.at.items) }
         ensures entries { OnOk result (AreEntries cells.now pins.now places.now from to self.new.at.items) }
         ensures listed { OnOk result (AreListed self.old → AreListed self.new) }
+        ensures from { OnOk result (self.new.from ≡ from) }
     {
+        self.from = from;
         for k in from..to {
             self.add(cells, pins[k], places[k])?;
         }
@@ -149,6 +156,13 @@ impl Places {
             self.at[pins[k].pin] = None;
         }
         self.pins.clear();
+    }
+
+    /// The place at which the pins of the instance begin.
+    pub fn from(&self) -> usize
+        ensures { result ≡ self.now.from }
+    {
+        self.from
     }
 
     /// The places at which sinks are entered.

@@ -3,16 +3,19 @@
 ghost use Rattle.std.specs.Prelude.{◌≡◌, ◌+◌, ◌++◌, [], ◌∷◌, List, length};
 ghost use Rattle.std.specs.Prelude.{Some, IsSome, IfOk, OnOk};
 ghost use Rattle.std.specs.List.{All};
+ghost use Rattle.std.specs.Option.{IsSomeAnd};
 ghost use Rattle.verilog_net.specs.declared.netlist.Netlist.{Netlist};
 ghost use Rattle.link_rules.specs.Checks.{pin_checks};
 ghost use Rattle.link_rules.specs.Pins.{Connected, pins as pins_of};
 ghost use Rattle.link_pins.specs.Joined.{arc_count, AreCounted};
 ghost use Rattle.link_pins.specs.Places.{AreEntered, AreListed, HasRoom, IsPlaced};
-ghost use Rattle.link_pins.specs.Related.{AreKept};
+ghost use Rattle.link_pins.specs.Known.{AreRight, IsCount};
+ghost use Rattle.link_pins.specs.Related.{IsIndexed, group_at, AreKept};
 ghost use Rattle.link_pins.specs.Rows.{ArePlaces};
 ghost use Rattle.link_pins.specs.Seen.{ArePins, pin_at, connected_at};
 
 use crate::arcs::Places;
+use crate::known::{Known, KnownAt};
 use crate::pins::PinOn;
 use crate::related::Related;
 use crate::timings::{most_pins, same_instance};
@@ -36,6 +39,34 @@ pub fn plus(a: u128, b: u128) -> Result<u128, AllocError>
     }
 }
 
+/// How many arcs or check points there are from those related pins of a pin that are sinks: counted once for the pins
+/// of an instance that have one group.
+fn count_at(
+    alloc: Global,
+    related: &Related<'_>,
+    places: &Places,
+    pin: PinOn,
+    known: &mut Known<u128>,
+) -> Result<u128, AllocError>
+    requires there { IsSomeAnd (group_at related.now.cells.items pin) IsIndexed }
+    requires listed { AreListed places.now }
+    requires known { AreRight (IsCount places.now.at.items) related.now.cells.items places.now.from known.old.of.items }
+    ensures count { IfOk result
+        (λ n. IsSomeAnd (group_at related.now.cells.items pin) (IsCount places.now.at.items n)) }
+    ensures known { OnOk result
+        (AreRight (IsCount places.now.at.items) related.now.cells.items places.now.from known.new.of.items) }
+{
+    let number = related.number(pin);
+    let from = places.from();
+    let cell = pin.cell;
+    if let Some(count) = known.get(number, cell, from) {
+        return Ok(*count);
+    }
+    let value = related.group(pin).count(alloc, places)?;
+    known.put(number, KnownAt { from, cell, value })?;
+    Ok(value)
+}
+
 /// How many arcs a pin has into its net.
 fn arcs_at<'a>(
     alloc: Global,
@@ -43,16 +74,20 @@ fn arcs_at<'a>(
     related: &Related<'a>,
     places: &Places,
     pin: PinOn,
+    known: &mut Known<u128>,
 ) -> Result<u128, AllocError>
     requires there { IsSome (pin_at cells.now pin) }
     requires related { AreKept cells.now related.now.cells.items }
     requires listed { AreListed places.now }
-    ensures { IfOk result
+    requires known { AreRight (IsCount places.now.at.items) related.now.cells.items places.now.from known.old.of.items }
+    ensures count { IfOk result
         (λ n. (netlist : Netlist) (c : Connected) → connected_at cells.now netlist pin ≡ Some c
         → AreEntered cells.now netlist pin.instance pin.cell places.now.at.items → n ≡ arc_count cells.now netlist c) }
+    ensures known { OnOk result
+        (AreRight (IsCount places.now.at.items) related.now.cells.items places.now.from known.new.of.items) }
 {
     if pin.is_output(cells) {
-        return related.group(pin).count(alloc, places);
+        return count_at(alloc, related, places, pin, known);
     }
     Ok(0)
 }
@@ -64,15 +99,19 @@ fn checks_at<'a>(
     related: &Related<'a>,
     places: &Places,
     pin: PinOn,
+    known: &mut Known<u128>,
 ) -> Result<u128, AllocError>
     requires there { IsSome (pin_at cells.now pin) }
     requires related { AreKept cells.now related.now.cells.items }
     requires listed { AreListed places.now }
     requires room { HasRoom cells.now places.now.at.items }
-    ensures { IfOk result
+    requires known { AreRight (IsCount places.now.at.items) related.now.cells.items places.now.from known.old.of.items }
+    ensures count { IfOk result
         (λ n. (netlist : Netlist) (c : Connected) → connected_at cells.now netlist pin ≡ Some c
         → AreEntered cells.now netlist pin.instance pin.cell places.now.at.items
         → n ≡ length (pin_checks cells.now netlist c)) }
+    ensures known { OnOk result
+        (AreRight (IsCount places.now.at.items) related.now.cells.items places.now.from known.new.of.items) }
 {
     let part = pin.of(cells);
     if !pin.is_input(cells) {
@@ -80,7 +119,7 @@ fn checks_at<'a>(
     }
     match places.find(cells, pin.cell, part.name().bytes()) {
         None => Ok(0),
-        Some(_) => related.group(pin).count(alloc, places),
+        Some(_) => count_at(alloc, related, places, pin, known),
     }
 }
 
@@ -93,18 +132,29 @@ impl Counts {
         related: &Related<'a>,
         places: &Places,
         pin: PinOn,
+        known: &mut Known<u128>,
     ) -> Result<(), AllocError>
         requires there { IsSome (pin_at cells.now pin) }
         requires related { AreKept cells.now related.now.cells.items }
         requires listed { AreListed places.now }
         requires room { HasRoom cells.now places.now.at.items }
-        ensures { OnOk result
+        requires known { AreRight (IsCount places.now.at.items) related.now.cells.items places.now.from
+            known.old.of.items }
+        ensures counted { OnOk result
             ((netlist : Netlist) (done : List Connected) (c : Connected) → connected_at cells.now netlist pin ≡ Some c
             → AreEntered cells.now netlist pin.instance pin.cell places.now.at.items
             → AreCounted cells.now netlist done self.old → AreCounted cells.now netlist (done ++ c ∷ []) self.new) }
+        ensures known { OnOk result
+            (AreRight (IsCount places.now.at.items) related.now.cells.items places.now.from known.new.of.items) }
     {
-        self.arcs = plus(self.arcs, arcs_at(alloc, cells, related, places, pin)?)?;
-        self.checks = plus(self.checks, checks_at(alloc, cells, related, places, pin)?)?;
+        self.arcs = plus(
+            self.arcs,
+            arcs_at(alloc, cells, related, places, pin, known)?,
+        )?;
+        self.checks = plus(
+            self.checks,
+            checks_at(alloc, cells, related, places, pin, known)?,
+        )?;
         Ok(())
     }
 }
@@ -125,12 +175,13 @@ pub fn counts_of<'a>(
     let mut counts = Counts { arcs: 0, checks: 0 };
     let related = Related::new(alloc, cells)?;
     let mut places = Places::new(alloc, most_pins(cells))?;
+    let mut known = Known::new(alloc);
     let mut from = 0;
     'instances: while from < pins.len() {
         let to = same_instance(pins, from);
         places.enter(cells, pins, sinks, from, to)?;
         for k in from..to {
-            counts.add(alloc, cells, &related, &places, pins[k])?;
+            counts.add(alloc, cells, &related, &places, pins[k], &mut known)?;
         }
         places.clear(pins, from, to);
         from = to;

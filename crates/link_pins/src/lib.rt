@@ -11,6 +11,7 @@ mod found;
 mod given;
 mod instances;
 mod joined;
+mod known;
 mod limits;
 mod names;
 mod nets;

@@ -7,7 +7,8 @@ ghost use Rattle.std.specs.List.Sorted.{IsStrictlyIncreasing};
 ghost use Rattle.liberty_cells.specs.declared.cell.Cell.{Cell};
 ghost use Rattle.link_index.specs.Cells.{pin_place};
 ghost use Rattle.link_pins.specs.Related.{effect, with_timing, related_of, AreRelated, IsUncounted, ArePinsOf};
-ghost use Rattle.link_pins.specs.Related.{HaveCounts, IsGroup, AreGroups, AreAllGroups, group_at, AreKept};
+ghost use Rattle.link_pins.specs.Related.{HaveCounts, IsGroup, AreGroups, AreAllGroups, number_at, group_at};
+ghost use Rattle.link_pins.specs.Related.{AreKept};
 
 use crate::arcs::arcs_each;
 use crate::checks::side_of;
@@ -266,6 +267,14 @@ impl<'a> Related<'a> {
             made.push(CellGroups::of_cell(alloc, cells, cell)?)?;
         }
         Ok(Related { cells: made })
+    }
+
+    /// The number of a pin's group in its cell.
+    pub fn number(&self, pin: PinOn) -> usize
+        requires { IsSome (group_at self.now.cells.items pin) }
+        ensures { number_at self.now.cells.items pin ≡ Some result }
+    {
+        self.cells[pin.cell].of[pin.pin]
     }
 
     /// The group of a pin.

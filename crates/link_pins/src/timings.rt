@@ -8,12 +8,14 @@ ghost use Rattle.link_rules.specs.Bits.{bits};
 ghost use Rattle.link_rules.specs.Pins.{Connected, pins as pins_of};
 ghost use Rattle.link_rules.specs.Sound.{IsSoundNetlist};
 ghost use Rattle.link_pins.specs.Places.{AreEntered, AreListed, HasRoom, IsPlaced, IsStretch};
-ghost use Rattle.link_pins.specs.Related.{AreFound, AreKept};
+ghost use Rattle.link_pins.specs.Known.{known as held, AreRight, AreSinksOf};
+ghost use Rattle.link_pins.specs.Related.{IsIndexed, AreFound, number_at, group_at, AreKept};
 ghost use Rattle.link_pins.specs.Rows.{ArePlaces, AreTimed};
 ghost use Rattle.link_pins.specs.Seen.{ArePins, HasShortNames, connected_at};
 
 use crate::arcs::{Places, add_pin_arcs};
 use crate::checks::add_pin_checks;
+use crate::known::{Known, KnownAt};
 use crate::pins::PinOn;
 use crate::related::{Related, RelatedPin};
 use link_index::{CellIndex, NetIndex};
@@ -63,6 +65,34 @@ pub fn most_pins<'a>(cells: &CellIndex<'a>) -> usize
     most
 }
 
+/// Finds those related pins of a pin that are sinks: once for the pins of an instance that have one group.
+fn find_sinks<'a>(
+    alloc: Global,
+    related: &Related<'a>,
+    places: &Places,
+    pin: PinOn,
+    known: &mut Known<Vec<RelatedPin<'a>>>,
+) -> Result<(), AllocError>
+    requires there { IsSomeAnd (group_at related.now.cells.items pin) IsIndexed }
+    requires listed { AreListed places.now }
+    requires known { AreRight (AreSinksOf places.now.at.items) related.now.cells.items places.now.from
+        known.old.of.items }
+    ensures there { OnOk result
+        ((n : ℕ) → number_at related.now.cells.items pin ≡ Some n
+        → IsSome (held known.new.of.items n pin.cell places.now.from)) }
+    ensures known { OnOk result
+        (AreRight (AreSinksOf places.now.at.items) related.now.cells.items places.now.from known.new.of.items) }
+{
+    let number = related.number(pin);
+    let from = places.from();
+    let cell = pin.cell;
+    if known.get(number, cell, from).is_none() {
+        let value = related.group(pin).sinks(alloc, places)?;
+        known.put(number, KnownAt { from, cell, value })?;
+    }
+    Ok(())
+}
+
 impl Timings {
     /// Adds the arcs and the check points of a pin from those of its related pins that are sinks.
     fn add_found<'a>(
@@ -101,6 +131,7 @@ impl Timings {
         related: &Related<'a>,
         places: &Places,
         pin: PinOn,
+        known: &mut Known<Vec<RelatedPin<'a>>>,
     ) -> Result<(), AllocError>
         requires there { IsSome (connected_at cells.now nets.now pin) }
         requires short { IfSome (connected_at cells.now nets.now pin) HasShortNames }
@@ -108,14 +139,21 @@ impl Timings {
         requires related { AreKept cells.now related.now.cells.items }
         requires listed { AreListed places.now }
         requires room { HasRoom cells.now places.now.at.items }
-        ensures { OnOk result
+        requires known { AreRight (AreSinksOf places.now.at.items) related.now.cells.items places.now.from
+            known.old.of.items }
+        ensures timed { OnOk result
             ((done : List Connected) (c : Connected) → connected_at cells.now nets.now pin ≡ Some c
             → AreEntered cells.now nets.now pin.instance pin.cell places.now.at.items
             → AreTimed cells.now nets.now done self.old.nets.items self.old.checks.items
             → AreTimed cells.now nets.now (done ++ c ∷ []) self.new.nets.items self.new.checks.items) }
+        ensures known { OnOk result
+            (AreRight (AreSinksOf places.now.at.items) related.now.cells.items places.now.from known.new.of.items) }
     {
-        let sinks = related.group(pin).sinks(alloc, places)?;
-        self.add_found(alloc, cells, nets, &sinks, places, pin)
+        find_sinks(alloc, related, places, pin, known)?;
+        match known.get(related.number(pin), pin.cell, places.from()) {
+            Some(sinks) => self.add_found(alloc, cells, nets, sinks, places, pin),
+            None => unreachable!(),
+        }
     }
 }
 
@@ -155,12 +193,13 @@ pub fn timings_of<'a>(
     let mut timings = no_timings(alloc, nets)?;
     let related = Related::new(alloc, cells)?;
     let mut places = Places::new(alloc, most_pins(cells))?;
+    let mut known = Known::new(alloc);
     let mut from = 0;
     'instances: while from < pins.len() {
         let to = same_instance(pins, from);
         places.enter(cells, pins, sinks, from, to)?;
         for k in from..to {
-            timings.add(alloc, cells, nets, &related, &places, pins[k])?;
+            timings.add(alloc, cells, nets, &related, &places, pins[k], &mut known)?;
         }
         places.clear(pins, from, to);
         from = to;

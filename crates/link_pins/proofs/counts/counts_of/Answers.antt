@@ -7,6 +7,8 @@ use Rattle.link_rules.specs.Pins.{Connected, pins}
 use Rattle.link_pins.specs.Joined.{AreCounted}
 use Rattle.link_pins.specs.Seen.{connected_at}
 use Rattle.link_pins.proofs.DriverLaws.{paired_at}
+use Rattle.link_pins.specs.Known.{IsCount}
+use Rattle.link_pins.proofs.KnownLaws.{starts, ends}
 use Rattle.link_pins.proofs.OrderLaws.{next_boundary}
 use Rattle.link_pins.proofs.PinLaws.{nothing, element_at, parts_of, take_next}
 use Rattle.link_pins.proofs.PlaceLaws.{pin_inside, those_entered}
@@ -36,8 +38,12 @@ loop-k-preserved c =
     let y = paired_at (connected_at c.args.cells.now c.args.nets.now) c.args.pins.now cs c.loop-k.k p c.requires.pins at in
     let entered = entered_for c.args.cells.now c.args.nets.now c.args.pins.now c.requires.pins c.requires.placed c.args.sinks.now c.requires.places c.instances.from c.same_instance-to.result
     c.same_instance-to.ensures c.instances.invariant.boundary c.enter.new.self.at.items c.in_ok-enter.ensures.entries c.loop-k.k p c.loop-k.auto.k c.loop-k-test.true at in
-    subst (λ (l : List Connected). AreCounted c.args.cells.now c.args.nets.now l c.add.new.self) (sym (take_next c.loop-k.k cs y.0 y.1))
-    (c.in_ok-add.ensures c.args.nets.now (take c.loop-k.k cs) y.0 y.2 entered c.loop-k.invariant)
+    record {
+      counted =
+          subst (λ (l : List Connected). AreCounted c.args.cells.now c.args.nets.now l c.add.new.self) (sym (take_next c.loop-k.k cs y.0 y.1))
+          (c.in_ok-add.ensures.counted c.args.nets.now (take c.loop-k.k cs) y.0 y.2 entered c.loop-k.invariant.counted);
+      known = c.in_ok-add.ensures.known;
+    }
 
 pub clear-requires-clause-room : goal.clear-requires-clause-room
 clear-requires-clause-room c = λ k d lt.
@@ -49,7 +55,7 @@ clear-requires-clause-room c = λ k d lt.
 pub instances-preserved : goal.instances-preserved
 instances-preserved c =
     let first = element_at c.args.pins.now c.instances.from c.instances-test.true in
-    let ends : c.loop-k.k ≡ c.same_instance-to.result =
+    let last : c.loop-k.k ≡ c.same_instance-to.result =
     omega (arith, c.loop-k-test.false, c.loop-k.auto.k-end (omega (arith, c.same_instance-to.ensures.some))) in
     record {
       within = c.same_instance-to.ensures.most;
@@ -58,7 +64,10 @@ instances-preserved c =
       room = subst (λ (n : ℕ). All (λ (x : Cell). length x.pins ≤ n) c.args.cells.now.cells) (sym (c.clear.ensures.count ∙ c.in_ok-enter.ensures.count)) c.instances.invariant.room;
       clear = c.clear.ensures.clear;
       listed = c.clear.ensures.listed;
-      counted = subst (λ (n : ℕ). AreCounted c.args.cells.now c.args.nets.now (take n (pins c.args.cells.now c.args.nets.now)) c.loop-k.counts) ends c.loop-k.invariant;
+      counted = subst (λ (n : ℕ). AreCounted c.args.cells.now c.args.nets.now (take n (pins c.args.cells.now c.args.nets.now)) c.loop-k.counts) last c.loop-k.invariant.counted;
+      known =
+          ends (IsCount c.enter.new.self.at.items) c.in_ok-related.related.cells.items c.enter.new.self.from c.same_instance-to.result c.loop-k.known.of.items
+          (omega (arith, c.in_ok-enter.ensures.from, c.same_instance-to.ensures.some)) c.loop-k.invariant.known;
     }
 
 pub add-requires-clause-listed : goal.add-requires-clause-listed
@@ -67,3 +76,11 @@ add-requires-clause-listed c = c.in_ok-enter.ensures.listed c.instances.invarian
 pub clear-requires-clause-those : goal.clear-requires-clause-those
 clear-requires-clause-those c =
     those_entered c.args.cells.now c.args.pins.now c.args.sinks.now c.instances.from c.same_instance-to.result c.enter.new.self.at.items c.in_ok-enter.ensures.entries
+
+pub loop-k-init : goal.loop-k-init
+loop-k-init c = record {
+  counted = c.instances.invariant.counted;
+  known =
+      starts (IsCount c.enter.new.self.at.items) c.in_ok-related.related.cells.items c.enter.new.self.from c.instances.known.of.items
+      (λ n d f x h. omega (arith, c.instances.invariant.known n d f x h, c.in_ok-enter.ensures.from));
+}

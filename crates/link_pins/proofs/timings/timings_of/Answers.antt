@@ -8,6 +8,8 @@ use Rattle.link_rules.specs.Pins.{Connected, pins}
 use Rattle.link_pins.specs.Rows.{AreTimed}
 use Rattle.link_pins.specs.Seen.{connected_at, HasShortNames}
 use Rattle.link_pins.proofs.DriverLaws.{paired_at, same_length, fine_at}
+use Rattle.link_pins.specs.Known.{AreSinksOf}
+use Rattle.link_pins.proofs.KnownLaws.{starts, ends}
 use Rattle.link_pins.proofs.OrderLaws.{next_boundary}
 use Rattle.link_pins.proofs.PinLaws.{nothing, element_at, parts_of, take_next, to_some}
 use Rattle.link_pins.proofs.PlaceLaws.{pin_inside, those_entered}
@@ -44,7 +46,7 @@ add-requires-clause-net c =
     let y = paired_at (connected_at c.args.cells.now c.args.nets.now) c.args.pins.now (pins c.args.cells.now c.args.nets.now) c.loop-k.k p c.requires.pins
     (slice_get-get_or c.args.pins.now c.loop-k.k nothing within) in
     let fine = fine_at c.args.cells.now c.args.nets.now c.requires.sound c.loop-k.k y.0 y.1 in
-    omega (arith, fine.net, (parts_of c.args.cells.now c.args.nets.now p y.0 y.2).net, c.loop-k.invariant.arcs.count)
+    omega (arith, fine.net, (parts_of c.args.cells.now c.args.nets.now p y.0 y.2).net, c.loop-k.invariant.timed.arcs.count)
 
 pub loop-k-preserved : goal.loop-k-preserved
 loop-k-preserved c =
@@ -55,8 +57,12 @@ loop-k-preserved c =
     let y = paired_at (connected_at c.args.cells.now c.args.nets.now) c.args.pins.now cs c.loop-k.k p c.requires.pins at in
     let entered = entered_for c.args.cells.now c.args.nets.now c.args.pins.now c.requires.pins c.requires.placed c.args.sinks.now c.requires.places c.instances.from c.same_instance-to.result
     c.same_instance-to.ensures c.instances.invariant.boundary c.enter.new.self.at.items c.in_ok-enter.ensures.entries c.loop-k.k p c.loop-k.auto.k c.loop-k-test.true at in
-    subst (λ (l : List Connected). AreTimed c.args.cells.now c.args.nets.now l c.add.new.self.nets.items c.add.new.self.checks.items) (sym (take_next c.loop-k.k cs y.0 y.1))
-    (c.in_ok-add.ensures (take c.loop-k.k cs) y.0 y.2 entered c.loop-k.invariant)
+    record {
+      timed =
+          subst (λ (l : List Connected). AreTimed c.args.cells.now c.args.nets.now l c.add.new.self.nets.items c.add.new.self.checks.items) (sym (take_next c.loop-k.k cs y.0 y.1))
+          (c.in_ok-add.ensures.timed (take c.loop-k.k cs) y.0 y.2 entered c.loop-k.invariant.timed);
+      known = c.in_ok-add.ensures.known;
+    }
 
 pub clear-requires-clause-room : goal.clear-requires-clause-room
 clear-requires-clause-room c = λ k d lt.
@@ -68,7 +74,7 @@ clear-requires-clause-room c = λ k d lt.
 pub instances-preserved : goal.instances-preserved
 instances-preserved c =
     let first = element_at c.args.pins.now c.instances.from c.instances-test.true in
-    let ends : c.loop-k.k ≡ c.same_instance-to.result =
+    let last : c.loop-k.k ≡ c.same_instance-to.result =
     omega (arith, c.loop-k-test.false, c.loop-k.auto.k-end (omega (arith, c.same_instance-to.ensures.some))) in
     record {
       within = c.same_instance-to.ensures.most;
@@ -78,8 +84,11 @@ instances-preserved c =
       clear = c.clear.ensures.clear;
       listed = c.clear.ensures.listed;
       timed =
-          subst (λ (n : ℕ). AreTimed c.args.cells.now c.args.nets.now (take n (pins c.args.cells.now c.args.nets.now)) c.loop-k.timings.nets.items c.loop-k.timings.checks.items) ends
-          c.loop-k.invariant;
+          subst (λ (n : ℕ). AreTimed c.args.cells.now c.args.nets.now (take n (pins c.args.cells.now c.args.nets.now)) c.loop-k.timings.nets.items c.loop-k.timings.checks.items) last
+          c.loop-k.invariant.timed;
+      known =
+          ends (AreSinksOf c.enter.new.self.at.items) c.in_ok-related.related.cells.items c.enter.new.self.from c.same_instance-to.result c.loop-k.known.of.items
+          (omega (arith, c.in_ok-enter.ensures.from, c.same_instance-to.ensures.some)) c.loop-k.invariant.known;
     }
 
 pub add-requires-clause-listed : goal.add-requires-clause-listed
@@ -95,3 +104,11 @@ returns c =
     let long : length c.args.pins.now ≡ length cs = same_length (connected_at c.args.cells.now c.args.nets.now) (λ (x : Connected). Some x) c.args.pins.now cs c.requires.pins in
     subst (λ (l : List Connected). AreTimed c.args.cells.now c.args.nets.now l c.instances.timings.nets.items c.instances.timings.checks.items)
     (take_all c.instances.from cs (omega (arith, long, c.instances-test.false))) c.instances.invariant.timed
+
+pub loop-k-init : goal.loop-k-init
+loop-k-init c = record {
+  timed = c.instances.invariant.timed;
+  known =
+      starts (AreSinksOf c.enter.new.self.at.items) c.in_ok-related.related.cells.items c.enter.new.self.from c.instances.known.of.items
+      (λ n d f x h. omega (arith, c.instances.invariant.known n d f x h, c.in_ok-enter.ensures.from));
+}

@@ -1,12 +1,16 @@
 use Rattle.std.proofs.Common.{◌≤◌, ◌-◌, length, take}
 use Rattle.link_rules.specs.Pins.{pins}
+use Rattle.link_pins.specs.Known.{AreBefore, AreRight, AreSinksOf}
 use Rattle.link_pins.specs.Places.{AreListed, HasRoom, IsClear}
 use Rattle.link_pins.specs.Rows.{AreTimed}
 use Rattle.link_pins.proofs.OrderLaws.{IsBoundary}
 use Rattle.link_pins.proofs.timings.timings_of.Given as goal
 
 abbrev pub invariant-loop-k : goal.invariant-loop-k
-invariant-loop-k l = AreTimed l.cells l.nets (take l.k (pins l.cells l.nets)) l.timings.nets.items l.timings.checks.items
+invariant-loop-k l = record {
+  timed : AreTimed l.cells l.nets (take l.k (pins l.cells l.nets)) l.timings.nets.items l.timings.checks.items;
+  known : AreRight (AreSinksOf l.places.at.items) l.related.cells.items l.places.from l.known.of.items;
+}
 
 abbrev pub invariant-instances : goal.invariant-instances
 invariant-instances l = record {
@@ -15,6 +19,7 @@ invariant-instances l = record {
   room : HasRoom l.cells l.places.at.items;
   clear : IsClear l.places.at.items;
   listed : AreListed l.places;
+  known : AreBefore l.from l.known.of.items;
   timed : AreTimed l.cells l.nets (take l.from (pins l.cells l.nets)) l.timings.nets.items l.timings.checks.items;
 }
 

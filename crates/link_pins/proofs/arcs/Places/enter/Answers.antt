@@ -12,7 +12,8 @@ pub loop-k-init : goal.loop-k-init
 loop-k-init c = record {
   count = refl;
   entries = no_entries c.args.cells.now c.args.pins.now c.args.places.now c.args.from c.args.self.now.at.items c.requires.clear;
-  listed = λ are. are;
+  listed = λ are. record { each = are.each; all = are.all };
+  from = refl;
 }
 
 pub add-requires-clause-room : goal.add-requires-clause-room
@@ -34,6 +35,7 @@ loop-k-preserved c =
           (entry_more c.args.cells.now c.args.pins.now c.args.places.now c.args.from c.loop-k.k p (slice_get-get_or c.args.pins.now c.loop-k.k nothing within) c.loop-k.auto.k
           c.loop-k.self.at.items lt c.loop-k.invariant.entries);
       listed = λ are. c.in_ok-add.ensures.listed (c.loop-k.invariant.listed are);
+      from = c.in_ok-add.ensures.from ∙ c.loop-k.invariant.from;
     }
 
 pub returns-clause-count : goal.returns-clause-count
@@ -46,3 +48,6 @@ returns-clause-entries c =
 
 pub returns-clause-listed : goal.returns-clause-listed
 returns-clause-listed c = c.loop-k.invariant.listed
+
+pub returns-clause-from : goal.returns-clause-from
+returns-clause-from c = c.loop-k.invariant.from

@@ -6,5 +6,6 @@ abbrev pub invariant-loop-k : goal.invariant-loop-k
 invariant-loop-k l = record {
   count : length l.self.at.items ≡ length l.initial.self.at.items;
   entries : AreEntries l.cells l.pins l.places l.from l.k l.self.at.items;
-  listed : AreListed l.initial.self → AreListed l.self;
+  listed : AreListed l.fn.self → AreListed l.self;
+  from : l.self.from ≡ l.from;
 }
