@@ -1,20 +1,22 @@
 //! Runs by marks: how many rounds they make, and where they end.
 
-ghost use Rattle.std.specs.Prelude.{◌≤◌};
+ghost use Rattle.std.specs.Prelude.{◌≡◌, ◌≤◌, []};
 ghost use Rattle.xt_model.specs.declared.direction.Direction.TheVariants.{Narrow, Widen};
 ghost use Rattle.xt_meaning.specs.Barrier.{IsFittingStart};
 ghost use Rattle.net_eval.specs.ReadLists.{AreReadLists};
+ghost use Rattle.dirty_words.specs.Boards.{IsFree, IsOf};
 
 use crate::starts::{low, read, settled, top};
 use crate::texts::{CROSS, EMPTY, LOAD_PAIR, ONE};
 use chaos_core::OpenGate;
 use design_gen::generate;
-use dirty_run::settle_dirty_from;
+use dirty_run::{settle_dirty, settle_dirty_from};
+use dirty_words::{DirtyBoard, DirtyPass, readers};
 use net_eval::{ReadLists, read_lists};
 use std::alloc::Global;
 use std::test::Fail;
 use std::thread::Threads;
-use xt_model::{Design, Direction, NoMemory, Windows};
+use xt_model::{Design, Direction, NetId, NoMemory, Windows};
 
 /// The rounds of a run by marks, where it ends in the windows of a run by rounds.
 fn rounds_from<R: Threads + Sync>(
@@ -135,5 +137,92 @@ fn twenty_end_alike<R: Threads + Sync>(rt: &R, alloc: Global) -> Result<bool, Fa
 #[test]
 fn twenty_runs_of_four_threads_end_as_one_worker(rt: HostRuntime) -> Result<(), Fail> {
     assert!(rt; twenty_end_alike(&rt, rt.alloc())?);
+    Ok(())
+}
+
+/// The number that a pass draws, the net at that place, and whether its mark was set.
+type Taken = (u64, u32, bool);
+
+/// What a pass that drew and took nothing draws and takes first; None where it draws no place.
+fn first_taken(board: &DirtyBoard, pass: &mut DirtyPass, design: &Design) -> Option<Taken>
+    requires own { IsOf board.now pass.old }
+    requires design { board.now.run.setting.design ≡ design.now }
+    requires fresh { pass.old.view.base.drawn ≡ [] }
+    requires none { pass.old.view.taken ≡ [] }
+    requires free { IsFree pass.old.view }
+{
+    let order = design.order();
+    let number = board.draw(pass);
+    let place = number as usize;
+    if place < order.len() {
+        let net = order[place];
+        return Some((number, net, board.take(pass, NetId(net))));
+    }
+    None
+}
+
+/// The same on a new board.
+fn taken_on_new(
+    alloc: Global,
+    design: &Design,
+    lists: &ReadLists,
+    low: &Windows,
+) -> Result<Option<Taken>, NoMemory>
+    requires start { IsFittingStart Widen design.now low.now }
+    requires lists { AreReadLists design.now lists.now }
+{
+    let (board, mut first) = DirtyBoard::open(alloc, design, lists, Direction::Widen, low)?;
+    Ok(first_taken(&board, &mut first, design))
+}
+
+/// The same on a board after a run of one worker.
+fn taken_after_run<R: Threads + Sync>(
+    rt: &R,
+    alloc: Global,
+    design: &Design,
+    lists: &ReadLists,
+    low: &Windows,
+) -> Result<Option<Taken>, NoMemory>
+    requires start { IsFittingStart Widen design.now low.now }
+    requires lists { AreReadLists design.now lists.now }
+{
+    let way = Direction::Widen;
+    let readers = readers(alloc, lists)?;
+    let (board, mut first) = DirtyBoard::open(alloc, design, lists, way, low)?;
+    settle_dirty(
+        rt, alloc, &board, &mut first, design, lists, &readers, way, 1, &OpenGate,
+    )?;
+    board.restart(&mut first);
+    Ok(first_taken(&board, &mut first, design))
+}
+
+/// Both of a design.
+fn both_taken<R: Threads + Sync>(
+    rt: &R,
+    alloc: Global,
+    design: &Design,
+    low: &Windows,
+) -> Result<[Option<Taken>; 2], NoMemory>
+    requires { IsFittingStart Widen design.now low.now }
+{
+    let lists = read_lists(alloc, design)?;
+    Ok([
+        taken_on_new(alloc, design, &lists, low)?,
+        taken_after_run(rt, alloc, design, &lists, low)?,
+    ])
+}
+
+/// Both of the design of one source.
+fn taken_of_one<R: Threads + Sync>(rt: &R, alloc: Global) -> Result<[Option<Taken>; 2], Fail> {
+    let design = read(alloc, ONE)?;
+    let top = top(alloc, &design)?;
+    let low = low(alloc, &design, &top)?;
+    Ok(both_taken(rt, alloc, &design, &low)?)
+}
+
+// No net reads the only net.
+#[test]
+fn a_mark_is_taken_once(rt: HostRuntime) -> Result<(), Fail> {
+    assert!(rt; taken_of_one(&rt, rt.alloc())? == [Some((0, 0, true)), Some((0, 0, false))]);
     Ok(())
 }
