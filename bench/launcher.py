@@ -340,7 +340,7 @@ def completed(at):
     """What bash offers for a word that is begun: commands, options that are left, values, files by their kind."""
     folder = at.kit / "files"
     folder.mkdir()
-    for name in ("cells.lib", "b.v", "b.spef", "b.sdc", "d.xt", "note.txt", "a b.v"):
+    for name in ("cells.lib", "b.v", "b.spef", "b.sdc", "d.xt", "t.edits", "note.txt", "a b.v"):
         (folder / name).touch()
     (folder / "sub").mkdir()
     script = (f'source "{at.top}/tools/xtalk.bash"; complete -p xtalk >/dev/null || exit; COMP_WORDS=("$@"); '
@@ -351,6 +351,7 @@ def completed(at):
         ("report", "x", "y", "z", ""): "b.sdc sub", ("report", "1", "2", "3", "4", ""): "--workers --kind --miller --engine",
         ("report", "--kind", ""): "all checks noise", ("report", "--kind", "a"): "all", ("report", "--kind", "all", ""): "cells.lib sub",
         ("report", "x", "--workers", "2", "-"): "--kind --miller --engine", ("solve", ""): "d.xt sub", ("solve", "n"): "note.txt",
+        ("eco", ""): "d.xt sub", ("eco", "d.xt", ""): "sub t.edits", ("eco", "d.xt", "t.edits", ""): "--workers --miller",
         ("replay", "d.xt", "--o"): "--order", ("gen", ""): "--number --nets --workers", ("link", "--k"): "",
     }
     for words, wanted in rows.items():

@@ -218,6 +218,7 @@ eco ∅ edits
 eco one.xt -
 eco one.xt edits --kind all
 eco one.xt edits --order 5
+eco one.xt edits --engine marks
 eco one.xt edits --workers 0
 eco one.xt edits --workers 65
 eco one.xt edits --miller 0,4

@@ -401,6 +401,7 @@ const WHOLE: [(&str, &str); 2] = [(WRITTEN, WRITTEN_MEANT), (SMALL, SMALL_MEANT)
 fn netlists_are_read_whole(rt: HostRuntime) -> Result<(), Fail> {
     for (text, meant) in &WHOLE {
         compare_module(&rt, rt.alloc(), text, meant)?;
+        compare_modules(&rt, rt.alloc(), text, meant)?;
     }
     Ok(())
 }
