@@ -212,6 +212,15 @@ def related_pins_of_a_wide_cell(size):
     return related(size, " ".join(names), f"pin ({', '.join(names)}) {{ direction : input; }}", "")
 
 
+def outputs_of_one_group(size):
+    a, b, y = ([f"{letter}{i:x}" for i in range(size // 56)] for letter in "aby")
+    inputs = f"pin ({', '.join(a)}) {{ direction : input; }} pin ({', '.join(b)}) {{ direction : input; }}"
+    timing = f'timing () {{ related_pin : "{" ".join(a)}"; {TABLES} }}'
+    cell = f"cell (C) {{ {inputs} pin ({', '.join(y)}) {{ direction : output; {timing} }} }}\n"
+    pins = "".join(f".{name}(w)," for name in b) + ",".join(f".{name}({name})" for name in y)
+    return block(lib=LIB + cell + "}\n", net=f"module m; wire w; C c({pins}); endmodule\n")
+
+
 def groups_in_groups(size):
     return block(lib=LIB + many(size, lambda i: "g(){" * 60 + "}" * 60) + "}\n")
 
@@ -257,6 +266,7 @@ TEXTS = [
     wide_ports_passed_on,
     long_mapped_name, long_mapped_couplings, one_name_in_two_ways, many_mapped_names, many_nodes, many_empty_nets,
     related_names_that_are_no_pins, related_pin_named_often, related_pins_on_no_net, related_pins_of_a_wide_cell,
+    outputs_of_one_group,
     groups_in_groups, groups_side_by_side, many_attributes, many_cells, many_values,
     nets_of_nothing, long_names,
 ]  # fmt: skip
