@@ -1,5 +1,7 @@
-ghost use Rattle.std.specs.Prelude.{◌≡◌, ◌<◌, ◌^◌, List, ℕ, length, option_map, OnOk, OnErr};
+ghost use Rattle.std.specs.Prelude.{◌≡◌, ◌<◌, ◌^◌, List, ℕ, length, map, option_map, position, OnOk, OnErr};
+ghost use Rattle.std.specs.Str.{bytes_eq};
 ghost use Rattle.name_numbers.specs.Names.{found, with_value};
+ghost use Rattle.name_parts.specs.Own.{HaveOwnNumbers};
 ghost use Rattle.name_parts.specs.Parts.{whole};
 
 use crate::owned::{KeptName, PrefixedName};
@@ -53,6 +55,16 @@ impl<V: Drop> PrefixedTable<V> {
         }
     }
 
+    /// The number of a name in parts, where it has one.
+    pub fn number(&self, name: NameParts<'_>) -> Option<u32>
+        ensures { result ≡ position (bytes_eq (whole name.entry)) (map (λ e. e.0) self.now) }
+    {
+        match self.table.get_index_of(name) {
+            None => None,
+            Some(number) => Some(number as u32),
+        }
+    }
+
     /// The name of a number and its value.
     pub fn get(&self, number: u32) -> Option<(NameParts<'_>, &V)>
         ensures { option_map (λ e. (whole e.0, e.1.now)) result ≡ slice_get self.now number }
@@ -81,9 +93,10 @@ impl<V: Drop> PrefixedTable<V> {
         *self.table.hasher()
     }
 
-    /// How many names there are.
+    /// How many names there are. Each has a number of its own: no two are the same.
     pub fn len(&self) -> u32
-        ensures { result ≡ length self.now }
+        ensures count { result ≡ length self.now }
+        ensures own { HaveOwnNumbers (map (λ e. e.0) self.now) }
     {
         self.table.len() as u32
     }

@@ -1,5 +1,4 @@
-use Rattle.std.proofs.Common.{◌≡◌, true, false, ◌∙◌, sym, refl}
-use Rattle.std.specs.Str.{bytes_eq}
+use Rattle.std.proofs.Common.{◌∙◌, sym}
 use Rattle.name_parts.proofs.PartLaws.{cut_thrice, first_differs, middle_differs, last_counts}
 use Rattle.name_parts.proofs.parts.same_from.Goals as goal
 
