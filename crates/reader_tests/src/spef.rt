@@ -272,13 +272,12 @@ fn answer_of_changed(alloc: Global, count: usize, changes: Changes<'_>) -> Resul
     answer(alloc, Reader::Spef, text.as_bytes())
 }
 
-/// What is to become of this many first lines: the code of a refusal at the line after them, or `read`.
-fn wanted_of_cut(alloc: Global, count: u32) -> Result<String, AllocError> {
-    let line = count.saturating_add(1);
-    let code = match count {
-        0 => "S2",
-        1..=12 => "S4",
-        13..=25 | 37 | 45 => return String::from_str(alloc, "read"),
+/// What is to become of the example cut before a line: the code of a refusal at this line, or `read`.
+fn wanted_of_cut(alloc: Global, line: u32) -> Result<String, AllocError> {
+    let code = match line {
+        1 => "S2",
+        2..=13 => "S4",
+        14..=26 | 38 | 46 => return String::from_str(alloc, "read"),
         _ => "S2",
     };
     format!(in alloc; "{code} {line}")
@@ -288,7 +287,7 @@ fn wanted_of_cut(alloc: Global, count: u32) -> Result<String, AllocError> {
 fn the_example_is_refused_where_it_is_cut(rt: HostRuntime) -> Result<(), Fail> {
     for count in 0..46u32 {
         let words = answer_of_changed(rt.alloc(), count as usize, &[])?;
-        let want = wanted_of_cut(rt.alloc(), count)?;
+        let want = wanted_of_cut(rt.alloc(), count + 1)?;
         assert_eq!(rt; words.as_str(), want.as_str(), "{count} lines");
     }
     Ok(())

@@ -59,7 +59,9 @@ fn listed_of(rt: &impl Abort, alloc: Global, rules: Rules, text: &str) -> Result
 /// Compares the tokens of the text of each row, which comes before ` ⇒ `, with those after it.
 fn compare(rt: &impl Abort, alloc: Global, rules: Rules, rows: &str) -> Result<(), Fail> {
     for row in rows.lines() {
-        let (text, want) = row.split_once(" ⇒ ").unwrap_or((row, "?"));
+        let Some((text, want)) = row.split_once(" ⇒ ") else {
+            return Err(Fail::from("a row without tokens"));
+        };
         let listed = listed_of(rt, alloc, rules, text)?;
         let want = with_lines(alloc, want)?;
         assert!(rt; listed.as_slice() == want.as_bytes(), "{row}");
