@@ -1,13 +1,13 @@
 #!/usr/bin/env python3
 """Elmore sums of a small tree by the double sum over shared paths, from the definition alone.
 
-Plain and slow: for each sink p and each node k it takes the path from the root to p and the path from the root to k, each
-as a set of resistors, and adds up the resistors that stand in both. Nothing is shared between two pairs of nodes, nothing is
+Plain and slow: for each sink p and each node k it takes the two paths from the root, to p and to k, each as a set of
+resistors, and adds up those that are in both. Nothing is shared between two pairs of nodes, nothing is
 walked in an order, and a path is searched by trying every way that repeats no node.
 
 A case is a dict: nodes, root, resistors [(a, b, value)], ground [value], taps [(node, cap)], sinks [node].
 Its answer is
-    NotTree           the part joined to the root has at least as many resistors as nodes
+    NotTree           of the part that hangs at the root the resistors are no fewer than the nodes
     NotReached NODE   otherwise, the least sink, tap's node or node with ground above 0 that lies outside that part
     load LOAD, and per sink `sink BASE COEFFICIENT ...` with one coefficient per tap, in order.
 

@@ -1,4 +1,4 @@
--- What stands before and behind a first comma.
+-- What is before and after a first comma.
 use Rattle.std.proofs.Common.{◌≡◌, ◌∙◌, ap, arith, sym, ◌++◌, ◌∷◌, Option, Some, None, option_map}
 use Rattle.std.specs.Borrow.{Bor}
 use Rattle.std.proofs.lemmas.Str.Pattern.{IsSplitOnceResult, split_parts}

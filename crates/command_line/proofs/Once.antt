@@ -48,7 +48,7 @@ once_more i (j ∷ rest) o e =
     let names = neither (bytes_eq j.0 i.0) (has_name i.0 rest) e in
     rw (has_name_more j.0 rest (i ∷ []), false_back j.0 i.0 names.0, or-false (has_name j.0 rest), parts.0, once_more i rest parts.1 names.1) refl
 
--- ---- the items of the words, behind those of the words before them
+-- ---- the items of the words, after those of the words before them
 
 abbrev pub whole : List Item → Option (List Item)
 whole items = cond (are_once items) (Some items) None

@@ -10,8 +10,8 @@ abbrev pub bytes_of : List (String Global) → List Text
 bytes_of words = map string_bytes words
 
 -- the words after the first one
-abbrev pub behind_first : List (String Global) → List Text
-behind_first words = drop 1 (bytes_of words)
+abbrev pub after_first : List (String Global) → List Text
+after_first words = drop 1 (bytes_of words)
 
 -- the names as bytes
 abbrev pub texts_of : List (Bor Text) → List Text

@@ -7,7 +7,7 @@ ghost use Rattle.clap.specs.Lexer.{long_of, name_and_value, strip_byte};
 ghost use Rattle.clap.specs.Words.{app_of, rule_of};
 ghost use Rattle.command_line.specs.Grammar;
 ghost use Rattle.command_line.specs.Grammar.{given_of};
-ghost use Rattle.command_line.specs.Forms.{behind_first, form_of, texts_of};
+ghost use Rattle.command_line.specs.Forms.{after_first, form_of, texts_of};
 ghost use Rattle.command_line.specs.Reading;
 ghost use Rattle.command_line.specs.Reading.{Holds, app_of_form};
 
@@ -159,9 +159,9 @@ fn matches<'a>(
     rule: &CommandRule,
     words: &'a [String],
 ) -> Result<ArgMatches<'a>, WordsFault>
-    requires { list_all (Reading.is_listed (form_of rule.now).options) (behind_first words.now) ≡ true }
-    ensures ok { IfOk result (Holds (given_of (form_of rule.now) (behind_first words.now))) }
-    ensures bad { result ≡ Err WordsFault.Bad → given_of (form_of rule.now) (behind_first words.now) ≡ None }
+    requires { list_all (Reading.is_listed (form_of rule.now).options) (after_first words.now) ≡ true }
+    ensures ok { IfOk result (Holds (given_of (form_of rule.now) (after_first words.now))) }
+    ensures bad { result ≡ Err WordsFault.Bad → given_of (form_of rule.now) (after_first words.now) ≡ None }
 {
     let Ok(command) = command(alloc, rule) else {
         return Err(WordsFault::NoMemory);
@@ -175,7 +175,7 @@ fn matches<'a>(
     }
 }
 
-fn words_behind(words: &[String]) -> &[String]
+fn words_after_first(words: &[String]) -> &[String]
     ensures { result.now ≡ drop 1 words.now }
 {
     match words {
@@ -191,10 +191,10 @@ pub fn read<'a>(
     rule: &CommandRule,
     words: &'a [String],
 ) -> Result<ArgMatches<'a>, WordsFault>
-    ensures ok { IfOk result (Holds (given_of (form_of rule.now) (behind_first words.now))) }
-    ensures bad { result ≡ Err WordsFault.Bad → given_of (form_of rule.now) (behind_first words.now) ≡ None }
+    ensures ok { IfOk result (Holds (given_of (form_of rule.now) (after_first words.now))) }
+    ensures bad { result ≡ Err WordsFault.Bad → given_of (form_of rule.now) (after_first words.now) ≡ None }
 {
-    if !are_listed(rule.options, words_behind(words)) {
+    if !are_listed(rule.options, words_after_first(words)) {
         return Err(WordsFault::Bad);
     }
     matches(alloc, rule, words)

@@ -1,4 +1,4 @@
-//! What the words of a command line say: numbers, kinds of a report, Miller numbers.
+//! What the words of a command line say: numbers, kinds of a report, engines, Miller numbers.
 
 ghost use Rattle.std.specs.Prelude.{◌≡◌, Option, Some, None, option_map};
 ghost use Rattle.std.specs.Char.{is_ascii_digit};

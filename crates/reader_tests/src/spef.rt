@@ -266,22 +266,28 @@ fn changed(alloc: Global, count: usize, changes: Changes<'_>) -> Result<String, 
     Ok(text)
 }
 
+/// What becomes of the first lines of the example, some of them changed.
+fn answer_of_changed(alloc: Global, count: usize, changes: Changes<'_>) -> Result<String, Fail> {
+    let text = changed(alloc, count, changes)?;
+    answer(alloc, Reader::Spef, text.as_bytes())
+}
+
+/// What is to become of the example cut before a line: the code of a refusal at this line, or `read`.
+fn wanted_of_cut(alloc: Global, line: u32) -> Result<String, AllocError> {
+    let code = match line {
+        1 => "S2",
+        2..=13 => "S4",
+        14..=26 | 38 | 46 => return String::from_str(alloc, "read"),
+        _ => "S2",
+    };
+    format!(in alloc; "{code} {line}")
+}
+
 #[test]
 fn the_example_is_refused_where_it_is_cut(rt: HostRuntime) -> Result<(), Fail> {
-    let alloc = rt.alloc();
     for count in 0..46u32 {
-        let text = changed(alloc, count as usize, &[])?;
-        let words = answer(alloc, Reader::Spef, text.as_bytes())?;
-        let line = count + 1;
-        let want = if count == 0 {
-            format!(in alloc; "S2 {line}")?
-        } else if count <= 12 {
-            format!(in alloc; "S4 {line}")?
-        } else if count <= 25 || count == 37 || count == 45 {
-            format!(in alloc; "read")?
-        } else {
-            format!(in alloc; "S2 {line}")?
-        };
+        let words = answer_of_changed(rt.alloc(), count as usize, &[])?;
+        let want = wanted_of_cut(rt.alloc(), count + 1)?;
         assert_eq!(rt; words.as_str(), want.as_str(), "{count} lines");
     }
     Ok(())
@@ -289,7 +295,6 @@ fn the_example_is_refused_where_it_is_cut(rt: HostRuntime) -> Result<(), Fail> {
 
 #[test]
 fn the_example_is_refused_at_a_changed_line(rt: HostRuntime) -> Result<(), Fail> {
-    let alloc = rt.alloc();
     for (number, line, want) in [
         (40, "1 *2:1 -0.002", "S3 40"),
         (38, "*D_NET *1 0.003", "S6 38"),
@@ -297,8 +302,7 @@ fn the_example_is_refused_at_a_changed_line(rt: HostRuntime) -> Result<(), Fail>
         (17, "*01 x", "S5 17"),
         (36, "2 *1:1 *6:D *INDUC", "S1 36"),
     ] {
-        let text = changed(alloc, 45, &[(number, line)])?;
-        let words = answer(alloc, Reader::Spef, text.as_bytes())?;
+        let words = answer_of_changed(rt.alloc(), 45, &[(number, line)])?;
         assert_eq!(rt; words.as_str(), want, "{line}");
     }
     Ok(())

@@ -50,18 +50,38 @@ fn listed(rt: &impl Abort, alloc: Global, rules: Rules, text: &[u8]) -> Result<V
     Ok(out)
 }
 
+/// The tokens of the text of a row.
+fn listed_of(rt: &impl Abort, alloc: Global, rules: Rules, text: &str) -> Result<Vec<u8>, Fail> {
+    let text = with_lines(alloc, text)?;
+    listed(rt, alloc, rules, text.as_bytes())
+}
+
 /// Compares the tokens of the text of each row, which comes before ` ⇒ `, with those after it.
 fn compare(rt: &impl Abort, alloc: Global, rules: Rules, rows: &str) -> Result<(), Fail> {
     for row in rows.lines() {
         let Some((text, want)) = row.split_once(" ⇒ ") else {
             return Err(Fail::from("a row without tokens"));
         };
-        let text = with_lines(alloc, text)?;
+        let listed = listed_of(rt, alloc, rules, text)?;
         let want = with_lines(alloc, want)?;
-        let listed = listed(rt, alloc, rules, text.as_bytes())?;
         assert!(rt; listed.as_slice() == want.as_bytes(), "{row}");
     }
     Ok(())
+}
+
+/// The fault of a text, which its tokens have, too.
+fn fault_in_words(alloc: Global, rules: Rules, text: &[u8]) -> Result<String, Fail> {
+    if MOST_BYTES < text.len() {
+        return Err(Fail::from("too long"));
+    }
+    let fault = find_fault(text, rules);
+    if tokens(alloc, text, rules).err() != fault {
+        return Err(Fail::from("the tokens have another fault"));
+    }
+    match fault {
+        Some(fault) => Ok(format!(in alloc; "{fault:?}")?),
+        None => Err(Fail::from("no fault")),
+    }
 }
 
 /// Compares the fault of the text of each row.
@@ -69,19 +89,8 @@ fn compare_faults(rt: &impl Abort, alloc: Global, rules: Rules, rows: &str) -> R
     for row in rows.lines() {
         let (want, text) = at_bar(row)?;
         let text = with_lines(alloc, text)?;
-        if MOST_BYTES < text.len() {
-            return Err(Fail::from("too long"));
-        }
-        let Some(fault) = find_fault(text.as_bytes(), rules) else {
-            panic!(rt; "no fault at {row}");
-        };
-        let words = format!(in alloc; "{fault:?}")?;
+        let words = fault_in_words(alloc, rules, text.as_bytes())?;
         assert!(rt; words.as_str() == want, "{words} at {row}");
-        assert_eq!(rt;
-            tokens(alloc, text.as_bytes(), rules).err(),
-            Some(fault),
-            "{row}"
-        );
     }
     Ok(())
 }

@@ -1,7 +1,7 @@
 //! Netlists: short texts, worked out by hand.
 
 use crate::rows::{Reader, Texts, at_bar, compare};
-use std::alloc::Global;
+use std::alloc::{AllocError, Global};
 use std::process::Abort;
 use std::test::*;
 use verilog_net::{Name, Netlist, PortFound, Wire, read_modules, read_netlist};
@@ -277,6 +277,19 @@ absent | c
 absent | e
 ";
 
+/// What is found in a module by a name.
+fn found_in_words(alloc: Global, netlist: &Netlist, name: &str) -> Result<String, AllocError> {
+    match netlist.port(name.as_bytes()) {
+        PortFound::Bits {
+            decl,
+            first,
+            last,
+            role,
+        } => format!(in alloc; "{decl} {first} {last} {role:?}"),
+        PortFound::Absent => format!(in alloc; "absent"),
+    }
+}
+
 /// Compares what is found in a module by the name of each row.
 fn compare_found(
     rt: &impl Abort,
@@ -286,15 +299,7 @@ fn compare_found(
 ) -> Result<(), Fail> {
     for row in rows.lines() {
         let (want, name) = at_bar(row)?;
-        let words = match netlist.port(name.as_bytes()) {
-            PortFound::Bits {
-                decl,
-                first,
-                last,
-                role,
-            } => format!(in alloc; "{decl} {first} {last} {role:?}")?,
-            PortFound::Absent => format!(in alloc; "absent")?,
-        };
+        let words = found_in_words(alloc, netlist, name)?;
         assert!(rt; words.as_str() == want, "{words} at {row}");
     }
     Ok(())

@@ -7,7 +7,7 @@ ghost use Rattle.net_eval.specs.ReadLists.{AreReadLists};
 ghost use Rattle.dirty_words.specs.Boards.{IsFree, IsOf};
 
 use crate::starts::{low, read, settled, top};
-use crate::texts::{CROSS, EMPTY, LOAD_PAIR, ONE};
+use crate::texts::{CHAIN, CROSS, EMPTY, LOAD_PAIR, ONE};
 use chaos_core::OpenGate;
 use design_gen::generate;
 use dirty_run::{settle_dirty, settle_dirty_from};
@@ -224,5 +224,92 @@ fn taken_of_one<R: Threads + Sync>(rt: &R, alloc: Global) -> Result<[Option<Take
 #[test]
 fn a_mark_is_taken_once(rt: HostRuntime) -> Result<(), Fail> {
     assert!(rt; taken_of_one(&rt, rt.alloc())? == [Some((0, 0, true)), Some((0, 0, false))]);
+    Ok(())
+}
+
+/// The words of a board that is closed after a run of this many workers.
+fn closed_words<R: Threads + Sync>(
+    rt: &R,
+    alloc: Global,
+    design: &Design,
+    lists: &ReadLists,
+    low: &Windows,
+    workers: u32,
+) -> Result<Vec<u64>, NoMemory>
+    requires start { IsFittingStart Widen design.now low.now }
+    requires lists { AreReadLists design.now lists.now }
+    requires some { 1 ≤ workers }
+    requires few { workers ≤ 64 }
+{
+    let way = Direction::Widen;
+    let readers = readers(alloc, lists)?;
+    let (board, mut first) = DirtyBoard::open(alloc, design, lists, way, low)?;
+    settle_dirty(
+        rt, alloc, &board, &mut first, design, lists, &readers, way, workers, &OpenGate,
+    )?;
+    board.close(first)
+}
+
+/// The same of the design of a text.
+fn closed_words_of<R: Threads + Sync>(
+    rt: &R,
+    alloc: Global,
+    text: &[u8],
+    workers: u32,
+) -> Result<Vec<u64>, Fail>
+    requires some { 1 ≤ workers }
+    requires few { workers ≤ 64 }
+{
+    let design = read(alloc, text)?;
+    let top = top(alloc, &design)?;
+    let low = low(alloc, &design, &top)?;
+    let lists = read_lists(alloc, &design)?;
+    Ok(closed_words(rt, alloc, &design, &lists, &low, workers)?)
+}
+
+/// The number in a word whose bound is 0, and that in the low words of an edge that never switches.
+const ZERO: u64 = 4_611_686_018_427_387_904;
+
+const QUIET: u64 = 9_223_372_036_854_775_808;
+
+/// Designs, workers, and the words that are left: the first net rises at 1,000 fs, the second at 1,500.
+const WORDS: [(&[u8], u32, &[u64]); 3] = [
+    (EMPTY, 1, &[]),
+    (
+        ONE,
+        2,
+        &[ZERO + 1000, ZERO + 1000, ZERO, ZERO, QUIET, 0, QUIET, 0],
+    ),
+    (
+        CHAIN,
+        1,
+        &[
+            ZERO + 1000,
+            ZERO + 1000,
+            ZERO,
+            ZERO,
+            QUIET,
+            0,
+            QUIET,
+            0,
+            ZERO + 1500,
+            ZERO + 1500,
+            ZERO,
+            ZERO,
+            QUIET,
+            0,
+            QUIET,
+            0,
+        ],
+    ),
+];
+
+#[test]
+fn a_closed_board_leaves_its_words(rt: HostRuntime) -> Result<(), Fail> {
+    for (text, workers, wanted) in &WORDS {
+        assert!(rt; *workers >= 1 && *workers <= 64);
+        let words = closed_words_of(&rt, rt.alloc(), text, *workers)?;
+        assert!(rt; words.as_slice() == *wanted, "{workers} workers");
+    }
     Ok(())
 }

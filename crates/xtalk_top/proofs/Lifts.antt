@@ -42,7 +42,7 @@ job_means words content job o is h = subst (λ j. MatchOption j (o ≡ refuses W
 pub kept_trans : (a b c : Text → ℕ) → KeepsCounts a b → KeepsCounts b c → KeepsCounts a c
 kept_trans a b c h k = λ m. k m ∙ h m
 
--- a fault behind files that had none
+-- a fault after files that had none
 pub fault_later : (a b c : Text → ℕ) (file : Text) → KeepsCounts a b → HasFault b c file → HasFault a c file
 fault_later a b c file h f = (
   subst (λ n. Rose n (c file)) (h file) f.0,

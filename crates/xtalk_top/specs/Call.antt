@@ -42,7 +42,7 @@ abbrev pub Means : List Text → Contents → Outcome → Type 0
 Means words content outcome =
     MatchOption (job_of words) (outcome ≡ refuses Words) (λ job. JobMeans job content outcome)
 
--- the content of each file is known that is read before the outcome stands
+-- the content of each file that is read on the way to the outcome is known
 abbrev pub AreKnown : List Text → Contents → Type 0
 AreKnown words content = (file : Text) → Means words content (unread file) → IsSome (content file)
 

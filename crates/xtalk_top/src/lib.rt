@@ -1,4 +1,4 @@
-//! The top call: from the words of the command line and the bytes of the files to the bytes of the report.
+//! The top call: it makes the text that the words of a command line ask for, of the files that they name.
 #![tactic(auto)]
 
 mod block;

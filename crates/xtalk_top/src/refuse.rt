@@ -195,7 +195,7 @@ fn word_of_kind(what: LimitKind) -> &'static [u8]
     }
 }
 
-// Writes a code with one name behind it.
+// Writes a code with one name after it.
 fn write_one_name<E: Sink>(err: &mut E, code: &[u8], name: &[u8]) -> Result<(), Failed>
     ensures ok { OnOk result (E.written err.new ≡ appended (E.written err.old)
         ((codes "link: " ++ one_name code.now name.now) ++ 10 ∷ [])) }
@@ -207,7 +207,7 @@ fn write_one_name<E: Sink>(err: &mut E, code: &[u8], name: &[u8]) -> Result<(), 
     write_two(err, name, b"\n")
 }
 
-// Writes a code with two names behind it.
+// Writes a code with two names after it.
 fn write_two_names<E: Sink>(
     err: &mut E,
     code: &[u8],

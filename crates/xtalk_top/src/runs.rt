@@ -26,8 +26,8 @@ pub enum Turns {
     InThreads,
     /// All in this thread, as a source that starts at this number picks them.
     Picked(u64),
-    /// In threads of their own, which pass a gate in each round, by marks: a net is evaluated again only where
-    /// something that it reads moved.
+    /// By marks, several in threads of their own, one alone in this thread. Each passes a gate in each round. A net is
+    /// evaluated only where its mark is set.
     ByMarks,
 }
 

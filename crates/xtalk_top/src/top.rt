@@ -46,7 +46,7 @@ pub fn xtalk<R: Threads + Sync, F: Files, O: Sink, E: Sink>(
         (IsCutOff (O.written out.old) (O.written out.new) (O.faults out.old) (O.faults out.new)) failure
         × WritesLine (E.written err.old) (E.written err.new) (E.faults err.old) (E.faults err.new) (line_of failure) }
 
-    // All else stays as it was: out, but for a text (0) and for a first part of one, behind which a write came to a
+    // All else stays as it was: out, but for a text (0) and for a first part of one, after which a write came to a
     // fault (7); its count of faults, but for 7; the counts of all files, but for a read fault (6).
     ensures kept { (result ≢ 0 → result ≢ 7 → out.new ≡ out.old)
         × (result ≢ 7 → O.faults out.new ≡ O.faults out.old)
@@ -79,8 +79,9 @@ pub fn xtalk<R: Threads + Sync, F: Files, O: Sink, E: Sink>(
     xtalk_gated(rt, alloc, &OpenGate, words, files, out, err)
 }
 
-/// The same with a gate that each of several workers passes in every round before it draws. One worker alone passes
-/// none, nor do those of `replay`. What is written does not depend on the gate.
+/// The same with a gate that each of several workers passes in every round before it draws, and by marks also one
+/// alone. One worker alone passes none in a run without marks, nor do those of `replay`. What is written does not
+/// depend on the gate.
 pub fn xtalk_gated<R: Threads + Sync, F: Files, O: Sink, E: Sink, G: Gate>(
     rt: &R,
     alloc: Global,
