@@ -2,26 +2,35 @@
 use Rattle.std.proofs.Common.{◌≡◌, ℕ, zero, suc, ◌+◌, ◌*◌, ◌/◌, ◌%◌, ◌<◌, ◌≤◌, inl, inr, refl, sym, ap, subst, ◌∙◌, List, length, set, ℤ, arith}
 use Rattle.std.specs.Prelude.{slice_index}
 use Rattle.std.specs.List.{All}
+use Rattle.std.proofs.lemmas.Int.{ints}
 use Rattle.std.proofs.lemmas.List.{get_or_default, set-get_or}
 use Rattle.xt_model.specs.declared.direction.Direction.{Direction}
 use Rattle.xt_model.specs.declared.edge.Edge.{Edge}
 use Rattle.xt_model.specs.declared.edge.Edge.TheVariants.{Rise, Fall}
 use Rattle.xt_model.specs.declared.quad.Pair.{Pair}
-use Rattle.xt_model.specs.Quads.{IsPairInRange}
+use Rattle.xt_model.specs.declared.quad.Quad.{Quad}
+use Rattle.xt_model.specs.Quads.{IsBound, IsInRange, IsPairInRange}
 use Rattle.xt_model.specs.Parts.{Parts}
-use Rattle.xt_model.specs.Assign.{assigned, word_number, words_of}
-use Rattle.xt_meaning.specs.Operator.{step}
-use Rattle.xt_meaning.specs.Words.{bound_in, bounds_in, further, number_at, numbers_of, onward}
+use Rattle.xt_model.specs.Sound.{IsSound}
+use Rattle.xt_model.specs.Assign.{assigned, edge_of, side_of, word_number, words_of, quads_of}
+use Rattle.xt_meaning.specs.Operator.{operator, step}
+use Rattle.xt_meaning.specs.Barrier.{IsWithinEnvelope}
+use Rattle.xt_meaning.specs.Fixpoint.{IsWindows}
+use Rattle.xt_meaning.specs.Words.{bound_in, bounds_in, further, number_at, number_for, numbers_of, onward}
 use Rattle.xt_meaning.proofs.Words.{quads_of_words}
 use Rattle.xt_meaning.proofs.Order.{same_quad}
-use Rattle.xt_meaning.proofs.Numbers.{bound_there, further_one}
+use Rattle.xt_meaning.proofs.Numbers.{bound_there, further_one, number_back}
+use Rattle.xt_meaning.proofs.Rounds.{step_in_range}
+use Rattle.xt_meaning.proofs.Starts.{windows_in_range}
 use Rattle.net_eval.specs.Closing.{IsSteadyAt}
+use Rattle.net_eval.proofs.Steady.{operator_of_words}
 use Rattle.chaos_core.specs.Tasks.{bound_at}
 use Rattle.chaos_core.specs.OnlyWorker.{made_of, published, with_published}
 use Rattle.chaos_core.specs.Passes.{HoldPair}
+use Rattle.chaos_core.specs.TurnMarks.{IsHeld}
 use Rattle.chaos_core.proofs.Sight.{number_else}
 use Rattle.chaos_core.proofs.Loads.{bound_onward}
-use Rattle.chaos_core.proofs.Stages.{bound_in_range}
+use Rattle.chaos_core.proofs.Stages.{bound_in_range, side_in_range}
 use Rattle.chaos_core.proofs.Starting.{words_here, onward_here}
 
 -- ---- words of a pair
@@ -68,4 +77,35 @@ module _ (d : Parts) (words : List ℕ) (v : List Pair) (n : ℕ) (in_range : Al
   steady_from_hold = record {
     fixed = λ e. sym (quads_of_words (step d v) n e)
         ∙ (same_quad _ _ (at_side e 0 (omega arith)) (at_side e 1 (omega arith)) (at_side e 2 (omega arith)) (at_side e 3 (omega arith)) ∙ quads_of_words (assigned v) n e);
+  }
+
+-- and a net that is given back has the words that the operator makes
+module _ (d : Parts) (words : List ℕ) (v : List Pair) (n : ℕ) (sound : IsSound d) (windows : IsWindows d v) (within : IsWithinEnvelope d v) (is : numbers_of v ≡ words) (steady : IsSteadyAt d v n) where
+  quad_back : (e : Edge) → operator d (quads_of (bounds_in words)) n e ≡ step d v n e
+  quad_back e = ap (λ (f : ℕ → ℤ). operator d (quads_of f) n e) (words_here words v windows.in_range is) ∙ operator_of_words d v n e sound
+
+  bound_back : (i : ℕ) → i < 8 → bound_at (made_of d words n) i ≡ bounds_in words (8 * n + i)
+  bound_back i h =
+      let word = 8 * n + i in
+      let there : word / 8 ≡ n = omega arith in
+      let e = edge_of (word / 4 % 2) in
+      let P : ℕ → Type 0 = λ m. side_of (step d v m e) (word % 4) ≡ side_of (assigned v m e) (word % 4) in
+      let same : words_of (step d v) word ≡ words_of (assigned v) word = subst P (sym there) (ap (λ (q : Quad). side_of q (word % 4)) (steady.fixed e)) in
+      bound_onward d (bounds_in words) n i h
+      ∙ (ap (λ (f : ℕ → ℤ). f word) (onward_here d words v windows.in_range is) ∙ (same ∙ sym (ap (λ (f : ℕ → ℤ). f word) (words_here words v windows.in_range is))))
+
+  number_there : (word : ℕ) → number_at words word ≤ 9223372036854775808
+  number_there word =
+      let e = edge_of (word / 4 % 2) in
+      let inside : IsBound (words_of (assigned v) word) = side_in_range (assigned v (word / 8) e) (word % 4) (windows_in_range d v windows (word / 8) e) in
+      let b : IsBound (bounds_in words word) = subst IsBound (sym (ap (λ (f : ℕ → ℤ). f word) (words_here words v windows.in_range is))) inside in
+      omega (arith, ints, b.high)
+
+  pub held_from_steady : IsHeld d words n
+  held_from_steady = record {
+    hold = λ i h. sym (ap number_for (bound_back i h) ∙ (number_back (number_at words (8 * n + i)) (number_there (8 * n + i))).1);
+    range = record {
+      rise = subst IsInRange (sym (quad_back Rise)) (step_in_range d v n Rise sound within);
+      fall = subst IsInRange (sym (quad_back Fall)) (step_in_range d v n Fall sound within);
+    };
   }

@@ -82,7 +82,7 @@ drawn_steps d lists order mine k l number reads given items stage o m lt same no
 
 -- ---- publishing
 -- the bounds of windows in range
-side_in_range : (q : Quad) (s : ℕ) → IsInRange q → IsBound (side_of q s)
+pub side_in_range : (q : Quad) (s : ℕ) → IsInRange q → IsBound (side_of q s)
 side_in_range q zero h = h.tlo
 side_in_range q (suc zero) h = h.thi
 side_in_range q (suc (suc zero)) h = h.slo

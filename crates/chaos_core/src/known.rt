@@ -6,7 +6,8 @@ ghost use Rattle.xt_model.specs.declared.edge.Edge.{Edge};
 ghost use Rattle.xt_model.specs.Assign.{assigned};
 ghost use Rattle.xt_model.specs.Levels.{IsOrder};
 ghost use Rattle.xt_model.specs.Limits.{most_workers};
-ghost use Rattle.xt_meaning.specs.Barrier.{IsFittingStart};
+ghost use Rattle.xt_meaning.specs.Barrier.{IsFittingStart, IsWithinEnvelope};
+ghost use Rattle.xt_meaning.specs.Fixpoint.{IsWindows};
 ghost use Rattle.xt_meaning.specs.Operator.{step};
 ghost use Rattle.xt_meaning.specs.Words.{numbers_of};
 ghost use Rattle.net_eval.specs.ReadLists.{AreReadLists};
@@ -23,7 +24,7 @@ use crate::round::round;
 use crate::unmoved::closed_after;
 use crate::worker::Worker;
 use drawn_numbers::Source;
-use net_eval::ReadLists;
+use net_eval::{ReadLists, closed};
 use std::alloc::Global;
 use xt_model::{Design, Direction, NoMemory, Windows};
 
@@ -55,6 +56,22 @@ impl Known {
         let before = board.windows(alloc)?;
         let unmoved = vec![in alloc; false; design.nets().len()]?;
         Ok(Known::Moves(before, unmoved))
+    }
+
+    /// Whether the words are closed, whose windows are given. What one worker finds steady it knows in its first round.
+    pub fn look(&mut self, design: &Design, windows: &Windows) -> bool
+        requires windows { IsWindows design.now windows.now }
+        requires within { IsWithinEnvelope design.now windows.now }
+        requires known { (workers : ℕ) × IsKnown design.now workers (numbers_of windows.now) self.old }
+        ensures closed { IsTrue result
+            ↔ ((net : ℕ) (e : Edge) → step design.now windows.now net e ≡ assigned windows.now net e) }
+        ensures known { (workers : ℕ) → IsKnown design.now workers (numbers_of windows.now) self.old
+            → IsKnown design.now workers (numbers_of windows.now) self.new }
+    {
+        match self {
+            Known::Turns(marks, _) => closed_by(design, marks, windows),
+            Known::Moves(_, _) => closed(design, windows),
+        }
     }
 
     /// Makes one round, loads the windows that are then in the words, and answers whether the words are closed. Takes

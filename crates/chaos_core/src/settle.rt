@@ -22,7 +22,7 @@ use crate::memory::MemoryBoard;
 use crate::round::new_workers;
 use crate::worker::Worker;
 use drawn_numbers::Source;
-use net_eval::{ReadLists, closed};
+use net_eval::ReadLists;
 use std::alloc::Global;
 use xt_model::{Design, Direction, NoMemory, Windows};
 
@@ -63,7 +63,7 @@ fn settle_on(
     let mut windows = windows;
     let mut known = known;
     let mut source = Source::new(number);
-    let mut done = closed(design, &windows);
+    let mut done = known.look(design, &windows);
     let mut rounds: u64 = 0;
     'rounds: while !done {
         done = known.round(

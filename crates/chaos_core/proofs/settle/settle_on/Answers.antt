@@ -14,11 +14,10 @@ use Rattle.chaos_core.proofs.settle.settle_on.Goals as goal
 rounds_here : (a b : Setting) (lists : List (List NetId)) (order : List ℕ) (m n : ℕ) (p q : Pause) → b ≡ a → m ≡ n → IsRound b lists order m p q → IsRound a lists order n p q
 rounds_here a b lists order m n p q same count h = subst (λ (x : Setting). IsRound x lists order n p q) same (subst (λ k. IsRound b lists order k p q) count h)
 
-pub closed-done-requires-clause-count : goal.closed-done-requires-clause-count
-closed-done-requires-clause-count c = c.requires.fits.windows.count
-
-pub closed-done-requires-clause-within : goal.closed-done-requires-clause-within
-closed-done-requires-clause-within c = c.requires.fits.within
+pub look-done-requires-clause-known : goal.look-done-requires-clause-known
+look-done-requires-clause-known c =
+    let n = length c.args.workers.now in
+    (n, subst (λ (words : List ℕ). IsKnown c.args.design.now n words c.args.known) (sym c.requires.numbers) c.requires.known)
 
 pub round-done-requires-clause-design : goal.round-done-requires-clause-design
 round-done-requires-clause-design c = ap (λ (a : Setting). a.design) c.rounds.invariant.setting ∙ c.requires.design
@@ -131,8 +130,12 @@ rounds-init c = record {
   rooms = c.requires.rooms;
   fits = c.requires.fits;
   numbers = c.requires.numbers;
-  known = c.requires.known;
-  steady = c.closed-done.ensures;
+  known =
+      let n = length c.args.workers.now in
+      let d = c.args.design.now in
+      let before = subst (λ (words : List ℕ). IsKnown d n words c.args.known) (sym c.requires.numbers) c.requires.known in
+      subst (λ (words : List ℕ). IsKnown d n words c.look-done.new.self) c.requires.numbers (c.look-done.ensures.known n before);
+  steady = c.look-done.ensures.closed;
   kept = c.requires.kept.words;
   path = λ order o. let at : c.new-source.result.state ≡ c.args.number = c.new-source.ensures in ap (λ (n : ℕ). pause_at n c.args.board.now) at;
 }

@@ -1,18 +1,8 @@
 use Rattle.std.proofs.Common.{refl, length}
 use Rattle.chaos_core.specs.Rounds.{pause_at}
 use Rattle.chaos_core.proofs.LookLaws.{steady_kept}
-use Rattle.chaos_core.proofs.PassLaws.{steady_from_hold}
 use Rattle.chaos_core.proofs.Settling.{carried, fits_under}
 use Rattle.chaos_core.proofs.known.Known.round.Goals as goal
-
--- a net that is settled has the words that the operator makes
-pub closed_by-requires-clause-settled : goal.closed_by-requires-clause-settled
-closed_by-requires-clause-settled c = λ net there settled.
-    let d = c.args.design.now in
-    let load = c.load_into.ensures in
-    let after = fits_under c.args.board.now.setting c.round_alone.new.board.setting d c.args.direction c.load_into.new.windows c.round_alone.ensures.setting c.requires.design c.requires.direction load.fits in
-    let held = c.round_alone.ensures.marks.settled net there settled in
-    steady_from_hold d c.round_alone.new.board.words c.load_into.new.windows net after.windows.in_range load.numbers held.hold held.range
 
 -- a net whose reads the round did not move is steady after it
 pub closed_after-requires-clause-kept : goal.closed_after-requires-clause-kept
