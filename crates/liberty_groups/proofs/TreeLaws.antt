@@ -16,12 +16,12 @@ forest_push (u ∷ ts) t = ap (tree_and u) (forest_push ts t)
 
 -- a group of the code that is put together, and one that is opened
 pub rolled : (x : Group-F Group) → tree_of (roll-Group x)
-    ≡ node (record { name = x.name; values = x.args.items; line = x.line }) (map entry_of x.attributes) (forest (map tree_of x.groups.items))
+    ≡ node (record { name = x.name; values = x.args; line = x.line }) (map entry_of x.attributes) (forest (map tree_of x.groups.items))
 unfolding tree_of
 rolled x = fold-roll-Group Tree tree_step x
 
 pub opened : (g : Group) → tree_of g
-    ≡ node (record { name = (out-Group g).name; values = (out-Group g).args.items; line = (out-Group g).line })
+    ≡ node (record { name = (out-Group g).name; values = (out-Group g).args; line = (out-Group g).line })
     (map entry_of (out-Group g).attributes) (forest (map tree_of (out-Group g).groups.items))
 unfolding tree_of
 opened g = fold_out-Group Tree tree_step g
@@ -33,7 +33,7 @@ trees_forest (t ∷ ts) = ap (λ us. t ∷ us) (trees_forest ts)
 
 -- what an opened group has
 pub head_is : (g : Group) → head_of (tree_of g)
-    ≡ record { name = (out-Group g).name; values = (out-Group g).args.items; line = (out-Group g).line }
+    ≡ record { name = (out-Group g).name; values = (out-Group g).args; line = (out-Group g).line }
 head_is g = ap head_of (opened g)
 
 pub attributes_are : (g : Group) → attributes_of (tree_of g) ≡ map entry_of (out-Group g).attributes

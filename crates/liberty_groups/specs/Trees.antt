@@ -64,7 +64,7 @@ entry_of a = record { name = a.name; values = a.values; line = a.line }
 -- a group of the code whose inner groups stand for these trees
 abbrev pub tree_step : Group-F Tree → Tree
 tree_step g =
-    node (record { name = g.name; values = g.args.items; line = g.line })
+    node (record { name = g.name; values = g.args; line = g.line })
     (map entry_of g.attributes) (forest g.groups.items)
 
 -- what a group of the code stands for

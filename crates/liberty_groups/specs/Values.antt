@@ -8,4 +8,4 @@ use Rattle.liberty_groups.specs.declared.values.Spans.TheVariants as lists
 abbrev pub spans_of : Spans → List Span
 spans_of lists.None = []
 spans_of (lists.One span) = span ∷ []
-spans_of (lists.Many spans) = spans.items
+spans_of (lists.Many spans) = spans.value.items

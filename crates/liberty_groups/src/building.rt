@@ -67,7 +67,7 @@ fn open(alloc: Global, groups: &mut Vec<Group>, entry: Option<Attribute>) -> Res
         ≡ opened (option_map entry_of entry) (innermost_first groups.old.items)) }
 {
     if let Some(head) = entry {
-        put_innermost(groups, Group::new(alloc, head)?)?;
+        put_innermost(groups, Group::new(alloc, head))?;
     }
     Ok(())
 }

@@ -1,6 +1,6 @@
 //! The groups of a library.
 
-ghost use Rattle.std.specs.Prelude.{◌≡◌, [], ◌∷◌, ◌++◌, IfOk, OnOk, map};
+ghost use Rattle.std.specs.Prelude.{◌≡◌, [], ◌∷◌, ◌++◌, OnOk, map};
 ghost use Rattle.liberty_groups.specs.Trees.{node, no_trees, tree_of, entry_of, with_attribute, with_group};
 ghost use Rattle.liberty_groups.specs.Trees.{head_of, attributes_of, groups_of};
 
@@ -24,7 +24,7 @@ pub struct Attribute {
 #[derive(Debug, Drop)]
 pub struct Group {
     pub name: Span,
-    args: Vec<Span>,
+    args: Values,
     pub line: u32,
     attributes: Few<Attribute>,
     groups: Vec<Group>,
@@ -52,16 +52,16 @@ impl Attribute {
 
 impl Group {
     /// A group with nothing in it yet, by its name and its arguments.
-    pub fn new(alloc: Global, head: Attribute) -> Result<Group, AllocError>
-        ensures { IfOk result (λ g. tree_of g ≡ node (entry_of head) [] no_trees) }
+    pub fn new(alloc: Global, head: Attribute) -> Group
+        ensures { tree_of result ≡ node (entry_of head) [] no_trees }
     {
-        Ok(Group {
+        Group {
             name: head.name,
-            args: head.values.into_vec(alloc)?,
+            args: head.values,
             line: head.line,
             attributes: Few::none(),
             groups: Vec::new(alloc),
-        })
+        }
     }
 
     /// The group's name.

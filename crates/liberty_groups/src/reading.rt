@@ -38,7 +38,7 @@ fn build(alloc: Global, terms: &mut Terms<'_, Sort>) -> Result<Building, TextFau
     }
 }
 
-/// The library that a Liberty text is: one group named `library`, and nothing after it but `;`.
+/// The library that a Liberty text is: a group of that name, after which only `;` may come.
 ///
 /// A group is `NAME (ARGUMENTS) { ITEMS }`. Its arguments are words and strings, which commas and colons separate. An
 /// item is a simple attribute `NAME : VALUE .. ;`, a complex attribute `NAME (ARGUMENTS)` with or without a `;` after

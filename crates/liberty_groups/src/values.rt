@@ -5,17 +5,18 @@ ghost use Rattle.std.specs.Prelude.{◌≡◌};
 use crate::span::Span;
 use std::alloc::{AllocError, Global};
 use std::marker::Model;
-use std::{mem, slice};
+use std::slice;
 
 /// Spans: none, one, or a list of more.
 #[derive(Debug, Drop)]
 enum Spans {
     None,
     One(Span),
-    Many(Vec<Span>),
+    Many(Box<Vec<Span>>),
 }
 
-/// The values of an attribute in the order of the text. One alone takes no memory of its own.
+/// The values of an attribute, or the arguments of a group, in the order of the text: 16 bytes. One alone takes no
+/// memory of its own.
 #[derive(Debug, Drop)]
 pub struct Values {
     spans: Spans,
@@ -32,7 +33,7 @@ impl Model for Values {
 }
 
 impl Values {
-    ghost use Rattle.std.specs.Prelude.{[], ◌∷◌, ◌++◌, IfOk, OnOk};
+    ghost use Rattle.std.specs.Prelude.{[], ◌∷◌, ◌++◌, OnOk};
 
     /// No value.
     pub fn none() -> Values
@@ -56,36 +57,17 @@ impl Values {
     pub fn push(&mut self, alloc: Global, span: Span) -> Result<(), AllocError>
         ensures { OnOk result (self.new ≡ self.old ++ span ∷ []) }
     {
-        match mem::replace(&mut self.spans, Spans::One(span)) {
-            Spans::None => {}
+        match &mut self.spans {
+            Spans::None => self.spans = Spans::One(span),
             Spans::One(first) => {
+                let first = *first;
                 let mut spans = Vec::new(alloc);
                 spans.push(first)?;
                 spans.push(span)?;
-                self.spans = Spans::Many(spans);
+                self.spans = Spans::Many(Box::new(alloc, spans)?);
             }
-            Spans::Many(mut spans) => {
-                spans.push(span)?;
-                self.spans = Spans::Many(spans);
-            }
+            Spans::Many(spans) => spans.push(span)?,
         }
         Ok(())
-    }
-
-    /// The values as a list, with no room to spare for one alone.
-    pub fn into_vec(self, alloc: Global) -> Result<Vec<Span>, AllocError>
-        ensures { IfOk result (λ spans. spans.items ≡ self) }
-    {
-        let Values { spans } = self;
-        match spans {
-            Spans::None => Ok(Vec::new(alloc)),
-            Spans::One(span) => {
-                let mut spans = Vec::new(alloc);
-                spans.reserve_exact(1)?;
-                spans.push_reserved(span);
-                Ok(spans)
-            }
-            Spans::Many(spans) => Ok(spans),
-        }
     }
 }

@@ -9,7 +9,7 @@ use thiserror::Error;
 /// Why a text has no tokens, with the line of it, counted from 1.
 #[derive(Clone, Copy, Debug, PartialEq, Eq, Drop, Error)]
 pub enum LexFault {
-    /// A string, a comment, an attribute or a braced word is open at the text's end; this is its last line.
+    /// The text ends before a comment, a string, a braced word or an attribute does; this is its last line.
     #[error("line {0}: the text ends within a token or a comment")]
     Unended(u32),
     /// A byte that is allowed only in comments and quoted strings is elsewhere; this is the line of the first one.

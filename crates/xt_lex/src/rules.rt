@@ -5,9 +5,9 @@ pub const MOST_BYTES: usize = 268_435_456;
 
 /// The rules by which a text is cut into tokens.
 ///
-/// In each of them a line ends with a newline byte and white space is space, tab, carriage return and newline. A byte
-/// that is neither printable ASCII nor white space is a fault outside comments and quoted strings. A token's text is
-/// all of its bytes, with the quotes, braces or the backslash that belong to it.
+/// In each of them a newline byte ends a line; blanks, tabs, carriage returns and newlines are white space. A byte that
+/// is neither that nor printable ASCII is a fault, unless a comment or a quoted string has it. A token's text is all of
+/// its bytes, with the quotes, braces or the backslash that belong to it.
 #[derive(Clone, Copy, Debug, PartialEq, Eq)]
 pub enum Rules {
     /// `Mark` is one of `( ) { } : ; ,`. `Text` is a string between double quotes, over lines too, in which a

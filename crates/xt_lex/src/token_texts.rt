@@ -67,7 +67,7 @@ impl<'a> Lexemes<'a> {
     }
 
     /// The next token.
-    #[inline]
+    #[inline(always)]
     pub fn next_token(&mut self) -> Option<Lexeme<'a>>
         ensures next { MatchOption result ((self.old ≡ []) × (self.new ≡ [])) (λ t. self.old ≡ text_of t ∷ self.new) }
         ensures within { IfSome result (λ t. t.from + length t.text.now ≤ MOST_BYTES) }

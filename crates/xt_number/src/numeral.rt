@@ -13,6 +13,9 @@ ghost use Rattle.xt_number.specs.Reading.{numeral_of, Gives, is_numeral, has_dig
 /// A bound of mantissas: thirty digits are below it.
 const MANTISSAS: u128 = 1_000_000_000_000_000_000_000_000_000_000;
 
+/// A bound of the mantissas that are read in 64 bits: eighteen digits are below it, and one digit more fits too.
+const SHORT: u64 = 1_000_000_000_000_000_000;
+
 /// An exponent this far from zero outweighs any number of digits.
 const FAR: u128 = 1 << 80;
 
@@ -41,6 +44,30 @@ impl Numeral<'_> {
         ensures { MatchOption result (10 ^ 30 ≤ mantissa (view self.now))
             (λ m. (m ≡ mantissa (view self.now)) × (m < 10 ^ 30)) }
     {
+        match self.short_mantissa() {
+            Some(mantissa) => Some(u128::from(mantissa)),
+            None => self.long_mantissa(),
+        }
+    }
+
+    /// The digits before the exponent as one whole number, or None from 10^18 on.
+    fn short_mantissa(&self) -> Option<u64>
+        requires whole { AllDigits 10 self.now.whole.now }
+        requires fraction { AllDigits 10 self.now.fraction.now }
+        ensures { MatchOption result (10 ^ 18 ≤ mantissa (view self.now))
+            (λ m. (m ≡ mantissa (view self.now)) × (m < 10 ^ 18)) }
+    {
+        let whole = short_below(0, self.whole)?;
+        short_below(whole, self.fraction)
+    }
+
+    /// The digits before the exponent as one whole number, or None from 10^30 on, in 128 bits.
+    fn long_mantissa(&self) -> Option<u128>
+        requires whole { AllDigits 10 self.now.whole.now }
+        requires fraction { AllDigits 10 self.now.fraction.now }
+        ensures { MatchOption result (10 ^ 30 ≤ mantissa (view self.now))
+            (λ m. (m ≡ mantissa (view self.now)) × (m < 10 ^ 30)) }
+    {
         let whole = value_below(0, self.whole, MANTISSAS)?;
         value_below(whole, self.fraction, MANTISSAS)
     }
@@ -55,6 +82,23 @@ impl Numeral<'_> {
         let exponent = with_sign(self.exponent_negative, value_or_far(self.exponent));
         (exponent - self.fraction.len() as i128 + by).clamp(-64, 64) as i32
     }
+}
+
+/// The number that digits write after those of `start`, or None from 10^18 on.
+fn short_below(start: u64, digits: &[u8]) -> Option<u64>
+    requires start { start < 10 ^ 18 }
+    requires digits { AllDigits 10 digits.now }
+    ensures { MatchOption result (10 ^ 18 ≤ digits_value_after 10 start digits.now)
+        (λ v. (v ≡ digits_value_after 10 start digits.now) × (v < 10 ^ 18)) }
+{
+    let mut value = start;
+    for digit in digits {
+        value = value * 10 + u64::from(digit - b'0');
+        if value >= SHORT {
+            return None;
+        }
+    }
+    Some(value)
 }
 
 /// The number that digits write after those of `start`, or None from `limit` on.
@@ -177,6 +221,7 @@ fn split_exponent(text: &[u8]) -> Option<(bool, &[u8])>
 }
 
 /// The parts of the text, or None where it is no number.
+#[inline(always)]
 #[tactic(auto, unfolding(crate::specs::Reading::numeral_of))]
 pub fn split(text: &[u8]) -> Option<Numeral<'_>>
     ensures exact { Gives view result (numeral_of text.now) }

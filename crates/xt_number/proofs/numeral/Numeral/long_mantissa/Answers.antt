@@ -2,7 +2,7 @@ use Rattle.std.proofs.Common.{◌≡◌, ℕ, ◌<◌, ◌≤◌, ◌^◌, sym, 
 use Rattle.std.specs.Prelude.{MatchOption}
 use Rattle.std.specs.Str.Parse.{digits_value, digits_value_after}
 use Rattle.xt_number.proofs.Values.{front_large, after_append}
-use Rattle.xt_number.proofs.numeral.Numeral.mantissa.Goals as goal
+use Rattle.xt_number.proofs.numeral.Numeral.long_mantissa.Goals as goal
 
 pub returns-in_err-whole : goal.returns-in_err-whole
 returns-in_err-whole c =
