@@ -62,8 +62,9 @@ impl Values {
             Spans::One(first) => {
                 let first = *first;
                 let mut spans = Vec::new(alloc);
-                spans.push(first)?;
-                spans.push(span)?;
+                spans.reserve_exact(2)?;
+                spans.push_reserved(first);
+                spans.push_reserved(span);
                 self.spans = Spans::Many(Box::new(alloc, spans)?);
             }
             Spans::Many(spans) => spans.push(span)?,
