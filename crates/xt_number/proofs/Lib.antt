@@ -4,3 +4,4 @@ mod Fixing
 mod Powers
 mod Units
 mod WorkedValues
+pub mod Quantities
