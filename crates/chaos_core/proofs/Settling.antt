@@ -8,6 +8,7 @@ use Rattle.xt_model.specs.declared.quad.Quad.{Quad}
 use Rattle.xt_model.specs.declared.quad.Pair.{Pair}
 use Rattle.xt_model.specs.Quads.{IsPairInRange}
 use Rattle.xt_model.specs.Levels.{IsOrder}
+use Rattle.xt_model.specs.Build.{IsRoundBound}
 use Rattle.xt_model.specs.Parts.{Parts}
 use Rattle.xt_model.specs.Assign.{assigned, edge_of, side_of, words_of, quads_of}
 use Rattle.xt_meaning.specs.Operator.{step}
@@ -25,6 +26,7 @@ use Rattle.chaos_core.specs.declared.setting.Setting.{Setting}
 use Rattle.chaos_core.specs.Memories.{AreKept}
 use Rattle.chaos_core.specs.Rounds.{Pause, IsRound, AreClosed, AreRounds, HasCarried, Settles}
 use Rattle.chaos_core.proofs.Carrying.{round_carries}
+use Rattle.chaos_core.proofs.Chained.{carried_fewer, rounds_carried}
 use Rattle.chaos_core.proofs.Starting.{words_here, onward_here}
 
 -- ---- closed
@@ -99,6 +101,14 @@ one_more a d lists order workers n p m q v own range is open_words path round =
     let never : AreClosed a.design m.words → ⊥ = subst P (sym own) (λ c. open_words (steady_from d m.words v range is c)) in
     let e : suc n ≡ n + 1 = omega arith in
     subst (λ k. AreRounds a lists order workers k p q) e (m, path, never, round)
+
+-- before a round from words that are not closed, fewer rounds are made than the bound
+pub fewer_here : (a : Setting) (d : Parts) (lists : List (List NetId)) (order : List ℕ) (workers n bound : ℕ) (p q : Pause) (v : List Pair) → a.design ≡ d → 0 < workers → AreReadLists d lists → IsOrder d.nets order
+    → AreKept a p.words → All IsPairInRange v → numbers_of v ≡ q.words → (IsSteady d v → ⊥) → AreRounds a lists order workers n p q → IsRoundBound d.nets bound → n < bound
+fewer_here a d lists order workers n bound p q v own some are o kept range is open_words rounds b =
+    let P : Parts → Type 0 = λ x. AreReadLists x lists → IsOrder x.nets order → (AreClosed x q.words → ⊥) → IsRoundBound x.nets bound → n < bound in
+    subst P own (λ x y z w. carried_fewer a n bound p.words q.words kept (rounds_carried a lists order workers n p q some x y kept rounds) z w) are o
+    (λ c. open_words (steady_from d q.words v range is c)) b
 
 pub settles_there : (a : Setting) (d : Parts) (lists : List (List NetId)) (order words : List ℕ) (workers number n source rounds : ℕ) (begin : List ℕ) (v : List Pair) → a.design ≡ d → begin ≡ numbers_of a.start
     → All IsPairInRange v → numbers_of v ≡ words → IsSteady d v → n ≡ rounds

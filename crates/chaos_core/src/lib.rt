@@ -31,7 +31,7 @@ pub use memory::MemoryBoard;
 pub use run::run_worker;
 pub use schedule::run_schedule;
 pub use setting::Setting;
-pub use settle::{Settled, settle_picked};
+pub use settle::{Settled, settle_alone, settle_picked};
 pub use steps::{moves_down, worker_step};
 pub use words::{number_in, set_pairs};
 pub use worker::{Moved, Worker};

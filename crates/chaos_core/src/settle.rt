@@ -17,6 +17,7 @@ ghost use Rattle.chaos_core.specs.Knowing.{IsKnown};
 ghost use Rattle.chaos_core.specs.Memories.{IsKept};
 ghost use Rattle.chaos_core.specs.Rounds.{HasRoom, Settles};
 
+use crate::gate::{Gate, OpenGate};
 use crate::known::Known;
 use crate::memory::MemoryBoard;
 use crate::round::new_workers;
@@ -33,8 +34,9 @@ pub struct Settled {
     pub rounds: u64,
 }
 
-/// Makes rounds on a board at its start until the words are closed. Takes no memory.
-fn settle_on(
+/// Makes rounds on a board at its start until the words are closed. The first worker passes the gate before each. Takes
+/// no memory.
+fn settle_on<G: Gate>(
     board: &mut MemoryBoard,
     workers: &mut [Worker],
     windows: Windows,
@@ -43,6 +45,7 @@ fn settle_on(
     lists: &ReadLists,
     direction: Direction,
     number: u64,
+    gate: &G,
 ) -> Settled
     requires design { board.old.setting.design ≡ design.now }
     requires direction { board.old.setting.way ≡ direction }
@@ -66,6 +69,9 @@ fn settle_on(
     let mut done = known.look(design, &windows);
     let mut rounds: u64 = 0;
     'rounds: while !done {
+        prove!(rounds < design.bound());
+        rounds += 1;
+        gate.pass(1, rounds);
         done = known.round(
             board,
             workers,
@@ -75,10 +81,48 @@ fn settle_on(
             &mut source,
             &mut windows,
         );
-        prove!(rounds < design.bound());
-        rounds += 1;
     }
     Settled { windows, rounds }
+}
+
+/// Makes rounds from a fitting start, as [`settle_picked`] does; the first worker passes the gate before each.
+fn settle_gated<G: Gate>(
+    alloc: Global,
+    design: &Design,
+    lists: &ReadLists,
+    direction: Direction,
+    start: &Windows,
+    workers: u32,
+    number: u64,
+    gate: &G,
+) -> Result<Settled, NoMemory>
+    requires start { IsFittingStart direction design.now start.now }
+    requires lists { AreReadLists design.now lists.now }
+    requires some { 1 ≤ workers }
+    requires few { workers ≤ most_workers }
+    ensures extreme { IfOk result (λ settled. IsExtremeFixpoint direction design.now settled.windows) }
+    ensures rounds { IfOk result (λ settled. (order : List ℕ) → IsOrder design.now.nets order
+        → Settles (record { design = design.now; way = direction; start = start.now })
+        lists.now order workers number settled.windows settled.rounds) }
+    ensures few { IfOk result (λ settled. (bound : ℕ) → IsRoundBound design.now.nets bound → settled.rounds ≤ bound) }
+    ensures consistent { direction ≡ Narrow → IfOk result (λ settled. (xs : List Transition)
+        → AreConsistent design.now xs → LieWithin (assigned settled.windows) xs) }
+{
+    let mut board = MemoryBoard::new(alloc, design, direction, start)?;
+    let windows = board.windows(alloc)?;
+    let known = Known::new(alloc, &board, design, workers)?;
+    let mut workers = new_workers(alloc, lists, workers)?;
+    Ok(settle_on(
+        &mut board,
+        workers.as_mut_slice(),
+        windows,
+        known,
+        design,
+        lists,
+        direction,
+        number,
+        gate,
+    ))
 }
 
 /// Makes rounds from a fitting start, in each of which this many workers take turns until all are done, as numbers from
@@ -107,18 +151,29 @@ pub fn settle_picked(
     ensures consistent { direction ≡ Narrow → IfOk result (λ settled. (xs : List Transition)
         → AreConsistent design.now xs → LieWithin (assigned settled.windows) xs) }
 {
-    let mut board = MemoryBoard::new(alloc, design, direction, start)?;
-    let windows = board.windows(alloc)?;
-    let known = Known::new(alloc, &board, design, workers)?;
-    let mut workers = new_workers(alloc, lists, workers)?;
-    Ok(settle_on(
-        &mut board,
-        workers.as_mut_slice(),
-        windows,
-        known,
-        design,
-        lists,
-        direction,
-        number,
-    ))
+    settle_gated(
+        alloc, design, lists, direction, start, workers, number, &OpenGate,
+    )
+}
+
+/// A run of one worker from a fitting start, as by [`settle_picked`]; the worker passes the gate before each round.
+pub fn settle_alone<G: Gate>(
+    alloc: Global,
+    design: &Design,
+    lists: &ReadLists,
+    direction: Direction,
+    start: &Windows,
+    gate: &G,
+) -> Result<Settled, NoMemory>
+    requires start { IsFittingStart direction design.now start.now }
+    requires lists { AreReadLists design.now lists.now }
+    ensures extreme { IfOk result (λ settled. IsExtremeFixpoint direction design.now settled.windows) }
+    ensures rounds { IfOk result (λ settled. (order : List ℕ) → IsOrder design.now.nets order
+        → Settles (record { design = design.now; way = direction; start = start.now })
+        lists.now order 1 0 settled.windows settled.rounds) }
+    ensures few { IfOk result (λ settled. (bound : ℕ) → IsRoundBound design.now.nets bound → settled.rounds ≤ bound) }
+    ensures consistent { direction ≡ Narrow → IfOk result (λ settled. (xs : List Transition)
+        → AreConsistent design.now xs → LieWithin (assigned settled.windows) xs) }
+{
+    settle_gated(alloc, design, lists, direction, start, 1, 0, gate)
 }

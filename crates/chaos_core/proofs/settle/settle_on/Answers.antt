@@ -7,7 +7,7 @@ use Rattle.chaos_core.specs.Knowing.{IsKnown}
 use Rattle.chaos_core.specs.Memories.{AreKept}
 use Rattle.chaos_core.specs.Rounds.{Pause, IsRound, pause_at}
 use Rattle.chaos_core.proofs.Chained.{few_here}
-use Rattle.chaos_core.proofs.Settling.{carried, run_nearer, one_more, settles_there}
+use Rattle.chaos_core.proofs.Settling.{carried, fewer_here, run_nearer, one_more, settles_there}
 use Rattle.chaos_core.proofs.settle.settle_on.Goals as goal
 
 -- each round is one under the setting at the start
@@ -15,28 +15,28 @@ rounds_here : (a b : Setting) (lists : List (List NetId)) (order : List ℕ) (m 
 rounds_here a b lists order m n p q same count h = subst (λ (x : Setting). IsRound x lists order n p q) same (subst (λ k. IsRound b lists order k p q) count h)
 
 pub look-done-requires-clause-known : goal.look-done-requires-clause-known
-look-done-requires-clause-known c =
+look-done-requires-clause-known g c =
     let n = length c.args.workers.now in
     (n, subst (λ (words : List ℕ). IsKnown c.args.design.now n words c.args.known) (sym c.requires.numbers) c.requires.known)
 
 pub round-done-requires-clause-design : goal.round-done-requires-clause-design
-round-done-requires-clause-design c = ap (λ (a : Setting). a.design) c.rounds.invariant.setting ∙ c.requires.design
+round-done-requires-clause-design g c = ap (λ (a : Setting). a.design) c.rounds.invariant.setting ∙ c.requires.design
 
 pub round-done-requires-clause-direction : goal.round-done-requires-clause-direction
-round-done-requires-clause-direction c = ap (λ (a : Setting). a.way) c.rounds.invariant.setting ∙ c.requires.direction
+round-done-requires-clause-direction g c = ap (λ (a : Setting). a.way) c.rounds.invariant.setting ∙ c.requires.direction
 
 pub round-done-requires-clause-kept : goal.round-done-requires-clause-kept
-round-done-requires-clause-kept c = let inv = c.rounds.invariant in subst (λ (a : Setting). AreKept a c.rounds.board.words) (sym inv.setting) inv.kept
+round-done-requires-clause-kept g c = let inv = c.rounds.invariant in subst (λ (a : Setting). AreKept a c.rounds.board.words) (sym inv.setting) inv.kept
 
 pub round-done-requires-clause-windows : goal.round-done-requires-clause-windows
-round-done-requires-clause-windows c = c.rounds.invariant.fits.windows.count
+round-done-requires-clause-windows g c = c.rounds.invariant.fits.windows.count
 
 pub round-done-requires-clause-known : goal.round-done-requires-clause-known
-round-done-requires-clause-known c =
+round-done-requires-clause-known g c =
     let inv = c.rounds.invariant in subst (λ (n : ℕ). IsKnown c.args.design.now n c.rounds.board.words c.rounds.known) (sym inv.count) inv.known
 
 pub rounds-smaller : goal.rounds-smaller
-rounds-smaller c =
+rounds-smaller g c =
     let a = c.args.board.now.setting in
     let b = c.rounds.board.setting in
     let d = c.args.design.now in
@@ -52,7 +52,7 @@ rounds-smaller c =
     (λ h. both_ways c.rounds.done c.rounds-test.true (inv.steady.1 h))
 
 pub rounds-preserved : goal.rounds-preserved
-rounds-preserved c =
+rounds-preserved g c =
     let a = c.args.board.now.setting in
     let b = c.rounds.board.setting in
     let d = c.args.design.now in
@@ -84,17 +84,17 @@ rounds-preserved c =
     }
 
 pub returns-clause-extreme : goal.returns-clause-extreme
-returns-clause-extreme c =
+returns-clause-extreme g c =
     extreme_from_fixpoint c.args.direction c.args.design.now c.rounds.windows (record { windows = c.rounds.invariant.fits.windows; fixed = c.rounds.invariant.steady.0 c.rounds-test.false }) c.rounds.invariant.fits.respects
 
 pub returns-clause-rounds : goal.returns-clause-rounds
-returns-clause-rounds c = λ order o.
+returns-clause-rounds g c = λ order o.
     let inv = c.rounds.invariant in
     settles_there c.args.board.now.setting c.args.design.now c.args.lists.now order c.rounds.board.words (length c.args.workers.now) c.args.number c.rounds.rounds c.rounds.source.state c.rounds.rounds c.args.board.now.words
     c.rounds.windows c.requires.design c.requires.start inv.fits.windows.in_range inv.numbers (inv.steady.0 c.rounds-test.false) (λ i. c.rounds.rounds) (inv.path order o)
 
 pub returns-clause-few : goal.returns-clause-few
-returns-clause-few c = λ bound b.
+returns-clause-few g c = λ bound b.
     let order = c.requires.lists.ordered.0 in
     let o = c.requires.lists.ordered.1 in
     let begin : Pause = record { source = c.args.number; words = c.args.board.now.words } in
@@ -103,28 +103,22 @@ returns-clause-few c = λ bound b.
     c.requires.kept.words (c.rounds.invariant.path order o) b
 
 pub prove-unreachable-requires : goal.prove-unreachable-requires
-prove-unreachable-requires c =
+prove-unreachable-requires g c =
     let a = c.args.board.now.setting in
     let d = c.args.design.now in
-    let lists = c.args.lists.now in
     let inv = c.rounds.invariant in
-    let n = length c.args.workers.now in
-    let p = pause_at c.rounds.source.state c.rounds.board in
-    let q = pause_at c.round-done.new.source.state c.round-done.new.board in
     let order = c.requires.lists.ordered.0 in
     let o = c.requires.lists.ordered.1 in
     let begin : Pause = record { source = c.args.number; words = c.args.board.now.words } in
-    let round = rounds_here a c.rounds.board.setting lists order (length c.rounds.workers) n p q inv.setting inv.count (c.round-done.ensures.round order o) in
-    let longer = one_more a d lists order n c.rounds.rounds begin p q c.rounds.windows c.requires.design inv.fits.windows.in_range inv.numbers (λ h. both_ways c.rounds.done c.rounds-test.true (inv.steady.1 h))
-    (inv.path order o) round in
-    let few = few_here a d lists order n (c.rounds.rounds + 1) c.bound.result begin q c.requires.design c.requires.some c.requires.lists o c.requires.kept.words longer c.bound.ensures.value in
+    let few = fewer_here a d c.args.lists.now order (length c.args.workers.now) c.rounds.rounds c.bound.result begin (pause_at c.rounds.source.state c.rounds.board) c.rounds.windows c.requires.design c.requires.some c.requires.lists o
+    c.requires.kept.words inv.fits.windows.in_range inv.numbers (λ h. both_ways c.rounds.done c.rounds-test.true (inv.steady.1 h)) (inv.path order o) c.bound.ensures.value in
     omega (arith, few, c.if-prove.true)
 
 pub overflow_add-rounds : goal.overflow_add-rounds
-overflow_add-rounds c = let most = c.bound.type_inv in omega (arith, c.if-prove.false, most)
+overflow_add-rounds g c = let most = c.bound.type_inv in omega (arith, c.if-prove.false, most)
 
 pub rounds-init : goal.rounds-init
-rounds-init c = record {
+rounds-init g c = record {
   setting = refl;
   count = refl;
   rooms = c.requires.rooms;

@@ -12,7 +12,7 @@ use Rattle.chaos_core.proofs.Settling.{IsSteady}
 use Rattle.chaos_core.proofs.settle.settle_on.Given as goal
 
 abbrev pub invariant-rounds : goal.invariant-rounds
-invariant-rounds l = record {
+invariant-rounds g l = record {
   setting : l.board.setting ≡ l.fn.board.setting;
   count : length l.workers ≡ length l.fn.workers;
   rooms : All (HasRoom l.lists) l.workers;
@@ -26,4 +26,4 @@ invariant-rounds l = record {
 }
 
 abbrev pub decreases-rounds : goal.decreases-rounds
-decreases-rounds l = room l.direction l.windows
+decreases-rounds g l = room l.direction l.windows

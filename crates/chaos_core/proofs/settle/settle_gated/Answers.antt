@@ -6,10 +6,10 @@ use Rattle.run_laws.proofs.Hulls.{within_greatest}
 use Rattle.chaos_core.specs.declared.setting.Setting.{Setting}
 use Rattle.chaos_core.specs.Memories.{Memory}
 use Rattle.chaos_core.specs.Rounds.{Settles}
-use Rattle.chaos_core.proofs.settle.settle_picked.Goals as goal
+use Rattle.chaos_core.proofs.settle.settle_gated.Goals as goal
 
 pub returns-clause-rounds : goal.returns-clause-rounds
-returns-clause-rounds c =
+returns-clause-rounds g c =
     let a : Setting = record { design = c.args.design.now; way = c.args.direction; start = c.args.start.now } in
     let s : c.in_ok-board.board.setting ≡ a = ap (λ (m : Memory). m.setting) c.in_ok-board.ensures in
     let n : length c.as_mut_slice.result.now ≡ c.args.workers = ap length c.as_mut_slice.ensures.value ∙ c.in_ok-workers.ensures.count in
@@ -20,7 +20,7 @@ returns-clause-rounds c =
     → Settles x lists order (length c.as_mut_slice.result.now) c.args.number settled.windows settled.rounds) s c.settle_on.ensures.rounds)
 
 pub returns-clause-consistent : goal.returns-clause-consistent
-returns-clause-consistent c = λ narrow.
+returns-clause-consistent g c = λ narrow.
     let d = c.args.design.now in
     let within = c.requires.start.within in
     let o = c.requires.lists.ordered.1 in
