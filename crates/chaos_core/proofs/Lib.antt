@@ -22,8 +22,9 @@ pub mod Chained
 pub mod NoNets
 pub mod Settling
 mod OnlyWorker
-mod LookLaws
+pub mod LookLaws
 mod PassLaws
 mod Deciding
 mod Telling
 mod Listing
+mod Swaps

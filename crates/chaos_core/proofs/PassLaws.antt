@@ -80,19 +80,21 @@ module _ (d : Parts) (words : List ℕ) (v : List Pair) (n : ℕ) (in_range : Al
   }
 
 -- and a net that is given back has the words that the operator makes
+pub steady_words : (d : Parts) (words : List ℕ) (v : List Pair) (n : ℕ) → All IsPairInRange v → numbers_of v ≡ words → IsSteadyAt d v n → (i : ℕ) → i < 8 → onward d (bounds_in words) (8 * n + i) ≡ bounds_in words (8 * n + i)
+steady_words d words v n range is steady i h =
+    let word = 8 * n + i in
+    let there : word / 8 ≡ n = omega arith in
+    let e = edge_of (word / 4 % 2) in
+    let P : ℕ → Type 0 = λ m. side_of (step d v m e) (word % 4) ≡ side_of (assigned v m e) (word % 4) in
+    let same : words_of (step d v) word ≡ words_of (assigned v) word = subst P (sym there) (ap (λ (q : Quad). side_of q (word % 4)) (steady.fixed e)) in
+    ap (λ (f : ℕ → ℤ). f word) (onward_here d words v range is) ∙ (same ∙ sym (ap (λ (f : ℕ → ℤ). f word) (words_here words v range is)))
+
 module _ (d : Parts) (words : List ℕ) (v : List Pair) (n : ℕ) (sound : IsSound d) (windows : IsWindows d v) (within : IsWithinEnvelope d v) (is : numbers_of v ≡ words) (steady : IsSteadyAt d v n) where
   quad_back : (e : Edge) → operator d (quads_of (bounds_in words)) n e ≡ step d v n e
   quad_back e = ap (λ (f : ℕ → ℤ). operator d (quads_of f) n e) (words_here words v windows.in_range is) ∙ operator_of_words d v n e sound
 
   bound_back : (i : ℕ) → i < 8 → bound_at (made_of d words n) i ≡ bounds_in words (8 * n + i)
-  bound_back i h =
-      let word = 8 * n + i in
-      let there : word / 8 ≡ n = omega arith in
-      let e = edge_of (word / 4 % 2) in
-      let P : ℕ → Type 0 = λ m. side_of (step d v m e) (word % 4) ≡ side_of (assigned v m e) (word % 4) in
-      let same : words_of (step d v) word ≡ words_of (assigned v) word = subst P (sym there) (ap (λ (q : Quad). side_of q (word % 4)) (steady.fixed e)) in
-      bound_onward d (bounds_in words) n i h
-      ∙ (ap (λ (f : ℕ → ℤ). f word) (onward_here d words v windows.in_range is) ∙ (same ∙ sym (ap (λ (f : ℕ → ℤ). f word) (words_here words v windows.in_range is))))
+  bound_back i h = bound_onward d (bounds_in words) n i h ∙ steady_words d words v n windows.in_range is steady i h
 
   number_there : (word : ℕ) → number_at words word ≤ 9223372036854775808
   number_there word =

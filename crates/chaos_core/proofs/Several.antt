@@ -1,5 +1,5 @@
 -- Several steps of a worker, one after another.
-use Rattle.std.proofs.Common.{◌≡◌, ℕ, zero, suc, ◌*◌, ◌<◌, ◌≤◌, ◌⊎◌, inl, inr, refl, sym, ap, subst, ◌∙◌, List, [], ◌∷◌, ◌++◌, length, arith}
+use Rattle.std.proofs.Common.{◌≡◌, ℕ, zero, suc, ◌+◌, ◌-◌, ◌*◌, ◌%◌, ◌<◌, ◌≤◌, nat_lt, if◌then◌else◌, ◌⊎◌, inl, inr, refl, sym, ap, subst, ◌∙◌, List, [], ◌∷◌, ◌++◌, length, arith}
 use Rattle.xt_model.specs.declared.net.NetId.{NetId}
 use Rattle.xt_model.specs.declared.quad.Pair.{Pair}
 use Rattle.xt_model.specs.Quads.{IsPairInRange}
@@ -7,12 +7,13 @@ use Rattle.xt_model.specs.Parts.{Parts}
 use Rattle.xt_model.specs.Sound.{IsSound}
 use Rattle.xt_model.specs.Levels.{IsOrder}
 use Rattle.xt_meaning.specs.Reads.{IsReadList}
+use Rattle.xt_meaning.specs.Words.{number_for, further}
 use Rattle.net_eval.specs.ReadLists.{AreReadLists, ids, reads_of}
 use Rattle.chaos_core.specs.declared.setting.Setting.{Setting}
 use Rattle.chaos_core.specs.declared.worker.Moved.{Moved}
-use Rattle.chaos_core.specs.declared.worker.Moved.TheVariants.{Loaded}
-use Rattle.chaos_core.specs.Boards.{nets_of, Knowledge, IsSeen, Loads}
-use Rattle.chaos_core.specs.Tasks.{Task, idle, loading, publishing, done, list_of, word_to_load, evaluated, with_loaded}
+use Rattle.chaos_core.specs.declared.worker.Moved.TheVariants.{Loaded, Published}
+use Rattle.chaos_core.specs.Boards.{nets_of, Knowledge, HasPublished, IsSeen, Loads, Publishes}
+use Rattle.chaos_core.specs.Tasks.{Task, idle, loading, publishing, done, list_of, word_to_load, bound_at, evaluated, with_loaded}
 use Rattle.chaos_core.specs.Steps.{AreLoaded, FitsLoading, FitsPublishing, Fits, Steps, AreSteps}
 use Rattle.chaos_core.specs.Runs.{IsDone}
 use Rattle.chaos_core.specs.Views.{IsLoaded}
@@ -174,3 +175,41 @@ module _ (k l : Knowledge) (lists : List (List NetId)) (net : ℕ) (numbers item
     pub steps_then : (m : Knowledge) (number : ℕ) (later : List ℕ) (order : List ℕ) (n : ℕ) → Loads l word number m → later ≡ items ++ number ∷ []
         → AreSteps d lists order n k (loading net numbers) l (with_loaded d (list_of lists net) net items) → AreSteps d lists order (suc n) k (loading net numbers) m (with_loaded d (list_of lists net) net later)
     steps_then m number later order n loads pushed before = one_more d lists order n k l m (loading net numbers) net items later word number (fits_now more) is loads pushed before
+
+-- ---- the rest of a net's words is published
+-- a worker that has published this many words of its net
+abbrev pub published_to : ℕ → Pair → ℕ → Task
+published_to net pair place = if nat_lt place 8 then publishing net pair place else idle
+
+pub publish_none : (d : Parts) (lists : List (List NetId)) (order : List ℕ) (k : Knowledge) (net from : ℕ) (pair : Pair) → from < 8
+    → AreSteps d lists order (from - from) k (publishing net pair from) k (published_to net pair from)
+publish_none d lists order k net from pair more =
+    let e : 0 ≡ from - from = omega arith in
+    let none : AreSteps d lists order 0 k (publishing net pair from) k (published_to net pair from) = (refl, rw (below from 8 more) refl) in
+    subst (λ n. AreSteps d lists order n k (publishing net pair from) k (published_to net pair from)) e none
+
+pub publish_more : (d : Parts) (lists : List (List NetId)) (order : List ℕ) (n : ℕ) (k l m : Knowledge) (t : Task) (net : ℕ) (pair : Pair) (place value : ℕ) → FitsPublishing l net pair place
+    → value ≡ number_for (bound_at pair place) → HasPublished l (8 * net + place) value m → AreSteps d lists order n k t l (published_to net pair place)
+    → AreSteps d lists order (suc n) k t m (published_to net pair (place + 1))
+publish_more d lists order n k l m t net pair place value fits is h before =
+    let b = below place 8 fits.more in
+    let at : AreSteps d lists order n k t l (publishing net pair place) = rw b at before in (
+      l,
+      publishing net pair place,
+      Published (8 * net + place),
+      at,
+      fits,
+      record {
+        answer = h.0;
+        acts = subst (λ v. Publishes l (8 * net + place) h.0 (further l.setting.way ((8 * net + place) % 2) h.0 v) m) is h.1;
+        next = refl;
+        move = refl;
+      },
+    )
+
+pub publish_whole : (d : Parts) (lists : List (List NetId)) (order : List ℕ) (k l : Knowledge) (net from place : ℕ) (pair : Pair) → from < 8 → 8 ≤ place
+    → AreSteps d lists order (place - from) k (publishing net pair from) l (published_to net pair place) → (more : ℕ) × AreSteps d lists order (suc more) k (publishing net pair from) l idle
+publish_whole d lists order k l net from place pair more end s =
+    let e : place - from ≡ suc (place - from - 1) = omega (arith, more, end) in
+    let ended : AreSteps d lists order (place - from) k (publishing net pair from) l idle = rw (not_below place 8 end) at s in
+    (place - from - 1, subst (λ n. AreSteps d lists order n k (publishing net pair from) l idle) e ended)

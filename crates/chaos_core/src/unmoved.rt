@@ -1,15 +1,17 @@
-//! Whether words are closed after a round: only at nets that read a net whose windows the round moved.
+//! Looks that evaluate only nets that read a net whose windows the last round moved.
 
-ghost use Rattle.std.specs.Prelude.{◌≡◌, ◌↔◌, ℕ, ◌+◌, ◌<◌, false, length, slice_index, IsTrue};
+ghost use Rattle.std.specs.Prelude.{◌≡◌, ◌↔◌, ℕ, ◌+◌, ◌<◌, ◌≤◌, false, length, slice_index, IsTrue};
 ghost use Rattle.std.specs.List.{All, slice_index_or};
 ghost use Rattle.xt_model.specs.declared.edge.Edge.{Edge};
 ghost use Rattle.xt_model.specs.Assign.{assigned};
 ghost use Rattle.xt_meaning.specs.Operator.{step};
 ghost use Rattle.xt_meaning.specs.Barrier.{IsWithinEnvelope};
+ghost use Rattle.xt_meaning.specs.Fixpoint.{IsWindows};
+ghost use Rattle.xt_meaning.specs.Words.{numbers_of};
 ghost use Rattle.net_eval.specs.Closing.{IsSteadyAt};
-ghost use Rattle.net_eval.specs.ReadLists.{AreReadLists, ids};
+ghost use Rattle.net_eval.specs.ReadLists.{AreReadLists, ids, reads_of};
 ghost use Rattle.chaos_core.specs.Tasks.{list_of};
-ghost use Rattle.chaos_core.specs.Looks.{AreUnmoved, AreMarked, AreSameAt};
+ghost use Rattle.chaos_core.specs.Looks.{AreAllMarked, AreMarked, AreSameAt, AreUnmoved, IsLook};
 
 use net_eval::{ReadLists, closed_part};
 use xt_model::{Design, NetId, Windows};
@@ -47,28 +49,61 @@ fn are_marked(marks: &[bool], reads: &[NetId]) -> bool
     true
 }
 
-/// Whether the operator gives the windows of a net back, where it does so if all nets of the read list are marked.
+/// Whether a net is marked, and each net of its read list.
+pub(crate) fn are_all_marked(lists: &ReadLists, marks: &[bool], net: NetId) -> bool
+    requires there { net.0 < length lists.now }
+    requires own { net.0 < length marks.now }
+    requires reads { All (λ m. m.0 < length marks.now) (reads_of lists.now net.0) }
+    ensures { IsTrue result → AreAllMarked lists.now marks.now net.0 }
+{
+    marks[net.0 as usize] && are_marked(marks, lists.of(net))
+}
+
+/// Whether the operator gives the windows of a net back. It evaluates no net that is marked with all that it reads.
 fn is_steady(
     design: &Design,
     lists: &ReadLists,
     marks: &[bool],
-    after: &Windows,
+    windows: &Windows,
     net: u32,
     next: u32,
 ) -> bool
     requires lists { AreReadLists design.now lists.now }
-    requires count { length after.now ≡ length design.now.nets }
-    requires marks { length marks.now ≡ length design.now.nets }
-    requires within { IsWithinEnvelope design.now after.now }
+    requires look { IsLook design.now lists.now (numbers_of windows.now) windows.now marks.now }
+    requires within { IsWithinEnvelope design.now windows.now }
     requires net { net < length design.now.nets }
     requires next { next ≡ net + 1 }
-    requires marked { AreMarked marks.now (list_of lists.now net) → IsSteadyAt design.now after.now net }
-    ensures { IsTrue result ↔ IsSteadyAt design.now after.now net }
+    ensures { IsTrue result ↔ IsSteadyAt design.now windows.now net }
 {
-    if are_marked(marks, lists.of(NetId(net))) {
+    if are_all_marked(lists, marks, NetId(net)) {
         return true;
     }
-    closed_part(design, after, net, next)
+    closed_part(design, windows, net, next)
+}
+
+/// Whether the operator gives windows back at each net from number `from` to before number `to`, where it does so at each
+/// net that is marked with all nets of its read list. Evaluates none of these.
+pub fn closed_where(
+    design: &Design,
+    lists: &ReadLists,
+    marks: &[bool],
+    windows: &Windows,
+    from: u32,
+    to: u32,
+) -> bool
+    requires lists { AreReadLists design.now lists.now }
+    requires look { IsLook design.now lists.now (numbers_of windows.now) windows.now marks.now }
+    requires within { IsWithinEnvelope design.now windows.now }
+    requires order { from ≤ to }
+    requires end { to ≤ length design.now.nets }
+    ensures { IsTrue result ↔ ((n : ℕ) → from ≤ n → n < to → IsSteadyAt design.now windows.now n) }
+{
+    for net in from..to {
+        if !is_steady(design, lists, marks, windows, net, net + 1) {
+            return false;
+        }
+    }
+    true
 }
 
 /// Whether the operator gives the windows after a round back at every net, where it does so at each net whose reads
@@ -83,7 +118,7 @@ pub(crate) fn closed_after(
     requires lists { AreReadLists design.now lists.now }
     requires marks { length marks.old ≡ length design.now.nets }
     requires before { length before.now ≡ length design.now.nets }
-    requires after { length after.now ≡ length design.now.nets }
+    requires after { IsWindows design.now after.now }
     requires within { IsWithinEnvelope design.now after.now }
     requires kept { (net : ℕ) → net < length design.now.nets
         → AreSameAt before.now after.now (list_of lists.now net) → IsSteadyAt design.now after.now net }
@@ -92,10 +127,5 @@ pub(crate) fn closed_after(
     ensures marks { length marks.new ≡ length marks.old }
 {
     mark_unmoved(marks, before, after);
-    for net in 0..design.nets().len() as u32 {
-        if !is_steady(design, lists, marks, after, net, net + 1) {
-            return false;
-        }
-    }
-    true
+    closed_where(design, lists, marks, after, 0, design.nets().len() as u32)
 }

@@ -1,8 +1,7 @@
-use Rattle.std.proofs.Common.{◌≡◌, refl, sym, subst, arith}
+use Rattle.std.proofs.Common.{refl, sym, subst, arith}
 use Rattle.std.specs.Prelude.{Option, IfSome}
 use Rattle.xt_model.specs.declared.net.Net.{Net}
 use Rattle.xt_meaning.specs.Words.{numbers_of}
-use Rattle.net_eval.specs.Closing.{IsSteadyAt}
 use Rattle.chaos_core.specs.TurnMarks.{AreMarks, IsSettledNet}
 use Rattle.chaos_core.proofs.PassLaws.{held_from_steady, steady_from_hold}
 use Rattle.chaos_core.proofs.Telling.{inputs_there, marks_seen}

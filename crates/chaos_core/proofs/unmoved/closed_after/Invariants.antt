@@ -1,6 +1,0 @@
-use Rattle.std.proofs.Common.{ℕ, ◌<◌, ◌≤◌}
-use Rattle.net_eval.specs.Closing.{IsSteadyAt}
-use Rattle.chaos_core.proofs.unmoved.closed_after.Given as goal
-
-abbrev pub invariant-loop-net : goal.invariant-loop-net
-invariant-loop-net l = (n : ℕ) → 0 ≤ n → n < l.net → IsSteadyAt l.design l.after n
