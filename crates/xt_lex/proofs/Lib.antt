@@ -4,3 +4,4 @@ mod Plain
 mod Inline
 mod Open
 mod Quotes
+mod Jumps

@@ -5,10 +5,12 @@ ghost use Rattle.std.specs.List.{list_any};
 ghost use Rattle.xt_lex.specs.Faults.{any_unclosed};
 ghost use Rattle.xt_lex.specs.Openings.{openings, is_opening};
 ghost use Rattle.xt_lex.specs.Pieces.{pieces_of};
+ghost use Rattle.xt_lex.specs.declared.rules.Rules.TheVariants.{Liberty};
 
+use crate::liberty::liberty_front;
 use crate::pieces::front_by;
 use crate::rules::{MOST_BYTES, Rules};
-use memchr::memrchr2;
+use memchr::{memchr2, memrchr2};
 
 /// Two bytes of which each piece that nothing closes has one.
 fn openings(rules: Rules) -> (u8, u8)
@@ -34,8 +36,29 @@ fn past_openings(bytes: &[u8], rules: Rules) -> usize
     }
 }
 
-/// Whether some piece is not closed.
-pub fn any_unclosed(bytes: &[u8], rules: Rules) -> bool
+/// Whether some piece of a Liberty text is not closed. It begins with a `"` or a `/`, so what lies between these is
+/// passed over as it is.
+fn liberty_unclosed(bytes: &[u8]) -> bool
+    ensures { result ≡ any_unclosed (pieces_of Liberty bytes.now) }
+{
+    let mut rest = bytes;
+    'openings: while let Some(place) = memchr2(b'"', b'/', rest) {
+        let (_, here) = rest.split_at(place);
+        let [first, more @ ..] = here else {
+            return false;
+        };
+        let front = liberty_front(*first, more);
+        if front.class.is_unclosed() {
+            return true;
+        }
+        let (_, back) = more.split_at(front.inner);
+        rest = back;
+    }
+    false
+}
+
+/// Whether some piece is not closed, by one piece after another.
+fn piece_unclosed(bytes: &[u8], rules: Rules) -> bool
     requires { length bytes.now ≤ MOST_BYTES }
     ensures { result ≡ any_unclosed (pieces_of rules bytes.now) }
 {
@@ -55,4 +78,15 @@ pub fn any_unclosed(bytes: &[u8], rules: Rules) -> bool
         passed += front.inner + 1;
     }
     false
+}
+
+/// Whether some piece is not closed.
+pub fn any_unclosed(bytes: &[u8], rules: Rules) -> bool
+    requires { length bytes.now ≤ MOST_BYTES }
+    ensures { result ≡ any_unclosed (pieces_of rules bytes.now) }
+{
+    match rules {
+        Rules::Liberty => liberty_unclosed(bytes),
+        _ => piece_unclosed(bytes, rules),
+    }
 }
