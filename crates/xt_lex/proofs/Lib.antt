@@ -5,3 +5,4 @@ mod Inline
 mod Open
 mod Quotes
 mod Jumps
+mod WordJumps
