@@ -4,3 +4,5 @@ mod Plain
 mod Inline
 mod Open
 mod Quotes
+mod Jumps
+mod WordJumps

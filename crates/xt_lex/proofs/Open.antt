@@ -110,7 +110,7 @@ any_unclosed_from rules fresh (b ∷ more) (suc k) from line = any_unclosed_from
 pub any_unclosed_of : (rules : Rules) (bytes : List ℕ) → is_left_open rules true 0 bytes ≡ any_unclosed (pieces_of rules bytes)
 any_unclosed_of rules bytes = sym (any_unclosed_from rules true bytes 0 0 1)
 
-passed : (rules : Rules) (fresh : Bool) (k : ℕ) (bytes : List ℕ) → is_left_open rules fresh k bytes ≡ is_left_open rules fresh 0 (drop k bytes)
+pub passed : (rules : Rules) (fresh : Bool) (k : ℕ) (bytes : List ℕ) → is_left_open rules fresh k bytes ≡ is_left_open rules fresh 0 (drop k bytes)
 passed rules fresh zero bytes = refl
 passed rules fresh (suc k) [] = refl
 passed rules fresh (suc k) (b ∷ more) = passed rules fresh k more

@@ -1,7 +1,7 @@
 use Rattle.std.proofs.Common.{sym, ◌∙◌, arith}
 use Rattle.xt_lex.proofs.Open.{any_unclosed_of, left_open_behind, none_past}
 use Rattle.xt_lex.proofs.Skip.{first_and_rest}
-use Rattle.xt_lex.proofs.unclosed.any_unclosed.Goals as goal
+use Rattle.xt_lex.proofs.unclosed.piece_unclosed.Goals as goal
 
 pub pieces-init : goal.pieces-init
 pieces-init c = record { within = omega arith; value = any_unclosed_of c.args.rules c.args.bytes.now }

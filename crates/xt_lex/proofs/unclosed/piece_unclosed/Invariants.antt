@@ -2,7 +2,7 @@ use Rattle.std.proofs.Common.{◌≡◌, ◌-◌, ◌≤◌, length, drop}
 use Rattle.xt_lex.specs.Pieces.{pieces_of}
 use Rattle.xt_lex.specs.Faults.{any_unclosed}
 use Rattle.xt_lex.proofs.Open.{is_left_open}
-use Rattle.xt_lex.proofs.unclosed.any_unclosed.Given as goal
+use Rattle.xt_lex.proofs.unclosed.piece_unclosed.Given as goal
 
 abbrev pub invariant-pieces : goal.invariant-pieces
 invariant-pieces l = record {
