@@ -23,6 +23,6 @@ spef_front b more =
 abbrev pub spef_part : Bool → ℕ → List ℕ → Front
 spef_part in_word b more = if in_word then piece classes.Word (prefix_len is_ascii_graphic more) else spef_front b more
 
--- whether a word goes on behind so many bytes: the last of them is printable
+-- whether a word goes on after this many bytes: the last of them is printable
 abbrev pub is_in_word : ℕ → List ℕ → Bool
 is_in_word k bytes = nat_lt 0 k && is_ascii_graphic (slice_index bytes (k - 1))
