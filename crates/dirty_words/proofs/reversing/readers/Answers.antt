@@ -1,4 +1,4 @@
-use Rattle.std.proofs.Common.{rules, ◌≡◌, ℕ, ap, subst, ◌∙◌, length, map, filter, Vec, Global, arith}
+use Rattle.std.proofs.Common.{◌≡◌, ℕ, ap, subst, ◌∙◌, length, map, filter, Vec, Global, arith}
 use Rattle.std.specs.List.{range_with_len}
 use Rattle.std.proofs.lemmas.List.{length-map}
 use Rattle.xt_model.specs.declared.net.NetId.{NetId}
@@ -19,10 +19,10 @@ loop-number-preserved c =
     let back = slice_back c.loop-number.rows.len old new c.loop-number.rows.ok.0 same in
     let count = c.count-number-end.ensures in
     let test = c.loop-number-test.true in
-    let is : c.in-Ok.reader ≡ c.loop-number.number = search rules in
+    let is : c.in_ok-reader.reader.0 ≡ c.loop-number.number = c.in_ok-reader.ensures in
     record {
       count = ap length back ∙ (same ∙ inv.count);
-      rows = λ d are. rows_more (λ (row : Vec NetId Global). row.items) d c.args.lists.now old c.as_mut_slice.result.now new _ c.of.result.now c.in-Ok.reader c.loop-number.number are (omega (arith, count, test)) inv.count given back c.of.ensures is
+      rows = λ d are. rows_more (λ (row : Vec NetId Global). row.items) d c.args.lists.now old c.as_mut_slice.result.now new _ c.of.result.now c.in_ok-reader.reader.0 c.loop-number.number are (omega (arith, count, test)) inv.count given back c.of.ensures is
           c.in_ok-push_reader.ensures.rows (inv.rows d are);
     }
 

@@ -9,7 +9,7 @@ use Rattle.dirty_words.proofs.reversing.readers.Given as goal
 
 abbrev pub invariant-loop-net : goal.invariant-loop-net
 invariant-loop-net l = record {
-  count : length l.rows.items ≡ l._net;
+  count : length l.rows.items ≡ l.net;
   none : (net : ℕ) → row_of (map (λ row. row.items) l.rows.items) net ≡ [];
 }
 
