@@ -36,14 +36,14 @@ within_bit flat place wires.Constant = tt
 within_bit flat place (wires.Bit decl bit) = tt
 within_bit flat place (wires.Whole net) = place_bit net (bit_at (range_at net flat) place)
 
-module _ (flat nets : Nets) (stands : List Wire) where
-  wire_bit : (p : Text × Wire) → cell_pin_fits p ≡ true → IsOneBit (flat_wire flat nets stands p.1)
+module _ (flat nets : Nets) (meant : List Wire) where
+  wire_bit : (p : Text × Wire) → cell_pin_fits p ≡ true → IsOneBit (flat_wire flat nets meant p.1)
   wire_bit (name, wires.Open) h = tt
   wire_bit (name, wires.Constant) h = tt
-  wire_bit (name, wires.Bit decl bit) h = within_bit flat (place_in (range_at decl nets) bit) (or_open (slice_get stands decl))
+  wire_bit (name, wires.Bit decl bit) h = within_bit flat (place_in (range_at decl nets) bit) (or_open (slice_get meant decl))
   wire_bit (name, wires.Whole decl) h = absurd (false≢true h)
 
-  pins_bits : (pins : List (Text × Wire)) → list_all cell_pin_fits pins ≡ true → AllByRecursion (λ p. IsOneBit p.1) (flat_pins flat nets stands pins)
+  pins_bits : (pins : List (Text × Wire)) → list_all cell_pin_fits pins ≡ true → AllByRecursion (λ p. IsOneBit p.1) (flat_pins flat nets meant pins)
   pins_bits [] h = tt
   pins_bits (p ∷ pins) h = let parts = and_parts (cell_pin_fits p) (list_all cell_pin_fits pins) h in (wire_bit p parts.0, pins_bits pins parts.1)
 
@@ -86,7 +86,7 @@ module _ (modules : List Netlist) where
     below_bits (cell j more) [] s flat new t fit bits e = absurd t
     below_bits (cell j more) (i ∷ is) s flat new t fit bits e =
         let pins : list_all cell_pin_fits i.pins ≡ true = ap (λ o. pins_fit s.nets o i.pins) (sym t.1) ∙ fit.0 in
-        let one : AreBits (flat_instance flat.nets s j) = subst (λ k. AreBits (flat_instance flat.nets s k)) t.0 (pins_bits flat.nets s.nets s.stands i.pins pins) in
+        let one : AreBits (flat_instance flat.nets s j) = subst (λ k. AreBits (flat_instance flat.nets s k)) t.0 (pins_bits flat.nets s.nets s.meant i.pins pins) in
         below_bits more is s (record flat { instances = flat.instances ++ flat_instance flat.nets s j ∷ [] }) new t.2 fit.1
         (each_push AreBits flat.instances (flat_instance flat.nets s j) bits one) e
     below_bits (inner j m below more) [] s flat new t fit bits e = absurd t

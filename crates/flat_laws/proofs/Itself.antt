@@ -19,7 +19,7 @@ use Rattle.verilog_net.specs.Nets.{Nets}
 use Rattle.hier_flatten.specs.Places.{place_in, bit_at}
 use Rattle.hier_flatten.specs.Fits.{range_at, cell_pin_fits, pins_fit, instance_fits, misfit_from, misfit}
 use Rattle.hier_flatten.specs.Hierarchy.{Hierarchy, ends, cell, IsHierarchy, HasHierarchy, IsFinite, module_of, is_instanced, top_of}
-use Rattle.hier_flatten.specs.Flat.{Flat, or_open, bit_of, bit_within, flat_wire, flat_pins, flat_instance, stands_from, flat_below, top_scope, built}
+use Rattle.hier_flatten.specs.Flat.{Flat, or_open, bit_of, bit_within, flat_wire, flat_pins, flat_instance, meant_from, flat_below, top_scope, built}
 use Rattle.hier_flatten.specs.Names.{is_repeated, has_equal_names, is_long, has_long_name}
 use Rattle.hier_flatten.specs.Meaning.{FlatMeans}
 use Rattle.hier_flatten.proofs.MeaningLaws.{built_means}
@@ -74,31 +74,31 @@ number_of [] i x e = absurd (cc)
 number_of (y ∷ xs) zero x e = omega arith
 number_of (y ∷ xs) (suc i) x e = let lt = number_of xs i x e in omega (arith, lt)
 
-stand_at : (n next k : ℕ) → k < n → slice_get (stands_from next (replicate n wires.Open)) k ≡ Some (wires.Whole (next + k))
-stand_at zero next k lt = absurd (omega (arith, lt))
-stand_at (suc n) next zero lt = ap (λ m. Some (wires.Whole m)) (omega arith)
-stand_at (suc n) next (suc k) lt = stand_at n (next + 1) k (omega (arith, lt)) ∙ ap (λ m. Some (wires.Whole m)) (omega arith)
+meant_at : (n next k : ℕ) → k < n → slice_get (meant_from next (replicate n wires.Open)) k ≡ Some (wires.Whole (next + k))
+meant_at zero next k lt = absurd (omega (arith, lt))
+meant_at (suc n) next zero lt = ap (λ m. Some (wires.Whole m)) (omega arith)
+meant_at (suc n) next (suc k) lt = meant_at n (next + 1) k (omega (arith, lt)) ∙ ap (λ m. Some (wires.Whole m)) (omega arith)
 
 module _ (nets : Nets) where
-  abbrev stands : List Wire
-  stands = stands_from 0 (replicate (length nets) wires.Open)
+  abbrev meant : List Wire
+  meant = meant_from 0 (replicate (length nets) wires.Open)
 
-  wire_kept : (w : Wire) → IsConnected (shapes nets) w → flat_wire nets nets stands w ≡ w
+  wire_kept : (w : Wire) → IsConnected (shapes nets) w → flat_wire nets nets meant w ≡ w
   wire_kept wires.Open h = refl
   wire_kept wires.Constant h = refl
   wire_kept (wires.Whole decl) h = absurd h
   wire_kept (wires.Bit decl bit) h =
       let few : length (shapes nets) ≡ length nets = length-map nets (λ (net : Text × Net). (net.0, net.1.range)) in
       let lt = number_of (shapes nets) decl h.shape h.there in
-      let stand : slice_get stands decl ≡ Some (wires.Whole decl) =
-      stand_at (length nets) 0 decl (omega (arith, lt, few)) ∙ ap (λ n. Some (wires.Whole n)) (omega arith) in
+      let there : slice_get meant decl ≡ Some (wires.Whole decl) =
+      meant_at (length nets) 0 decl (omega (arith, lt, few)) ∙ ap (λ n. Some (wires.Whole n)) (omega arith) in
       let range = range_of nets decl h.shape h.there in
       let back = place_back (range_at decl nets) bit (subst (λ o. IsBitOf o bit) (sym range) h.within) in
-      ap (λ o. bit_within nets (place_in (range_at decl nets) bit) (or_open o)) stand ∙ ap (bit_of decl) back
+      ap (λ o. bit_within nets (place_in (range_at decl nets) bit) (or_open o)) there ∙ ap (bit_of decl) back
 
-  pins_kept : (pins : List (Text × Wire)) → AreConnected (shapes nets) pins → flat_pins nets nets stands pins ≡ pins
+  pins_kept : (pins : List (Text × Wire)) → AreConnected (shapes nets) pins → flat_pins nets nets meant pins ≡ pins
   pins_kept [] h = refl
-  pins_kept (p ∷ pins) h = ap (λ w. (p.0, w) ∷ flat_pins nets nets stands pins) (wire_kept p.1 h.0) ∙ ap (λ t. p ∷ t) (pins_kept pins h.1)
+  pins_kept (p ∷ pins) h = ap (λ w. (p.0, w) ∷ flat_pins nets nets meant pins) (wire_kept p.1 h.0) ∙ ap (λ t. p ∷ t) (pins_kept pins h.1)
 
 pin_fits : (ss : List Shape) (p : Text × Wire) → IsConnected ss p.1 → cell_pin_fits p ≡ true
 pin_fits ss (name, wires.Open) h = refl

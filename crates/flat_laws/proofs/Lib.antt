@@ -6,4 +6,4 @@ mod KnownTexts
 mod Spoilt
 mod ScalarNames
 mod Itself
-mod Texts
+pub mod Texts

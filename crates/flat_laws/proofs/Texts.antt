@@ -1,7 +1,9 @@
 -- What a text means where one module alone is admitted, and where several are.
-use Rattle.std.specs.Prelude.{◌≡◌, refl, true, false, List, [], ◌∷◌, length, Ok, Err}
-use Rattle.std.specs.List.{All, AllByRecursion}
-use Rattle.std.proofs.lemmas.List.Elements.{recursion_from_All}
+use Rattle.std.specs.Prelude.{◌≡◌, refl, not, true, false, List, [], ◌∷◌, length, Ok, Err}
+use Rattle.std.specs.List.{All, AllByRecursion, list_all, list_any}
+use Rattle.std.specs.Str.{bytes_eq}
+use Rattle.std.proofs.lemmas.Bool.{and_parts, or_from, not-true}
+use Rattle.std.proofs.lemmas.List.Elements.{recursion_from_All, All-from_recursion}
 use Rattle.std.proofs.Common.{arith, subst, ◌⊎◌, sym, ap, ◌∙◌, inl, inr}
 use Rattle.name_numbers.specs.Names.{Text}
 use Rattle.text_forms.specs.Forms.{Refusal}
@@ -11,8 +13,13 @@ use Rattle.xt_model.specs.declared.code.Code.{Code}
 use Rattle.xt_model.specs.declared.code.Code.TheVariants.{V3}
 use Rattle.verilog_net.specs.declared.netlist.Instance.{Instance}
 use Rattle.verilog_net.specs.declared.netlist.Netlist.{Netlist}
+use Rattle.verilog_net.specs.declared.netlist.Wire.{Wire}
+use Rattle.verilog_net.specs.declared.netlist.Wire.TheVariants as wires
 use Rattle.verilog_net.specs.Meaning.{State}
 use Rattle.verilog_net.specs.Reading.{text_state, modules_in, modules_of, one_of, netlist_of_text}
+use Rattle.hier_flatten.specs.Alone.{is_plain, is_alone}
+use Rattle.hier_flatten.specs.Fits.{cell_pin_fits}
+use Rattle.hier_flatten.specs.Meaning.{FlatMeans}
 use Rattle.sound_reads.proofs.VerilogTexts.{netlist_fine}
 use Rattle.flat_laws.specs.Laws.{IsOneBit, ConnectsBits, IsItself}
 use Rattle.flat_laws.proofs.Alone.{MeanSame, text_same}
@@ -30,6 +37,32 @@ one_is : (ms : List Netlist) → length ms ≡ 1 → IsOne ms
 one_is [] e = absurd (cc)
 one_is (m ∷ []) e = record { one = m; whole = refl }
 one_is (m ∷ n ∷ ms) e = absurd (cc)
+
+-- ---- instances of cells, without a whole bus
+pin_bit : (p : Text × Wire) → cell_pin_fits p ≡ true → IsOneBit p.1
+pin_bit (name, wires.Open) e = tt
+pin_bit (name, wires.Constant) e = tt
+pin_bit (name, wires.Bit decl bit) e = tt
+pin_bit (name, wires.Whole decl) e = absurd (cc)
+
+pin_bits : (pins : List (Text × Wire)) → list_all cell_pin_fits pins ≡ true → AllByRecursion (λ p. IsOneBit p.1) pins
+pin_bits [] e = tt
+pin_bits (p ∷ pins) e = let parts = and_parts (cell_pin_fits p) (list_all cell_pin_fits pins) e in (pin_bit p parts.0, pin_bits pins parts.1)
+
+module _ (name : Text) where
+  connect_bits : (is : List Instance) → list_all (is_plain name) is ≡ true → AllByRecursion (λ i. All (λ p. IsOneBit p.1) i.pins) is
+  connect_bits [] e = tt
+  connect_bits (i ∷ is) e =
+      let parts = and_parts (is_plain name i) (list_all (is_plain name) is) e in
+      let pins = and_parts (not (bytes_eq name i.cell)) (list_all cell_pin_fits i.pins) parts.0 in
+      (All-from_recursion (λ p. IsOneBit p.1) i.pins (pin_bits i.pins pins.1), connect_bits is parts.1)
+
+  none_itself : (is : List Instance) → list_all (is_plain name) is ≡ true → list_any (λ i. bytes_eq name i.cell) is ≡ false
+  none_itself [] e = refl
+  none_itself (i ∷ is) e =
+      let parts = and_parts (is_plain name i) (list_all (is_plain name) is) e in
+      let pins = and_parts (not (bytes_eq name i.cell)) (list_all cell_pin_fits i.pins) parts.0 in
+      or_from (bytes_eq name i.cell) (list_any (λ j. bytes_eq name j.cell) is) (not-true (bytes_eq name i.cell) pins.0) (none_itself is parts.1)
 
 module _ (bytes : Text) where
   alone_by : (r q : Meant State) (s : State) → r ≡ Ok s → MeanSame r q → modules_in q ≡ Ok s.ended
@@ -87,3 +120,9 @@ module _ (bytes : Text) where
 
   pub module_is_read : (m : Netlist) → modules_of bytes ≡ Ok (m ∷ []) → ConnectsBits m → netlist_of_text bytes ≡ Ok m
   module_is_read m e bits = read_by (text_state false bytes) m refl e bits
+
+  pub alone_is_flat : (m : Netlist) → modules_of bytes ≡ Ok (m ∷ []) → is_alone (m ∷ []) ≡ true → FlatMeans (m ∷ []) (last_line bytes) (Ok m)
+  alone_is_flat m e plain =
+      let bits : ConnectsBits m = All-from_recursion (λ i. All (λ p. IsOneBit p.1) i.pins) m.instances (connect_bits m.«module» m.instances plain) in
+      let own = module_is_itself m (module_is_read m e bits) in
+      own.flat (or_from (list_any (λ i. bytes_eq m.«module» i.cell) m.instances) false (none_itself m.«module» m.instances plain) refl)

@@ -4,4 +4,7 @@
 
 mod laws;
 
-pub use laws::{flat_netlists_connect_bits, one_module_is_itself, other_refusals_are_same};
+pub use laws::{
+    flat_netlists_connect_bits, modules_mean_one_thing, one_module_is_itself,
+    other_refusals_are_same,
+};

@@ -12,7 +12,7 @@ use Rattle.hier_flatten.specs.Tables.{IsTableOf}
 use Rattle.hier_flatten.specs.Places.{width_of}
 use Rattle.verilog_net.specs.declared.netlist.Instance.{Instance}
 use Rattle.verilog_net.specs.declared.netlist.Netlist.{Netlist}
-use Rattle.hier_flatten.specs.Flat.{Scope, Flat, or_open, flat_wire, wire_of, own_of, own_at, own_nets, stand_of, next_after, stands_from, prefix_below, wires_below, scope_below, entered_below, bits_in}
+use Rattle.hier_flatten.specs.Flat.{Scope, Flat, or_open, flat_wire, wire_of, own_of, own_at, own_nets, meant_by, next_after, meant_from, prefix_below, wires_below, scope_below, entered_below, bits_in}
 
 module _ {X : Type 0} where
   -- one element more
@@ -103,20 +103,20 @@ nets_all prefix nets ws k initial g h e =
     e ∙ ap (λ n. record initial { nets = initial.nets ++ n }) (own_all prefix nets ws k h)
 
 -- ---- the connections of a module's nets
-pub wires_same : (flat nets : Nets) (stands : List Wire) (entries table : List (Text × Wire)) → IsTableOf entries table → (inner : Nets)
-    → map (wire_of flat nets stands table) inner ≡ map (wire_of flat nets stands entries) inner
-wires_same flat nets stands entries table of [] = refl
-wires_same flat nets stands entries table of (net ∷ inner) =
-    ap (λ o. (if is_directed net.1.role then flat_wire flat nets stands (or_open o) else wires.Open) ∷ map (wire_of flat nets stands table) inner) (of.each net.0)
-    ∙ ap (λ t. wire_of flat nets stands entries net ∷ t) (wires_same flat nets stands entries table of inner)
+pub wires_same : (flat nets : Nets) (meant : List Wire) (entries table : List (Text × Wire)) → IsTableOf entries table → (inner : Nets)
+    → map (wire_of flat nets meant table) inner ≡ map (wire_of flat nets meant entries) inner
+wires_same flat nets meant entries table of [] = refl
+wires_same flat nets meant entries table of (net ∷ inner) =
+    ap (λ o. (if is_directed net.1.role then flat_wire flat nets meant (or_open o) else wires.Open) ∷ map (wire_of flat nets meant table) inner) (of.each net.0)
+    ∙ ap (λ t. wire_of flat nets meant entries net ∷ t) (wires_same flat nets meant entries table of inner)
 
 -- ---- what nets are
-pub stand_more : (stands : List Wire) (next : ℕ) (wire stand : Wire) (next' : ℕ) (more whole : List Wire) → stand ≡ stand_of next wire → next' ≡ next_after next wire
-    → stands ++ stands_from next (wire ∷ more) ≡ whole → (stands ++ stand ∷ []) ++ stands_from next' more ≡ whole
-stand_more stands next wire stand next' more whole one after e =
-    append_assoc stands (stand ∷ []) (stands_from next' more)
-    ∙ (ap (λ w. stands ++ w ∷ stands_from next' more) one
-    ∙ (ap (λ n. stands ++ stand_of next wire ∷ stands_from n more) after ∙ e))
+pub meant_more : (ws : List Wire) (next : ℕ) (wire w : Wire) (next' : ℕ) (more whole : List Wire) → w ≡ meant_by next wire → next' ≡ next_after next wire
+    → ws ++ meant_from next (wire ∷ more) ≡ whole → (ws ++ w ∷ []) ++ meant_from next' more ≡ whole
+meant_more ws next wire w next' more whole one after e =
+    append_assoc ws (w ∷ []) (meant_from next' more)
+    ∙ (ap (λ u. ws ++ u ∷ meant_from next' more) one
+    ∙ (ap (λ n. ws ++ meant_by next wire ∷ meant_from n more) after ∙ e))
 
 -- ---- bits
 pub bits_push : (nets : Nets) (net : Text × Net) → bits_in (nets ++ net ∷ []) ≡ bits_in nets + width_of net.1.range
@@ -125,10 +125,10 @@ bits_push (n ∷ nets) net = let rest = bits_push nets net in omega (arith, rest
 
 -- ---- an instance of a module is entered
 module _ (flat met : Flat) (s : Scope) (i : Instance) (m : Netlist) (table : List (Text × Wire)) (ws : List Wire) (path : Text)
-    (of : IsTableOf i.pins table) (connected : ws ≡ map (wire_of flat.nets s.nets s.stands table) m.nets) (way : path ≡ prefix_below s.prefix i.name)
+    (of : IsTableOf i.pins table) (connected : ws ≡ map (wire_of flat.nets s.nets s.meant table) m.nets) (way : path ≡ prefix_below s.prefix i.name)
     (one : met ≡ record flat { entered = flat.entered + 1 }) where
   wires_are : ws ≡ wires_below flat.nets s i m
-  wires_are = connected ∙ wires_same flat.nets s.nets s.stands i.pins table of m.nets
+  wires_are = connected ∙ wires_same flat.nets s.nets s.meant i.pins table of m.nets
 
   pub entered_is : (new : Flat) → new ≡ record met { nets = met.nets ++ own_nets path m.nets ws } → new ≡ entered_below flat s i m
   entered_is new added =
@@ -137,7 +137,7 @@ module _ (flat met : Flat) (s : Scope) (i : Instance) (m : Netlist) (table : Lis
       ∙ (ap (λ p. record flat { nets = flat.nets ++ own_nets p m.nets ws; entered = flat.entered + 1 }) way
       ∙ ap (λ w. record flat { nets = flat.nets ++ own_nets (prefix_below s.prefix i.name) m.nets w; entered = flat.entered + 1 }) wires_are))
 
-  pub scope_is : (stands : List Wire) → stands ≡ stands_from (length flat.nets) ws
-      → record { prefix = prefix_below s.prefix i.name; nets = m.nets; stands = stands } ≡ scope_below flat.nets s i m
-  scope_is stands made =
-      ap (λ w. record { prefix = prefix_below s.prefix i.name; nets = m.nets; stands = w }) (made ∙ ap (stands_from (length flat.nets)) wires_are)
+  pub scope_is : (meant : List Wire) → meant ≡ meant_from (length flat.nets) ws
+      → record { prefix = prefix_below s.prefix i.name; nets = m.nets; meant = meant } ≡ scope_below flat.nets s i m
+  scope_is meant made =
+      ap (λ w. record { prefix = prefix_below s.prefix i.name; nets = m.nets; meant = w }) (made ∙ ap (meant_from (length flat.nets)) wires_are)

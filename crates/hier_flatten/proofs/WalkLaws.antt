@@ -93,7 +93,7 @@ same_path n p q [] (f ∷ fs) flat e nested = refl
 same_path n p q (h ∷ hs) [] flat e nested = refl
 same_path n p q (h ∷ hs) (f ∷ fs) flat e nested =
     let path : take f.path p ≡ take f.path q = take_less f.path n p q nested.0 e in
-    let scope : scope_of p f ≡ scope_of q f = ap (λ t. record { prefix = t; nets = f.nets.now; stands = f.stands.items }) path in
+    let scope : scope_of p f ≡ scope_of q f = ap (λ t. record { prefix = t; nets = f.nets.now; meant = f.meant.items }) path in
     ap (λ s. flat_below h s flat >>= rest_flat hs fs p) scope
     ∙ bind_same (flat_below h (scope_of q f) flat) (rest_flat hs fs p) (rest_flat hs fs q)
     (λ x. same_path f.path p q hs fs x path nested.1)
@@ -134,7 +134,7 @@ module _ (modules : List Netlist) (f : Frame) (fs : List Frame) (path : Text) (f
           )
 
   module _ (g b : Frame) (i : Instance) (m : Netlist) (rest : f.rest.now ≡ i ∷ g.rest.now) (e : module_of modules i.cell ≡ Some m)
-      (same : g.path ≡ f.path) (nets : g.nets.now ≡ f.nets.now) (stands : g.stands.items ≡ f.stands.items) (limit : limit_of flat ≡ None)
+      (same : g.path ≡ f.path) (nets : g.nets.now ≡ f.nets.now) (meant : g.meant.items ≡ f.meant.items) (limit : limit_of flat ≡ None)
       (len : length path ≡ f.path) (nested : AreNested f.path fs) (made : IsEntered flat.nets (scope_of path f) i m b) where
     abbrev s : Scope
     s = scope_of path f
@@ -151,16 +151,16 @@ module _ (modules : List Netlist) (f : Frame) (fs : List Frame) (path : Text) (f
     inside_scope : scope_of below_path b ≡ scope_below flat.nets s i m
     inside_scope =
         let n : length below_path ≡ b.path = ap (λ p. length (prefix_below p i.name)) (sym prefix_is) ∙ sym made.path in
-        ap (λ p. record { prefix = p; nets = b.nets.now; stands = b.stands.items })
+        ap (λ p. record { prefix = p; nets = b.nets.now; meant = b.meant.items })
         (whole_path below_path b.path n ∙ ap (λ p. prefix_below p i.name) (sym prefix_is))
         ∙ made.scope
 
     outer_scope : scope_of below_path g ≡ s
     outer_scope =
-        ap (λ n. record { prefix = take n below_path; nets = g.nets.now; stands = g.stands.items }) same
-        ∙ (ap (λ p. record { prefix = p; nets = g.nets.now; stands = g.stands.items }) back_path
-        ∙ (ap (λ n. record { prefix = take f.path path; nets = n; stands = g.stands.items }) nets
-        ∙ ap (λ w. record { prefix = take f.path path; nets = f.nets.now; stands = w }) stands))
+        ap (λ n. record { prefix = take n below_path; nets = g.nets.now; meant = g.meant.items }) same
+        ∙ (ap (λ p. record { prefix = p; nets = g.nets.now; meant = g.meant.items }) back_path
+        ∙ (ap (λ n. record { prefix = take f.path path; nets = n; meant = g.meant.items }) nets
+        ∙ ap (λ w. record { prefix = take f.path path; nets = f.nets.now; meant = w }) meant))
 
     -- an instance of a module
     pub entered : Comes modules (f ∷ fs) path flat (b ∷ g ∷ fs) below_path (entered_below flat s i m)
@@ -264,15 +264,15 @@ begun modules top f h is scope rest = (
 -- ---- one turn whole
 module _ (modules : List Netlist) (f : Frame) (fs : List Frame) (path : Text) (flat : Flat) (d i : Instance) (some : 1 ≤ length f.rest.now)
     (is : i ≡ get_or f.rest.now 0 d) (g : Frame) (rest : g.rest.now ≡ rest_of f.rest.now) (same : g.path ≡ f.path) (nets : g.nets.now ≡ f.nets.now)
-    (stands : g.stands.items ≡ f.stands.items) where
+    (meant : g.meant.items ≡ f.meant.items) where
   first : f.rest.now ≡ i ∷ g.rest.now
   first = first_and_rest f.rest.now d i some is ∙ ap (λ r. i ∷ r) (sym rest)
 
   same_scope : scope_of path g ≡ scope_of path f
   same_scope =
-      ap (λ n. record { prefix = take n path; nets = g.nets.now; stands = g.stands.items }) same
-      ∙ (ap (λ n. record { prefix = take f.path path; nets = n; stands = g.stands.items }) nets
-      ∙ ap (λ w. record { prefix = take f.path path; nets = f.nets.now; stands = w }) stands)
+      ap (λ n. record { prefix = take n path; nets = g.nets.now; meant = g.meant.items }) same
+      ∙ (ap (λ n. record { prefix = take f.path path; nets = n; meant = g.meant.items }) nets
+      ∙ ap (λ w. record { prefix = take f.path path; nets = f.nets.now; meant = w }) meant)
 
   pub cell_turn : (c : Instance) (new : List Frame) (path' : Text) (flat' : Flat) → module_of modules i.cell ≡ None
       → c ≡ flat_instance flat.nets (scope_of path f) i → new ≡ g ∷ fs → path' ≡ path → flat' ≡ record flat { instances = flat.instances ++ c ∷ [] }
@@ -290,9 +290,9 @@ module _ (modules : List Netlist) (f : Frame) (fs : List Frame) (path : Text) (f
   enter_turn b m one new path' flat' e limit len nested made pushed then_pushed way grown =
       let end : Flat = entered_below flat (scope_of path f) i m in
       let comes : Comes modules (f ∷ fs) path flat (b ∷ g ∷ fs) (prefix_below path i.name) end =
-      entered modules f fs path flat g b i m first e same nets stands limit len nested made in
+      entered modules f fs path flat g b i m first e same nets meant limit len nested made in
       let order : AreNested (length (prefix_below path i.name)) (b ∷ g ∷ fs) =
-      entered_nested modules f fs path flat g b i m first e same nets stands limit len nested made in
+      entered_nested modules f fs path flat g b i m first e same nets meant limit len nested made in
       let less : work modules end (b ∷ g ∷ fs) < work modules flat (f ∷ fs) =
       less_entered modules flat f fs g b i m end.nets first made.rest e (within flat limit) in
       let all : new ≡ b ∷ g ∷ fs = then_pushed ∙ ap (λ t. b ∷ t) pushed in

@@ -1,5 +1,6 @@
 -- The flat netlist of a module. Its nets are the module's, then for each instance of a module, in the order of the
--- text, the flat nets of that instance. A port that is connected is no net of its own: it is what it is connected to.
+-- text, the flat nets of that instance. Only ports without a connection are nets there; another port is what it is
+-- connected to.
 use Rattle.std.specs.Prelude.{◌≡◌, ℕ, ◌+◌, ◌*◌, ◌<◌, ◌≤◌, ◌^◌, nat_lt, List, [], ◌∷◌, ◌++◌, length, map, replicate}
 use Rattle.std.specs.Prelude.{Option, Some, None, Result, Ok, Err, if◌then◌else◌}
 use Rattle.std.specs.List.{slice_get}
@@ -23,7 +24,7 @@ use Rattle.hier_flatten.specs.Hierarchy.{Hierarchy, ends, cell, inner}
 pub record Scope : Type 0 where
   pub prefix : Text
   pub nets : Nets
-  pub stands : List Wire
+  pub meant : List Wire
 
 -- the flat nets and instances so far, and how many instances of modules were met
 pub record Flat : Type 0 where
@@ -49,14 +50,14 @@ bit_within flat place wire = wire
 
 -- what something is connected to in the flat netlist, by what it is connected to in a module with these nets
 abbrev pub flat_wire : Nets → Nets → List Wire → Wire → Wire
-flat_wire flat nets stands wires.Open = wires.Open
-flat_wire flat nets stands wires.Constant = wires.Constant
-flat_wire flat nets stands (wires.Bit decl bit) =
-    bit_within flat (place_in (range_at decl nets) bit) (or_open (slice_get stands decl))
-flat_wire flat nets stands (wires.Whole decl) = or_open (slice_get stands decl)
+flat_wire flat nets meant wires.Open = wires.Open
+flat_wire flat nets meant wires.Constant = wires.Constant
+flat_wire flat nets meant (wires.Bit decl bit) =
+    bit_within flat (place_in (range_at decl nets) bit) (or_open (slice_get meant decl))
+flat_wire flat nets meant (wires.Whole decl) = or_open (slice_get meant decl)
 
 abbrev pub flat_pins : Nets → Nets → List Wire → List (Text × Wire) → List (Text × Wire)
-flat_pins flat nets stands pins = map (λ p. (p.0, flat_wire flat nets stands p.1)) pins
+flat_pins flat nets meant pins = map (λ p. (p.0, flat_wire flat nets meant p.1)) pins
 
 -- an instance of a cell
 abbrev pub flat_instance : Nets → Scope → Instance → Instance
@@ -64,29 +65,29 @@ flat_instance flat s i = record {
   cell = i.cell;
   name = s.prefix ++ i.name;
   line = i.line;
-  pins = flat_pins flat s.nets s.stands i.pins;
+  pins = flat_pins flat s.nets s.meant i.pins;
 }
 
 -- ---- an instance of a module
 
 -- what a net of the module is connected to outside, by the pins of the instance
 abbrev pub wire_of : Nets → Nets → List Wire → List (Text × Wire) → Text × Net → Wire
-wire_of flat nets stands pins net =
-    if is_directed net.1.role then flat_wire flat nets stands (or_open (value_of net.0 pins)) else wires.Open
+wire_of flat nets meant pins net =
+    if is_directed net.1.role then flat_wire flat nets meant (or_open (value_of net.0 pins)) else wires.Open
 
 -- what a net is in the flat netlist: one without a connection is a net of its own, of the number `next`
-abbrev pub stand_of : ℕ → Wire → Wire
-stand_of next wires.Open = wires.Whole next
-stand_of next wire = wire
+abbrev pub meant_by : ℕ → Wire → Wire
+meant_by next wires.Open = wires.Whole next
+meant_by next wire = wire
 
 abbrev pub next_after : ℕ → Wire → ℕ
 next_after next wires.Open = next + 1
 next_after next wire = next
 
 -- the same for nets one after another
-abbrev pub stands_from : ℕ → List Wire → List Wire
-stands_from next [] = []
-stands_from next (wire ∷ more) = stand_of next wire ∷ stands_from (next_after next wire) more
+abbrev pub meant_from : ℕ → List Wire → List Wire
+meant_from next [] = []
+meant_from next (wire ∷ more) = meant_by next wire ∷ meant_from (next_after next wire) more
 
 -- a net of its own: its name is that of the path and its own, and it is no port
 abbrev pub own_of : Text → Text × Net → Wire → Nets
@@ -104,14 +105,14 @@ prefix_below prefix name = prefix ++ (name ++ 47 ∷ [])
 
 -- what the nets of the instance's module are connected to outside
 abbrev pub wires_below : Nets → Scope → Instance → Netlist → List Wire
-wires_below flat s i m = map (wire_of flat s.nets s.stands i.pins) m.nets
+wires_below flat s i m = map (wire_of flat s.nets s.meant i.pins) m.nets
 
 -- the module at this instance
 abbrev pub scope_below : Nets → Scope → Instance → Netlist → Scope
 scope_below flat s i m = record {
   prefix = prefix_below s.prefix i.name;
   nets = m.nets;
-  stands = stands_from (length flat) (wires_below flat s i m);
+  meant = meant_from (length flat) (wires_below flat s i m);
 }
 
 -- its own nets go last
@@ -156,7 +157,7 @@ abbrev pub top_scope : Netlist → Scope
 top_scope top = record {
   prefix = [];
   nets = top.nets;
-  stands = stands_from 0 (replicate (length top.nets) wires.Open);
+  meant = meant_from 0 (replicate (length top.nets) wires.Open);
 }
 
 abbrev pub at_top : Netlist → Flat

@@ -4,6 +4,7 @@ pub mod Hierarchy
 pub mod Search
 pub mod Cells
 pub mod Fits
+pub mod Alone
 pub mod Flat
 pub mod Names
 pub mod Walk

@@ -16,11 +16,11 @@ use Rattle.hier_flatten.specs.Flat.{Scope, Flat, flat_below, prefix_below, scope
 
 -- the module of a frame at its path
 abbrev pub scope_of : Text → Frame → Scope
-scope_of path f = record { prefix = take f.path path; nets = f.nets.now; stands = f.stands.items }
+scope_of path f = record { prefix = take f.path path; nets = f.nets.now; meant = f.meant.items }
 
 -- the frame of a module at an instance
 pub record IsEntered (flat : Nets) (s : Scope) (i : Instance) (m : Netlist) (f : Frame) : Type 0 where
-  pub scope : record { prefix = prefix_below s.prefix i.name; nets = f.nets.now; stands = f.stands.items }
+  pub scope : record { prefix = prefix_below s.prefix i.name; nets = f.nets.now; meant = f.meant.items }
       ≡ scope_below flat s i m
   pub rest : f.rest.now ≡ m.instances
   pub path : f.path ≡ length (prefix_below s.prefix i.name)

@@ -3,7 +3,7 @@
 ghost use Rattle.std.specs.Prelude.{◌≡◌, ◌++◌, [], length, option_map, option_to_list, None};
 ghost use Rattle.std.specs.Prelude.{IfOk, OnOk};
 ghost use Rattle.std.specs.List.{slice_get};
-ghost use Rattle.hier_flatten.specs.Flat.{own_at, own_nets, stands_from, prefix_below, flat_instance};
+ghost use Rattle.hier_flatten.specs.Flat.{own_at, own_nets, meant_from, prefix_below, flat_instance};
 ghost use Rattle.hier_flatten.specs.Flat.{limit_of, entered_below, at_top, top_scope};
 ghost use Rattle.hier_flatten.specs.Walk.{scope_of, IsEntered};
 
@@ -21,7 +21,7 @@ pub struct Frame<'a> {
     pub nets: &'a NameTable<Net>,
     pub rest: &'a [Instance],
     pub path: usize,
-    pub stands: Vec<Wire>,
+    pub meant: Vec<Wire>,
 }
 
 /// A name below a path.
@@ -55,7 +55,7 @@ pub fn cell_below(
         alloc,
         growing.nets(),
         frame.nets,
-        frame.stands.as_slice(),
+        frame.meant.as_slice(),
         instance.pins.as_slice(),
     )?;
     Ok(Instance {
@@ -68,26 +68,26 @@ pub fn cell_below(
 
 /// What nets are in the flat netlist, by what they are connected to: those without a connection are numbered on from
 /// `next`.
-fn stands_of(alloc: Global, next: u32, wires: &[Wire]) -> Result<Vec<Wire>, AllocError>
-    ensures { IfOk result (λ ws. ws.items ≡ stands_from next wires.now) }
+fn meant_of(alloc: Global, next: u32, wires: &[Wire]) -> Result<Vec<Wire>, AllocError>
+    ensures { IfOk result (λ ws. ws.items ≡ meant_from next wires.now) }
 {
-    let mut stands = Vec::with_capacity(alloc, wires.len())?;
+    let mut meant = Vec::with_capacity(alloc, wires.len())?;
     let mut next = next;
     let mut rest = wires;
     'wires: while let [wire, more @ ..] = rest {
         match wire {
             Wire::Open => {
-                stands.push(Wire::Whole { decl: next })?;
+                meant.push(Wire::Whole { decl: next })?;
                 let Some(after) = next.checked_add(1) else {
                     return Err(AllocError);
                 };
                 next = after;
             }
-            wire => stands.push(*wire)?,
+            wire => meant.push(*wire)?,
         }
         rest = more;
     }
-    Ok(stands)
+    Ok(meant)
 }
 
 /// What the net of this number is connected to.
@@ -173,19 +173,19 @@ pub fn enter<'a>(
         alloc,
         growing.nets(),
         frame.nets,
-        frame.stands.as_slice(),
+        frame.meant.as_slice(),
         &pins,
         &inner.nets,
     )?;
     path.extend_from_slice(instance.name.bytes())?;
     path.push(b'/')?;
-    let stands = stands_of(alloc, growing.count(), wires.as_slice())?;
+    let meant = meant_of(alloc, growing.count(), wires.as_slice())?;
     add_nets(alloc, growing, path, &inner.nets, wires.as_slice())?;
     Ok(Frame {
         nets: &inner.nets,
         rest: inner.instances.as_slice(),
         path: path.len(),
-        stands,
+        meant,
     })
 }
 
@@ -228,12 +228,12 @@ pub fn enter_top<'a>(
         × (f.path ≡ 0)) }
 {
     let unconnected = vec![in alloc; Wire::Open; top.nets.len() as usize]?;
-    let stands = stands_of(alloc, 0, unconnected.as_slice())?;
+    let meant = meant_of(alloc, 0, unconnected.as_slice())?;
     add_top(alloc, growing, &top.nets)?;
     Ok(Frame {
         nets: &top.nets,
         rest: top.instances.as_slice(),
         path: 0,
-        stands,
+        meant,
     })
 }

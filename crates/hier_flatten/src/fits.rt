@@ -45,7 +45,7 @@ fn cell_pin_fits(pin: &(Name, Wire)) -> bool
 }
 
 /// Whether the pins of a cell's instance fit.
-fn cell_fits(pins: &[(Name, Wire)]) -> bool
+pub fn cell_fits(pins: &[(Name, Wire)]) -> bool
     ensures { result ≡ list_all cell_pin_fits pins.now }
 {
     pins.iter().all(|pin| cell_pin_fits(pin))

@@ -1,6 +1,7 @@
 //! Netlists of several modules: from the modules of a text to one flat netlist.
 #![tactic(auto)]
 
+mod alone;
 mod below;
 mod build;
 mod circle;
@@ -16,5 +17,6 @@ mod tables;
 mod tops;
 mod wires;
 
+pub use alone::lone_module;
 pub use fault::FlatFault;
 pub use flat::flatten;

@@ -13,10 +13,10 @@ use std::alloc::{AllocError, Global};
 use verilog_net::{Name, Net, Wire};
 
 /// What a net of a module is in the flat netlist.
-fn stand_at(stands: &[Wire], decl: u32) -> Wire
-    ensures { result ≡ or_open (slice_get stands.now decl) }
+fn meant_at(meant: &[Wire], decl: u32) -> Wire
+    ensures { result ≡ or_open (slice_get meant.now decl) }
 {
-    match stands.get(decl as usize) {
+    match meant.get(decl as usize) {
         Some(wire) => *wire,
         None => Wire::Open,
     }
@@ -46,8 +46,8 @@ fn bit_within(flat: &[(Name, Net)], place: u32, wire: Wire) -> Wire
 }
 
 /// What something is connected to in the flat netlist, by what it is connected to in a module with these nets.
-pub fn flat_wire(flat: &[(Name, Net)], nets: &NameTable<Net>, stands: &[Wire], wire: Wire) -> Wire
-    ensures { result ≡ flat_wire flat.now nets.now stands.now wire }
+pub fn flat_wire(flat: &[(Name, Net)], nets: &NameTable<Net>, meant: &[Wire], wire: Wire) -> Wire
+    ensures { result ≡ flat_wire flat.now nets.now meant.now wire }
 {
     match wire {
         Wire::Open => Wire::Open,
@@ -56,10 +56,10 @@ pub fn flat_wire(flat: &[(Name, Net)], nets: &NameTable<Net>, stands: &[Wire], w
             bit_within(
                 flat,
                 place_in(range_at(nets, decl), bit),
-                stand_at(stands, decl),
+                meant_at(meant, decl),
             )
         }
-        Wire::Whole { decl } => stand_at(stands, decl),
+        Wire::Whole { decl } => meant_at(meant, decl),
     }
 }
 
@@ -68,17 +68,17 @@ pub fn flat_pins(
     alloc: Global,
     flat: &[(Name, Net)],
     nets: &NameTable<Net>,
-    stands: &[Wire],
+    meant: &[Wire],
     pins: &[(Name, Wire)],
 ) -> Result<Vec<(Name, Wire)>, AllocError>
-    ensures { IfOk result (λ ps. ps.items ≡ flat_pins flat.now nets.now stands.now pins.now) }
+    ensures { IfOk result (λ ps. ps.items ≡ flat_pins flat.now nets.now meant.now pins.now) }
 {
     let mut connected = Vec::with_capacity(alloc, pins.len())?;
     let mut rest = pins;
     'pins: while let [pin, more @ ..] = rest {
         let (name, wire) = pin;
         let name = name.shared()?;
-        connected.push((name, flat_wire(flat, nets, stands, *wire)))?;
+        connected.push((name, flat_wire(flat, nets, meant, *wire)))?;
         rest = more;
     }
     Ok(connected)
@@ -106,18 +106,18 @@ pub fn pins_by_name<'a>(
 fn wire_of<'a>(
     flat: &[(Name, Net)],
     nets: &NameTable<Net>,
-    stands: &[Wire],
+    meant: &[Wire],
     pins: &Named<'a, Wire>,
     inner: (&'a [u8], &Net),
 ) -> Wire
-    ensures { result ≡ wire_of flat.now nets.now stands.now pins.now (inner.entry.0.now, inner.entry.1.now) }
+    ensures { result ≡ wire_of flat.now nets.now meant.now pins.now (inner.entry.0.now, inner.entry.1.now) }
 {
     let (name, net) = inner;
     if !net.role.is_directed() {
         return Wire::Open;
     }
     match pins.get(name) {
-        Some(wire) => flat_wire(flat, nets, stands, *wire),
+        Some(wire) => flat_wire(flat, nets, meant, *wire),
         None => Wire::Open,
     }
 }
@@ -126,17 +126,17 @@ fn wire_of<'a>(
 fn push_wire<'a>(
     flat: &[(Name, Net)],
     nets: &NameTable<Net>,
-    stands: &[Wire],
+    meant: &[Wire],
     pins: &Named<'a, Wire>,
     net: Option<(&'a [u8], &Net)>,
     connected: &mut Vec<Wire>,
 ) -> Result<(), AllocError>
     ensures { OnOk result (connected.new.items ≡ connected.old.items
-        ++ map (wire_of flat.now nets.now stands.now pins.now)
+        ++ map (wire_of flat.now nets.now meant.now pins.now)
         (option_to_list (option_map (λ e. (e.0.now, e.1.now)) net.entry))) }
 {
     if let Some(net) = net {
-        connected.push(wire_of(flat, nets, stands, pins, net))?;
+        connected.push(wire_of(flat, nets, meant, pins, net))?;
     }
     Ok(())
 }
@@ -146,15 +146,15 @@ pub fn wires_of<'a>(
     alloc: Global,
     flat: &[(Name, Net)],
     nets: &NameTable<Net>,
-    stands: &[Wire],
+    meant: &[Wire],
     pins: &Named<'a, Wire>,
     inner: &'a NameTable<Net>,
 ) -> Result<Vec<Wire>, AllocError>
-    ensures { IfOk result (λ ws. ws.items ≡ map (wire_of flat.now nets.now stands.now pins.now) inner.entry.now) }
+    ensures { IfOk result (λ ws. ws.items ≡ map (wire_of flat.now nets.now meant.now pins.now) inner.entry.now) }
 {
     let mut connected = Vec::with_capacity(alloc, inner.len() as usize)?;
     for number in 0..inner.len() {
-        push_wire(flat, nets, stands, pins, inner.get(number), &mut connected)?;
+        push_wire(flat, nets, meant, pins, inner.get(number), &mut connected)?;
     }
     Ok(connected)
 }

@@ -96,16 +96,16 @@ own_good prefix (net ∷ nets) (w ∷ ws) p h =
     one (wires.Bit decl bit) = tt
     one (wires.Whole decl) = tt
 
-pins_good : (flat nets : Nets) (stands : List Wire) (pins : List (Text × Wire)) → AllByRecursion (λ p. IsShortName p.0) pins
-    → AllByRecursion (λ p. IsShortName p.0) (flat_pins flat nets stands pins)
-pins_good flat nets stands [] h = tt
-pins_good flat nets stands (p ∷ pins) h = (h.0, pins_good flat nets stands pins h.1)
+pins_good : (flat nets : Nets) (meant : List Wire) (pins : List (Text × Wire)) → AllByRecursion (λ p. IsShortName p.0) pins
+    → AllByRecursion (λ p. IsShortName p.0) (flat_pins flat nets meant pins)
+pins_good flat nets meant [] h = tt
+pins_good flat nets meant (p ∷ pins) h = (h.0, pins_good flat nets meant pins h.1)
 
 instance_good : (flat : Nets) (s : Scope) (i : Instance) → AllByRecursion IsPlain s.prefix → IsSoundInstance i → IsGoodInstance (flat_instance flat s i)
 instance_good flat s i p h = record {
   cell = h.cell;
   name = printed_below s.prefix i.name p (printed i.name h.name);
-  pins = pins_good flat s.nets s.stands i.pins (recursion_from_All (λ p. IsShortName p.0) i.pins h.pins);
+  pins = pins_good flat s.nets s.meant i.pins (recursion_from_All (λ p. IsShortName p.0) i.pins h.pins);
 }
 
 -- ---- a flat netlist that is made, step by step

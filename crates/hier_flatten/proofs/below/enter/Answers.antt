@@ -2,7 +2,7 @@ use Rattle.std.proofs.Common.{◌≡◌, ◌+◌, ◌∷◌, [], ◌++◌, lengt
 use Rattle.std.proofs.lemmas.List.{append_assoc}
 use Rattle.verilog_net.specs.Nets.{Nets}
 use Rattle.hier_flatten.specs.Tables.{IsTableOf}
-use Rattle.hier_flatten.specs.Flat.{Flat, wire_of, prefix_below, stands_from, own_nets}
+use Rattle.hier_flatten.specs.Flat.{Flat, wire_of, prefix_below, meant_from, own_nets}
 use Rattle.hier_flatten.specs.Walk.{scope_of}
 use Rattle.hier_flatten.proofs.BelowLaws.{entered_is, scope_is}
 use Rattle.hier_flatten.proofs.WalkLaws.{whole_path}
@@ -14,7 +14,7 @@ table c = subst (λ ps. IsTableOf ps c.in_ok-pins.pins) c.as_slice.ensures c.in_
 
 -- what the nets are connected to
 abbrev connected : (c : goal.After-drop-pins-inside-5) → c.in_ok-wires.wires.items
-    ≡ map (wire_of c.args.growing.now.nets c.args.frame.now.nets.now c.args.frame.now.stands.items c.in_ok-pins.pins) c.args.inner.now.nets
+    ≡ map (wire_of c.args.growing.now.nets c.args.frame.now.nets.now c.args.frame.now.meant.items c.in_ok-pins.pins) c.args.inner.now.nets
 connected c =
     c.in_ok-wires.ensures
     ∙ (ap (λ (n : Nets). map (wire_of n c.args.frame.now.nets.now c.as_slice-2.result.now c.in_ok-pins.pins) c.args.inner.now.nets)
@@ -40,10 +40,10 @@ returns-clause-growing c =
 pub returns-clause-frame : goal.returns-clause-frame
 returns-clause-frame c = record {
   scope = scope_is c.args.growing.now c.enter.new.self (scope_of c.args.path.now.items c.args.frame.now) c.args.instance.now c.args.inner.now c.in_ok-pins.pins
-      c.in_ok-wires.wires.items c.push.new.self.items (table c) (connected c) (way c) c.enter.ensures c.in_ok-stands.stands.items
-      (c.in_ok-stands.ensures
-      ∙ (ap (λ n. stands_from n c.as_slice-3.result.now) (c.count.ensures ∙ ap (λ (f : Flat). length f.nets) c.enter.ensures)
-      ∙ ap (stands_from (length c.args.growing.now.nets)) c.as_slice-3.ensures.value));
+      c.in_ok-wires.wires.items c.push.new.self.items (table c) (connected c) (way c) c.enter.ensures c.in_ok-meant.meant.items
+      (c.in_ok-meant.ensures
+      ∙ (ap (λ n. meant_from n c.as_slice-3.result.now) (c.count.ensures ∙ ap (λ (f : Flat). length f.nets) c.enter.ensures)
+      ∙ ap (meant_from (length c.args.growing.now.nets)) c.as_slice-3.ensures.value));
   rest = c.as_slice-5.ensures;
   path = c.len.ensures ∙ (c.add_nets.new.path.ok.0 ∙ ap length (c.in_ok-add_nets.ensures.kept ∙ way c));
 }
