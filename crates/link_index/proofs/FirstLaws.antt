@@ -218,3 +218,14 @@ module _ {X : Type 0} (p : X → Bool) where
   -- some item passes where one has a place
   pub any_is : (xs : List X) → list_any p xs ≡ is_some (position p xs)
   any_is xs = from_any 0 xs ∙ ap is_some (sym (position_from-zero p xs))
+
+-- ---- values of names, one after another
+
+-- a name has the value that it has past an entry of another name
+pub value_past : {V : Type 0} (name : Text) (rest : List (Text × V)) (d x : Text × V) (v : Option V) → 1 ≤ length rest → x ≡ get_or rest 0 d
+    → bytes_eq name x.0 ≡ false → value_of name rest ≡ v → value_of name (rest_of rest) ≡ v
+value_past name rest d x v some is apart h =
+    let front : rest ≡ x ∷ rest_of rest = first_and_rest rest d some ∙ ap (λ y. y ∷ rest_of rest) (sym is) in
+    let past : value_of name rest ≡ value_of name (rest_of rest) =
+    ap (value_of name) front ∙ ap (λ b. cond b (Some x.1) (value_of name (rest_of rest))) apart in
+    sym past ∙ h

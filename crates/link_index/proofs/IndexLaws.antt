@@ -1,7 +1,6 @@
 -- What an index finds is what its netlist has.
 use Rattle.std.specs.Prelude.{◌≡◌, refl, ℕ, List, Option, Some, None, option_map, position}
-use Rattle.std.specs.List.{slice_get, AllZip}
-use Rattle.std.specs.Option.{IsSomeAnd}
+use Rattle.std.specs.List.{slice_get}
 use Rattle.std.specs.Str.{bytes_eq}
 use Rattle.std.proofs.Common.{sym, ap, ◌∙◌}
 use Rattle.std.proofs.lemmas.Option.{slice_get-map}
@@ -13,9 +12,9 @@ use Rattle.verilog_net.specs.declared.netlist.Netlist.{Netlist}
 use Rattle.verilog_net.specs.declared.netlist.Wire.{Wire}
 use Rattle.link_rules.specs.Bits.{bits, net_of}
 use Rattle.link_rules.specs.Nodes.{net_named, pin_net}
-use Rattle.link_index.specs.Nets.{HasNames, HaveNumbers, HaveWires}
+use Rattle.link_index.specs.Nets.{HasNames, HaveNumbers}
 use Rattle.link_index.proofs.FirstLaws.{find_place, find_nowhere}
-use Rattle.link_index.proofs.PlaceLaws.{found_place, zipped_at}
+use Rattle.link_index.proofs.PlaceLaws.{found_place}
 
 -- the net of a name
 pub named_is : (n : Netlist) (table : List (Text × Unit {0})) (name : Text) → HasNames n.nets table
@@ -34,14 +33,8 @@ module _ (n : Netlist) (numbers : List (Text × ℕ)) (owner pin : Text) (have :
   pub pin_nowhere : value_of owner numbers ≡ None → pin_net n owner pin ≡ None
   pin_nowhere h = rw (find_nowhere (λ i. bytes_eq owner i.name) n.instances (sym (have.each owner) ∙ h)) refl
 
-  pin_by : (wires : List (Text × Wire)) (i : ℕ) (o : Option Instance) → slice_get n.instances i ≡ o → value_of owner numbers ≡ Some i
-      → IsSomeAnd o (λ x. HaveWires x.pins wires) → pin_net n owner pin ≡ (value_of pin wires >>= net_of n.nets)
-  pin_by wires i None at h w = absurd w
-  pin_by wires i (Some x) at h w =
-      rw (find_place (λ i. bytes_eq owner i.name) n.instances i (sym (have.each owner) ∙ h), at) (ap (λ o. o >>= net_of n.nets) (sym (w.each pin)))
-
-  -- the wires of the instance of this name have what its pin is connected to
-  pub pin_is : (all : List (List (Text × Wire))) (wires : List (Text × Wire)) (i : ℕ) → AllZip (λ x. HaveWires x.pins) n.instances all
-      → value_of owner numbers ≡ Some i → slice_get all i ≡ Some wires → pin_net n owner pin ≡ (value_of pin wires >>= net_of n.nets)
-  pin_is all wires i z h at =
-      pin_by wires i (slice_get n.instances i) refl h (zipped_at (λ (x : Instance) (w : List (Text × Wire)). HaveWires x.pins w) n.instances all i wires z at)
+  -- what the pin of the instance of this name is connected to
+  pub pin_is : (i : ℕ) (x : Instance) (wire : Option Wire) → value_of owner numbers ≡ Some i → slice_get n.instances i ≡ Some x
+      → wire ≡ value_of pin x.pins → pin_net n owner pin ≡ (wire >>= net_of n.nets)
+  pin_is i x wire h at e =
+      rw (find_place (λ i. bytes_eq owner i.name) n.instances i (sym (have.each owner) ∙ h), at) (ap (λ o. o >>= net_of n.nets) (sym e))

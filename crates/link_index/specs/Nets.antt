@@ -1,5 +1,5 @@
 -- What an index of a netlist keeps.
-use Rattle.std.specs.Prelude.{◌≡◌, ℕ, ◌≤◌, List, length, map, position, bytes_eq}
+use Rattle.std.specs.Prelude.{◌≡◌, ℕ, ◌≤◌, List, length, map, position, bytes_eq, IfSome}
 use Rattle.std.specs.List.{AllZip}
 use Rattle.name_numbers.specs.Names.{Text, value_of}
 use Rattle.verilog_net.specs.declared.netlist.Instance.{Instance}
@@ -9,6 +9,7 @@ use Rattle.verilog_net.specs.Nets.{Nets}
 use Rattle.xt_model.specs.Limits.{most_nets}
 use Rattle.link_rules.specs.Bits.{bits}
 use Rattle.link_rules.specs.Sound.{IsSoundNetlist}
+use Rattle.link_index.specs.declared.wires.PinWires.{PinWires}
 use Rattle.link_index.specs.Bits.{AreStarts}
 use Rattle.link_index.specs.Names.{AreNames}
 
@@ -24,14 +25,18 @@ pub record HaveNumbers (instances : List Instance) (numbers : List (Text × ℕ)
 pub record HaveWires (pins wires : List (Text × Wire)) : Type 0 where
   pub each : (name : Text) → value_of name wires ≡ value_of name pins
 
+-- what is kept of the pins of an instance: of many pins a table
+abbrev pub AreWired : List (Text × Wire) → PinWires → Type 0
+AreWired pins w = IfSome w.table (λ t. HaveWires pins t.value)
+
 -- what is kept beside a netlist: the first bit of each net, the names of the bits, the numbers of the instances and
 -- the wires of each
 pub record IsIndex (n : Netlist) (firsts : List ℕ) (table : List (Text × Unit {0})) (numbers : List (Text × ℕ))
-    (pins : List (List (Text × Wire))) : Type 0 where
+    (pins : List PinWires) : Type 0 where
   pub sound : IsSoundNetlist n
   pub most : length (bits n.nets) ≤ most_nets
   pub starts : AreStarts n.nets firsts
   pub names : HasNames n.nets table
   pub spelled : AreNames table
   pub instances : HaveNumbers n.instances numbers
-  pub wires : AllZip (λ i. HaveWires i.pins) n.instances pins
+  pub wires : AllZip (λ i. AreWired i.pins) n.instances pins

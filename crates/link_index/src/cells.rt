@@ -75,7 +75,8 @@ impl<'a> CellIndex<'a> {
         ensures there { IsSomeAnd (slice_get self.now.cells cell)
             (λ c. IfSome result (λ place. place < length c.pins)) }
     {
-        self.kept[cell].pins.get(name)
+        let pins = self.library.cells.as_slice()[cell].pins.as_slice();
+        self.kept[cell].pins.get(pins, name)
     }
 
     /// Whether the cell at a place is not taken.

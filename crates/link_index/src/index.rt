@@ -5,7 +5,7 @@ ghost use Rattle.std.specs.Prelude.{◌≡◌};
 use crate::bits::{net_at, starts};
 use crate::names::names_of;
 use crate::split::split_last;
-use crate::wires::{all_wires, numbers_of};
+use crate::wires::{PinWires, all_wires, numbers_of};
 use name_numbers::{NameTable, Named};
 use std::alloc::{AllocError, Global};
 use std::marker::Model;
@@ -19,7 +19,7 @@ pub struct NetIndex<'a> {
     starts: Vec<u32>,
     names: NameTable<()>,
     instances: Named<'a, u32>,
-    wires: Vec<Named<'a, Wire>>,
+    wires: Vec<PinWires<'a>>,
 }
 
 impl<'a> Model for NetIndex<'a> {
@@ -116,9 +116,11 @@ impl<'a> NetIndex<'a> {
         let Some(number) = self.instances.get(owner) else {
             return None;
         };
-        match self.wires[*number as usize].get(pin) {
+        let place = *number as usize;
+        let pins = self.netlist.instances.as_slice()[place].pins.as_slice();
+        match self.wires[place].get(pins, pin) {
             None => None,
-            Some(wire) => self.net_of(*wire),
+            Some(wire) => self.net_of(wire),
         }
     }
 

@@ -54,10 +54,11 @@ pub struct CellPlaces<'a> {
 fn kept_of<'a>(alloc: Global, key: TextKey, cell: &'a Cell) -> Result<CellPlaces<'a>, AllocError>
     ensures { IfOk result (IsKept cell.entry.now) }
 {
-    let pins = pin_places(alloc, key, cell.pins.as_slice())?;
-    let odd = is_odd_cell(cell, &pins);
+    let pins = cell.pins.as_slice();
+    let places = pin_places(alloc, key, pins)?;
+    let odd = is_odd_cell(cell, &places);
     Ok(CellPlaces {
-        pins: PinPlaces::new(alloc, pins)?,
+        pins: PinPlaces::of_pins(alloc, pins, places)?,
         odd,
     })
 }
@@ -70,7 +71,7 @@ pub fn all_kept<'a>(
 ) -> Result<Vec<CellPlaces<'a>>, AllocError>
     ensures { IfOk result (λ v. AllZip IsKept cells.entry.now v.items) }
 {
-    let mut kept = Vec::new(alloc);
+    let mut kept = Vec::with_capacity(alloc, cells.len())?;
     let mut rest = cells;
     'cells: while let [cell, more @ ..] = rest {
         kept.push(kept_of(alloc, key, cell)?)?;
