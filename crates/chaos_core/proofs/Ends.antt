@@ -44,7 +44,7 @@ drawn_nearer room nets n drawn t few less small =
     let far : nets + 1 - above (drawn ++ n ∷ []) < nets + 1 - above drawn = omega (arith, more, few, less) in
     fewer (room + 10) (nets + 1 - above (drawn ++ n ∷ [])) (nets + 1 - above drawn) (rest room t) far small
 
-pub same_place : (room nets : ℕ) (before after : List ℕ) (t u : Task) → after ≡ before → rest room u < rest room t → ahead room nets after u < ahead room nets before t
+same_place : (room nets : ℕ) (before after : List ℕ) (t u : Task) → after ≡ before → rest room u < rest room t → ahead room nets after u < ahead room nets before t
 same_place room nets before after t u e h = rw e (omega (arith, h))
 
 pub step_nearer : (lists : List (List NetId)) (order : List ℕ) (k l m : Knowledge) (t u : Task) (moved : Moved) (room : ℕ) → ((net : ℕ) → 8 * length (list_of lists net) ≤ room) → Fits l lists t

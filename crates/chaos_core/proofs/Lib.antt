@@ -27,4 +27,4 @@ mod PassLaws
 mod Deciding
 mod Telling
 mod Listing
-mod Swaps
+mod Recalled

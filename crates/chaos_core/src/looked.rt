@@ -1,80 +1,105 @@
-//! What a look at words found, for the workers of the round after it.
+//! What a look at words found, for the workers of the round after it: a net that is steady there need not be evaluated
+//! where the numbers loaded for it are those that the look found.
 
-ghost use Rattle.std.specs.Prelude.{◌≡◌, ℕ, ◌<◌, length, Some, IfSome};
-ghost use Rattle.std.specs.List.{All, slice_get};
+ghost use Rattle.std.specs.Prelude.{◌≡◌, ℕ, ◌+◌, ◌*◌, ◌<◌, ◌≤◌, length, slice_index, IfSome, IsTrue};
+ghost use Rattle.std.specs.List.{All};
 ghost use Rattle.xt_model.specs.Quads.{IsPairInRange};
-ghost use Rattle.net_eval.specs.ReadLists.{reads_of};
-ghost use Rattle.chaos_core.specs.Tasks.{loaded_of, loading, task_of};
-ghost use Rattle.chaos_core.specs.Looks.{AreAllMarked};
+ghost use Rattle.xt_meaning.specs.Words.{number_for};
+ghost use Rattle.net_eval.specs.ReadLists.{AreReadLists, ids, reads_of};
+ghost use Rattle.chaos_core.specs.Tasks.{bound_at, evaluated, list_of};
+ghost use Rattle.chaos_core.specs.Views.{IsLoaded};
+ghost use Rattle.chaos_core.specs.Looks.{AreAllMarked, AreNumbersOf, IsLook};
 
+use crate::loaded::evaluate;
 use crate::unmoved::are_all_marked;
-use crate::worker::{Stage, Worker};
+use crate::words::number_in;
 use net_eval::ReadLists;
-use std::sync::atomic::{AtomicBool, Ordering};
-use xt_model::{NetId, Pair, Windows};
+use xt_model::{Design, NetId, Pair, Windows};
 
-/// The windows that a look found in words, a mark for each net, and a flag for each net that a worker sets where it moves
-/// the net after the look. Marks say where the operator gives windows back; flags say only which nets are better
-/// evaluated, and may lag.
+/// The windows that a look found in words, and a mark for each net. Where a net is marked and each net of its read list,
+/// the operator gives its windows back.
 #[derive(Drop)]
 pub struct Looked<'a> {
     pub windows: &'a Windows,
     pub marks: &'a [bool],
-    pub moved: &'a [AtomicBool],
+}
+
+/// Whether one of several numbers is another.
+fn is_at(numbers: &[u64], place: usize, number: u64) -> bool
+    requires { place < length numbers.now }
+    ensures { IsTrue result → slice_index numbers.now place ≡ number }
+{
+    numbers[place] == number
+}
+
+/// Whether the numbers of a net are in a list from a place on.
+fn are_from(numbers: &[u64], from: usize, pair: &Pair) -> bool
+    requires there { from + 8 ≤ length numbers.now }
+    requires range { IsPairInRange pair.now }
+    ensures { IsTrue result
+        → (i : ℕ) → i < 8 → slice_index numbers.now (from + i) ≡ number_for (bound_at pair.now i) }
+{
+    for place in 0..8 {
+        if !is_at(numbers, from + place as usize, number_in(pair, place)) {
+            return false;
+        }
+    }
+    true
 }
 
 impl<'a> Looked<'a> {
-    /// Whether the flag of some of these nets is set.
-    fn have_moved(&self, nets: &[NetId]) -> bool {
-        for net in nets {
-            if let Some(flag) = self.moved.get(net.0 as usize) {
-                if flag.load(Ordering::Relaxed) {
-                    return true;
-                }
+    /// Whether the numbers loaded for a read list are those of its windows.
+    fn has_numbers(&self, reads: &[NetId], numbers: &[u64]) -> bool
+        requires whole { length numbers.now ≡ 8 * length reads.now }
+        requires inside { All (λ m. m.0 < length self.now.windows.now) reads.now }
+        ensures { IsTrue result → AreNumbersOf self.now.windows.now (ids reads.now) numbers.now }
+    {
+        for place in 0..reads.len() {
+            let pair = self.windows.pair(reads[place].0 as usize);
+            if !are_from(numbers, 8 * place, &pair) {
+                return false;
             }
         }
-        false
+        true
     }
 
-    /// The net that a worker is to load, and the windows that the look found there: where it is marked with all that it
-    /// reads, and none of these is flagged.
-    pub(crate) fn known(&self, worker: &Worker, lists: &ReadLists) -> Option<(u32, Pair)>
-        requires there { (net : ℕ) → task_of worker.now ≡ loading net (loaded_of (task_of worker.now))
-            → net < length lists.now }
-        requires windows { length self.now.windows.now ≡ length lists.now }
-        requires marks { length self.now.marks.now ≡ length lists.now }
-        requires reads { (net : ℕ) → net < length lists.now
-            → All (λ m. m.0 < length self.now.marks.now) (reads_of lists.now net) }
-        ensures loading { IfSome result (λ known. task_of worker.now ≡ loading known.0 (loaded_of (task_of worker.now))) }
-        ensures marked { IfSome result (λ known. AreAllMarked lists.now self.now.marks.now known.0) }
-        ensures pair { IfSome result (λ known. slice_get self.now.windows.now known.0 ≡ Some known.1) }
-        ensures range { IfSome result (λ known. IsPairInRange known.1) }
+    /// Whether a net is marked with all that it reads, and the numbers loaded for its read list are those of its windows.
+    fn knows(&self, lists: &ReadLists, net: NetId, numbers: &[u64]) -> bool
+        requires there { net.0 < length lists.now }
+        requires own { net.0 < length self.now.marks.now }
+        requires marks { All (λ m. m.0 < length self.now.marks.now) (reads_of lists.now net.0) }
+        requires windows { All (λ m. m.0 < length self.now.windows.now) (reads_of lists.now net.0) }
+        requires whole { length numbers.now ≡ 8 * length (reads_of lists.now net.0) }
+        ensures marked { IsTrue result → AreAllMarked lists.now self.now.marks.now net.0 }
+        ensures numbers { IsTrue result → AreNumbersOf self.now.windows.now (list_of lists.now net.0) numbers.now }
     {
-        let Stage::Loading(net) = worker.stage else {
-            return None;
-        };
-        if !are_all_marked(lists, self.marks, NetId(net)) {
-            return None;
-        }
-        if self.have_moved(lists.of(NetId(net))) {
-            return None;
-        }
-        Some((net, self.windows.pair(net as usize)))
+        are_all_marked(lists, self.marks, net) && self.has_numbers(lists.of(net), numbers)
     }
+}
 
-    /// Sets the flag of the net that a worker is to publish, where its windows are others than the look found.
-    pub(crate) fn note(&self, worker: &Worker) {
-        let Stage::Publishing(net, pair, _) = worker.stage else {
-            return;
-        };
-        let Some(before) = self.windows.pairs().get(net as usize) else {
-            return;
-        };
-        if before.same(&pair) {
-            return;
-        }
-        if let Some(flag) = self.moved.get(net as usize) {
-            flag.store(true, Ordering::Relaxed);
+/// What the operator makes of a net of the numbers loaded for its read list: the windows that a look found, where the
+/// operator gives them back and the numbers are the look's, and else by an evaluation. Writes the places of that list's
+/// nets.
+pub(crate) fn evaluate_by(
+    design: &Design,
+    lists: &ReadLists,
+    net: NetId,
+    numbers: &[u64],
+    places: &mut [u32],
+    look: Option<&Looked<'_>>,
+) -> Pair
+    requires lists { AreReadLists design.now lists.now }
+    requires loaded { IsLoaded design.now (list_of lists.now net.0) net.0 numbers.now }
+    requires places { length design.now.nets ≤ length places.old }
+    requires look { IfSome look (λ l. IsLook design.now lists.now l.now.windows.now l.now.marks.now) }
+    ensures value { result ≡ evaluated design.now (list_of lists.now net.0) numbers.now net.0 }
+    ensures range { IsPairInRange result }
+    ensures count { length places.new ≡ length places.old }
+{
+    if let Some(look) = look {
+        if look.knows(lists, net, numbers) {
+            return look.windows.pair(net.0 as usize);
         }
     }
+    evaluate(design, lists.of(net), net, numbers, places)
 }

@@ -1,6 +1,6 @@
 //! A worker's run over a board.
 
-ghost use Rattle.std.specs.Prelude.{◌≡◌, ℕ, suc, ◌↔◌, ◌<◌, List, [], IsTrue};
+ghost use Rattle.std.specs.Prelude.{◌≡◌, ℕ, suc, ◌↔◌, ◌<◌, List, [], IfSome, IsTrue};
 ghost use Rattle.xt_model.specs.declared.net.NetId.{NetId};
 ghost use Rattle.xt_model.specs.Levels.{IsOrder};
 ghost use Rattle.xt_model.specs.Parts.{Parts};
@@ -12,8 +12,7 @@ ghost use Rattle.chaos_core.specs.Looks.{IsLook};
 ghost use Rattle.chaos_core.specs.Runs.{IsDone, Ran};
 
 use crate::board::Board;
-use crate::loaded::evaluate;
-use crate::looked::Looked;
+use crate::looked::{Looked, evaluate_by};
 use crate::steps::{publish, worker_step};
 use crate::words::number_in;
 use crate::worker::{Stage, Worker};
@@ -28,16 +27,18 @@ pub(crate) fn is_done(worker: &Worker) -> bool
 }
 
 /// Makes the steps in which a worker loads the rest of the words of the read list of its net, one a step. The last of
-/// them evaluates the net.
+/// them evaluates the net, unless a look tells what that gives.
 fn load_rest<B: Board>(
     board: &mut B,
     worker: &mut Worker,
     design: &Design,
     lists: &ReadLists,
     net: NetId,
+    look: Option<&Looked<'_>>,
 )
     requires design { (B.knows board.old).setting.design ≡ design.now }
     requires lists { AreReadLists design.now lists.now }
+    requires look { IfSome look (λ l. IsLook design.now lists.now l.now.windows.now l.now.marks.now) }
     requires fits { IsFitting (B.knows board.old) lists.now worker.old }
     requires loading { task_of worker.old ≡ loading net.0 (loaded_of (task_of worker.old)) }
     ensures fits { IsFitting (B.knows board.new) lists.now worker.new }
@@ -52,12 +53,13 @@ fn load_rest<B: Board>(
         let number = board.load(8 * reads[place / 8].0 as usize + place % 8);
         worker.loaded.push_reserved(number);
     }
-    let pair = evaluate(
+    let pair = evaluate_by(
         design,
-        reads,
+        lists,
         net,
         worker.loaded.as_slice(),
         worker.places.as_mut_slice(),
+        look,
     );
     worker.stage = Stage::Publishing(net.0, pair, 0);
 }
@@ -95,10 +97,12 @@ fn advance<B: Board>(
     design: &Design,
     lists: &ReadLists,
     direction: Direction,
+    look: Option<&Looked<'_>>,
 )
     requires design { (B.knows board.old).setting.design ≡ design.now }
     requires direction { (B.knows board.old).setting.way ≡ direction }
     requires lists { AreReadLists design.now lists.now }
+    requires look { IfSome look (λ l. IsLook design.now lists.now l.now.windows.now l.now.marks.now) }
     requires fits { IsFitting (B.knows board.old) lists.now worker.old }
     requires late { task_of worker.old ≡ idle → 0 < (B.knows board.old).late }
     ensures fits { IsFitting (B.knows board.new) lists.now worker.new }
@@ -109,13 +113,43 @@ fn advance<B: Board>(
     ensures places { places_of worker.new ≡ places_of worker.old }
 {
     match worker.stage {
-        Stage::Loading(net) => load_rest(board, worker, design, lists, NetId(net)),
+        Stage::Loading(net) => load_rest(board, worker, design, lists, NetId(net), look),
         Stage::Publishing(net, pair, from) => {
             publish_rest(board, worker, direction, net, pair, from);
         }
         Stage::Idle | Stage::Finished => {
             worker_step(board, worker, design, lists, direction);
         }
+    }
+}
+
+/// The run of an idle worker, with what a look found or without.
+fn run_by<B: Board>(
+    board: &mut B,
+    worker: &mut Worker,
+    design: &Design,
+    lists: &ReadLists,
+    direction: Direction,
+    look: Option<&Looked<'_>>,
+)
+    requires design { (B.knows board.old).setting.design ≡ design.now }
+    requires direction { (B.knows board.old).setting.way ≡ direction }
+    requires lists { AreReadLists design.now lists.now }
+    requires look { IfSome look (λ l. IsLook design.now lists.now l.now.windows.now l.now.marks.now) }
+    requires fits { IsFitting (B.knows board.old) lists.now worker.old }
+    requires idle { task_of worker.old ≡ idle }
+    requires fresh { (B.knows board.old).drawn ≡ [] }
+    requires late { 0 < (B.knows board.old).late }
+    ensures ran { (order : List ℕ) → IsOrder design.now.nets order → Ran order (B.knows board.old) (B.knows board.new) }
+    ensures steps { (order : List ℕ) → IsOrder design.now.nets order
+        → (count : ℕ) × AreSteps design.now lists.now order count
+        (B.knows board.old) (task_of worker.old) (B.knows board.new) (task_of worker.new) }
+    ensures done { task_of worker.new ≡ done }
+    ensures room { room_of worker.new ≡ room_of worker.old }
+    ensures places { places_of worker.new ≡ places_of worker.old }
+{
+    'steps: while !is_done(worker) {
+        advance(board, worker, design, lists, direction, look);
     }
 }
 
@@ -143,14 +177,11 @@ pub fn run_worker<B: Board>(
     ensures room { room_of worker.new ≡ room_of worker.old }
     ensures places { places_of worker.new ≡ places_of worker.old }
 {
-    'steps: while !is_done(worker) {
-        advance(board, worker, design, lists, direction);
-    }
+    run_by(board, worker, design, lists, direction, None);
 }
 
-/// Makes a run of an idle worker as [`run_worker`] does, but where a net at a place that it draws and all that the net
-/// reads are marked by a look, and no worker has moved one of these since, it publishes the windows that the look found
-/// there: they are what the operator makes of the words that it found. Takes no memory.
+/// A run as by [`run_worker`]. Where the last look knows that the operator gives the windows of a net back, and the
+/// numbers that the worker loads for its read list are those of the look's windows, it does not evaluate the net.
 pub fn run_looked<B: Board>(
     board: &mut B,
     worker: &mut Worker,
@@ -162,22 +193,18 @@ pub fn run_looked<B: Board>(
     requires design { (B.knows board.old).setting.design ≡ design.now }
     requires direction { (B.knows board.old).setting.way ≡ direction }
     requires lists { AreReadLists design.now lists.now }
+    requires look { IsLook design.now lists.now look.now.windows.now look.now.marks.now }
     requires fits { IsFitting (B.knows board.old) lists.now worker.old }
     requires idle { task_of worker.old ≡ idle }
     requires fresh { (B.knows board.old).drawn ≡ [] }
     requires late { 0 < (B.knows board.old).late }
-    requires look { IsLook design.now lists.now (B.knows board.old).seen look.now.windows.now look.now.marks.now }
     ensures ran { (order : List ℕ) → IsOrder design.now.nets order → Ran order (B.knows board.old) (B.knows board.new) }
+    ensures steps { (order : List ℕ) → IsOrder design.now.nets order
+        → (count : ℕ) × AreSteps design.now lists.now order count
+        (B.knows board.old) (task_of worker.old) (B.knows board.new) (task_of worker.new) }
     ensures done { task_of worker.new ≡ done }
     ensures room { room_of worker.new ≡ room_of worker.old }
     ensures places { places_of worker.new ≡ places_of worker.old }
 {
-    'steps: while !is_done(worker) {
-        if let Some(found) = look.known(worker, lists) {
-            worker.stage = Stage::Publishing(found.0, found.1, 0);
-        } else {
-            advance(board, worker, design, lists, direction);
-            look.note(worker);
-        }
-    }
+    run_by(board, worker, design, lists, direction, Some(look));
 }

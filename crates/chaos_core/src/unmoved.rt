@@ -7,7 +7,6 @@ ghost use Rattle.xt_model.specs.Assign.{assigned};
 ghost use Rattle.xt_meaning.specs.Operator.{step};
 ghost use Rattle.xt_meaning.specs.Barrier.{IsWithinEnvelope};
 ghost use Rattle.xt_meaning.specs.Fixpoint.{IsWindows};
-ghost use Rattle.xt_meaning.specs.Words.{numbers_of};
 ghost use Rattle.net_eval.specs.Closing.{IsSteadyAt};
 ghost use Rattle.net_eval.specs.ReadLists.{AreReadLists, ids, reads_of};
 ghost use Rattle.chaos_core.specs.Tasks.{list_of};
@@ -69,7 +68,7 @@ fn is_steady(
     next: u32,
 ) -> bool
     requires lists { AreReadLists design.now lists.now }
-    requires look { IsLook design.now lists.now (numbers_of windows.now) windows.now marks.now }
+    requires look { IsLook design.now lists.now windows.now marks.now }
     requires within { IsWithinEnvelope design.now windows.now }
     requires net { net < length design.now.nets }
     requires next { next ≡ net + 1 }
@@ -92,7 +91,7 @@ pub fn closed_where(
     to: u32,
 ) -> bool
     requires lists { AreReadLists design.now lists.now }
-    requires look { IsLook design.now lists.now (numbers_of windows.now) windows.now marks.now }
+    requires look { IsLook design.now lists.now windows.now marks.now }
     requires within { IsWithinEnvelope design.now windows.now }
     requires order { from ≤ to }
     requires end { to ≤ length design.now.nets }

@@ -1,4 +1,5 @@
 use Rattle.std.proofs.Common.{◌≡◌, ℕ, suc, refl, ◌∙◌, sym, ap, subst, List, length, arith}
+use Rattle.net_eval.specs.ReadLists.{reads_of}
 use Rattle.chaos_core.specs.Boards.{Knowledge}
 use Rattle.chaos_core.specs.Tasks.{Task, evaluated, list_of, loaded_of, loading, places_of, publishing, room_of, task_of, with_loaded}
 use Rattle.chaos_core.specs.Steps.{AreLoaded, AreSteps, Fits}
@@ -72,8 +73,8 @@ words-preserved g c =
       places = inv.places;
     }
 
-pub evaluate-pair-requires-clause-loaded : goal.evaluate-pair-requires-clause-loaded
-evaluate-pair-requires-clause-loaded g c =
+pub evaluate_by-pair-requires-clause-loaded : goal.evaluate_by-pair-requires-clause-loaded
+evaluate_by-pair-requires-clause-loaded g c =
     let k = g.B.Board.knows c.args.board.now in
     let l = g.B.Board.knows c.words.board in
     let lists = c.args.lists.now in
@@ -82,8 +83,8 @@ evaluate-pair-requires-clause-loaded g c =
     let fits = subst (Fits k lists) c.requires.loading c.requires.fits.task in
     let same = c.as_slice-2.ensures.value ∙ sym c.as_slice.ensures.value in
     let long = ap length same in
-    whole_now k l lists net (loaded_of (task_of c.args.worker.now)) c.words.worker-inside.loaded.items c.args.design.now c.requires.design c.requires.lists fits inv.setting inv.seen inv.loaded c.of-reads.result.now c.as_slice-2.result.now
-    c.of-reads.ensures c.as_slice-2.ensures.value (omega (arith, long, c.words-test.false))
+    whole_now k l lists net (loaded_of (task_of c.args.worker.now)) c.words.worker-inside.loaded.items c.args.design.now c.requires.design c.requires.lists fits inv.setting inv.seen inv.loaded (reads_of lists net) c.as_slice-2.result.now
+    refl c.as_slice-2.ensures.value (let reads = ap length c.of-reads.ensures in omega (arith, long, reads, c.words-test.false))
 
 pub returns-clause-fits : goal.returns-clause-fits
 returns-clause-fits g c =
@@ -99,10 +100,10 @@ returns-clause-fits g c =
     let kept = inv.places in
     record {
       room = room_stays lists _ _ inv.room c.requires.fits.room;
-      places = places_stay (length lists) c.words.worker-inside.places.len c.words.worker-inside.places.items c.evaluate-pair.new.places c.words.worker-inside.places.ok.0
-          (c.evaluate-pair.ensures.count ∙ ap length c.as_mut_slice.ensures.value) (omega (arith, few, kept));
-      task = publishes_now k l lists net (loaded_of (task_of c.args.worker.now)) c.words.worker-inside.loaded.items c.args.design.now c.requires.design c.requires.lists fits inv.setting inv.seen inv.loaded c.of-reads.result.now
-          c.as_slice-2.result.now c.evaluate-pair.result c.of-reads.ensures c.as_slice-2.ensures.value (omega (arith, long, c.words-test.false)) c.evaluate-pair.ensures.value c.evaluate-pair.ensures.range;
+      places = places_stay (length lists) c.words.worker-inside.places.len c.words.worker-inside.places.items c.evaluate_by-pair.new.places c.words.worker-inside.places.ok.0
+          (c.evaluate_by-pair.ensures.count ∙ ap length c.as_mut_slice.ensures.value) (omega (arith, few, kept));
+      task = publishes_now k l lists net (loaded_of (task_of c.args.worker.now)) c.words.worker-inside.loaded.items c.args.design.now c.requires.design c.requires.lists fits inv.setting inv.seen inv.loaded (reads_of lists net)
+          c.as_slice-2.result.now c.evaluate_by-pair.result refl c.as_slice-2.ensures.value (let reads = ap length c.of-reads.ensures in omega (arith, long, reads, c.words-test.false)) c.evaluate_by-pair.ensures.value c.evaluate_by-pair.ensures.range;
     }
 
 pub returns-clause-steps : goal.returns-clause-steps
@@ -118,7 +119,7 @@ returns-clause-steps g c = λ order.
     let fits = subst (Fits k lists) c.requires.loading c.requires.fits.task in
     let whole = all_now k l lists net numbers items d c.requires.design c.requires.lists fits inv.setting inv.seen inv.loaded c.of-reads.result.now c.as_slice.result.now c.of-reads.ensures c.as_slice.ensures.value
     c.words-test.false in
-    let is : c.evaluate-pair.result ≡ evaluated d (list_of lists net) items net = rw (c.of-reads.ensures, c.as_slice-2.ensures.value) at c.evaluate-pair.ensures.value in
+    let is : c.evaluate_by-pair.result ≡ evaluated d (list_of lists net) items net = rw c.as_slice-2.ensures.value at c.evaluate_by-pair.ensures.value in
     let s = inv.steps order in
-    let P : Task → Type 0 = λ t. (more : ℕ) × AreSteps d lists order (suc more) k t l (publishing net c.evaluate-pair.result 0) in
-    subst P (sym c.requires.loading) (some_steps d lists order s.0 k l net numbers items c.evaluate-pair.result whole is s.1)
+    let P : Task → Type 0 = λ t. (more : ℕ) × AreSteps d lists order (suc more) k t l (publishing net c.evaluate_by-pair.result 0) in
+    subst P (sym c.requires.loading) (some_steps d lists order s.0 k l net numbers items c.evaluate_by-pair.result whole is s.1)

@@ -1,4 +1,4 @@
-use Rattle.std.proofs.Common.{refl, arith, ◌∙◌}
+use Rattle.std.proofs.Common.{arith, ◌∙◌}
 use Rattle.net_eval.proofs.Steady.{steady_all}
 use Rattle.chaos_core.proofs.unmoved.closed_after.Goals as goal
 
@@ -6,7 +6,6 @@ pub closed_where-requires-clause-look : goal.closed_where-requires-clause-look
 closed_where-requires-clause-look c = record {
   windows = c.requires.after;
   count = c.mark_unmoved.ensures.count ∙ c.requires.before;
-  numbers = refl;
   steady = λ net there marked. c.requires.kept net there (λ m has e. c.mark_unmoved.ensures.same m e (marked.reads m has));
 }
 

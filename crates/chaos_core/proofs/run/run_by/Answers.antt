@@ -4,7 +4,7 @@ use Rattle.chaos_core.specs.Tasks.{room_of, task_of}
 use Rattle.chaos_core.proofs.Places.{no_lie}
 use Rattle.chaos_core.proofs.Running.{Running, ran, runs_from}
 use Rattle.chaos_core.proofs.Several.{run_over, some_nearer, steps_on}
-use Rattle.chaos_core.proofs.run.run_worker.Goals as goal
+use Rattle.chaos_core.proofs.run.run_by.Goals as goal
 
 pub steps-init : goal.steps-init
 steps-init g c =
