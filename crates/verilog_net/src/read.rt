@@ -1,7 +1,9 @@
 //! From the bytes of a netlist to its modules.
 
-ghost use Rattle.std.specs.Prelude.{◌≡◌, ◌≤◌, length};
+ghost use Rattle.std.specs.Prelude.{◌≡◌, ◌≤◌, length, IfOk};
+ghost use Rattle.std.specs.List.{All};
 ghost use Rattle.verilog_net.specs.Reading.{text_state, modules_in, modules_of, one_of, netlist_of_text};
+ghost use Rattle.verilog_net.specs.Sound.{IsSoundModule, IsSoundNetlist};
 ghost use Rattle.text_forms.specs.Stops.{Gives};
 
 use crate::context::Context;
@@ -46,7 +48,8 @@ fn modules(alloc: Global, single: bool, bytes: &[u8]) -> Result<Vec<Netlist>, Te
 /// bytes.
 pub fn read_modules(alloc: Global, bytes: &[u8]) -> Result<Modules, TextFault>
     requires { length bytes.now ≤ MOST_BYTES }
-    ensures { Gives (λ m. m.list) result (modules_of bytes.now) }
+    ensures value { Gives (λ m. m.list) result (modules_of bytes.now) }
+    ensures sound { IfOk result (λ m. All IsSoundModule m.list) }
 {
     let list = modules(alloc, false, bytes)?;
     Ok(Modules {
@@ -58,7 +61,8 @@ pub fn read_modules(alloc: Global, bytes: &[u8]) -> Result<Modules, TextFault>
 /// second module and at the `)` after a whole bus as a connection. `NoMemory`, time and memory are as there.
 pub fn read_netlist(alloc: Global, bytes: &[u8]) -> Result<Netlist, TextFault>
     requires { length bytes.now ≤ MOST_BYTES }
-    ensures { Gives (λ m. m) result (netlist_of_text bytes.now) }
+    ensures value { Gives (λ m. m) result (netlist_of_text bytes.now) }
+    ensures sound { IfOk result IsSoundNetlist }
 {
     let mut list = modules(alloc, true, bytes)?;
     if list.is_empty() {
