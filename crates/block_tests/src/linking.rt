@@ -4,10 +4,11 @@ use crate::block::{LIB, SPEF};
 use crate::call::{calm, outcome};
 use design_link::link;
 use link_rules::{LinkFault, LinkRefusal};
-use sound_reads::{read_library, read_netlist, read_sdc, read_spef};
+use sound_reads::{read_library, read_sdc, read_spef};
 use std::alloc::{AllocError, Global};
 use std::test::Fail;
 use std::thread::Threads;
+use verilog_net::read_netlist;
 use xt_lex::MOST_BYTES;
 use xt_model::Name;
 

@@ -24,12 +24,14 @@ use Rattle.elmore_tree.specs.Trees.{tap_sum}
 use Rattle.link_rules.specs.declared.circuit.NetPins.{NetPins}
 use Rattle.link_rules.specs.declared.fault.LinkFault.{LinkFault}
 use Rattle.link_rules.specs.declared.fault.LinkFault.TheVariants as faults
-use Rattle.link_rules.specs.Bits.{bits, net_of}
+use Rattle.verilog_net.specs.Bits.{bits}
+use Rattle.link_rules.specs.Bits.{net_of}
 use Rattle.link_rules.specs.Ends.{NetEnd}
 use Rattle.link_rules.specs.Nodes.{text_of, split_last, net_named, pin_net, cut_net, node_net}
 use Rattle.link_rules.specs.Wires.{Capacitor, Wire, coupled, net_at, own_first, capacitor_by, capacitor_of, wire_in, listed_by, listed, wire_of, coupling_of, tap_of, node_at}
 use Rattle.link_rules.specs.Limits.{or_fault, passed, most_load, greatest_load}
-use Rattle.link_rules.specs.Sound.{IsQuantity, IsSoundCap, IsSoundWire, AreSoundParasitics}
+use Rattle.xt_number.specs.Quantities.{IsQuantity}
+use Rattle.link_rules.specs.Sound.{IsSoundCap, IsSoundWire, AreSoundParasitics}
 use Rattle.link_rules.specs.Refusals.{node_fault, net_limit}
 use Rattle.link_rules.specs.Bare as bare
 use Rattle.design_link.proofs.Lists.{got, each_find, position_within}

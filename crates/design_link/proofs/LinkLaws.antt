@@ -15,14 +15,16 @@ use Rattle.link_rules.specs.declared.fault.LinkFault.{LinkFault}
 use Rattle.link_rules.specs.declared.fault.LinkFault.TheVariants as faults
 use Rattle.link_rules.specs.Bare.{Inputs, bare_parts}
 use Rattle.link_rules.specs.Bare as bare
-use Rattle.link_rules.specs.Bits.{Bit, bits}
+use Rattle.verilog_net.specs.Bits.{Bit, bits}
 use Rattle.link_rules.specs.Circuit.{Numbered, numbered, load_in, pin_sink, port_sinks, sinks_of, net_pins, circuit_of}
 use Rattle.xt_model.specs.Limits.{most_nets, most_instances}
 use Rattle.link_rules.specs.Limits.{passed, count_fault, size_fault}
 use Rattle.link_rules.specs.Link.{Links, HasAcceptedPins, HasAcceptedWires}
 use Rattle.link_rules.specs.Pins.{Connected, inputs_on}
 use Rattle.link_rules.specs.Refusals.{instance_fault, driver_fault}
-use Rattle.link_rules.specs.Sound.{IsQuantity, IsSoundLibrary, IsSoundNetlist, AreSoundConstraints}
+use Rattle.xt_number.specs.Quantities.{IsQuantity}
+use Rattle.link_rules.specs.Sound.{IsSoundLibrary, AreSoundConstraints}
+use Rattle.verilog_net.specs.Sound.{IsSoundNetlist}
 use Rattle.link_pins.specs.Answers.{IsFound}
 use Rattle.link_wires.specs.Wires.{HasSinkQuantities, IsFirstFault}
 use Rattle.design_link.proofs.Lists.{each-append, length-mapped, length-numbered}

@@ -21,11 +21,12 @@ use Rattle.link_rules.specs.declared.fault.LinkFault.TheVariants as faults
 use Rattle.link_rules.specs.declared.fault.LinkRefusal.TheVariants as refusals
 use Rattle.link_rules.specs.Bare.{Inputs, bare_net, bare_nets, bare_parts, filled_nets, parts_with}
 use Rattle.link_rules.specs.Bare as bare
-use Rattle.link_rules.specs.Bits.{bits}
+use Rattle.verilog_net.specs.Bits.{bits}
 use Rattle.link_rules.specs.Circuit.{sinks_of, circuit_of}
 use Rattle.link_rules.specs.Link.{Links}
 use Rattle.link_rules.specs.Refusals.{unclocked, clock_fault}
-use Rattle.link_rules.specs.Sound.{IsSoundLibrary, IsSoundNetlist, AreSoundParasitics, IsSoundClock, AreSoundConstraints}
+use Rattle.link_rules.specs.Sound.{IsSoundLibrary, AreSoundParasitics, IsSoundClock, AreSoundConstraints}
+use Rattle.verilog_net.specs.Sound.{IsSoundNetlist}
 use Rattle.link_pins.specs.Answers.{IsFound}
 use Rattle.design_link.specs.declared.gathering.Gathered.{Gathered}
 use Rattle.design_link.specs.Built.{HaveNamesOf, IsLoopOf, Builds}

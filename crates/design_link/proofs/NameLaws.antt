@@ -14,7 +14,7 @@ use Rattle.spef_read.specs.declared.parasitics.Parasitics.{Parasitics}
 use Rattle.sdc_read.specs.declared.constraints.Constraints.{Constraints}
 use Rattle.elmore_tree.specs.declared.form.WireForm.{WireForm}
 use Rattle.link_rules.specs.Bare.{bare_net, filled_nets}
-use Rattle.link_rules.specs.Bits.{Bit, bits}
+use Rattle.verilog_net.specs.Bits.{Bit, bits}
 use Rattle.link_rules.specs.Circuit.{net_pins, sinks_of}
 use Rattle.link_rules.specs.declared.circuit.NetPins.{NetPins}
 use Rattle.link_rules.specs.Link.{name_at}

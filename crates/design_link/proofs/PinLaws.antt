@@ -28,12 +28,15 @@ use Rattle.verilog_net.specs.Nets.{Nets}
 use Rattle.sdc_read.specs.declared.constraints.Constraints.{Constraints}
 use Rattle.sdc_read.specs.declared.ports.PortSet.{PortSet}
 use Rattle.sdc_read.specs.Ports.{port_at, IsTime, IsInRange}
-use Rattle.link_rules.specs.Bits.{Bit, bits, is_bit, net_of}
+use Rattle.verilog_net.specs.Bits.{Bit, bits}
+use Rattle.link_rules.specs.Bits.{is_bit, net_of}
 use Rattle.link_rules.specs.Ends.{sink_name}
 use Rattle.link_rules.specs.Pins.{Connected, cell_named, pin_named, is_input, is_output, end_of, connected, pins_from, pins, inputs_on, outputs_on}
 use Rattle.link_rules.specs.Arcs.{both, tables_at, Place, arc_by, arcs_from, edge_pairs, is_input_pin, sink_at, pin_arcs, arcs_of}
 use Rattle.link_rules.specs.Checks.{side_of, flop_check, group_checks, pin_checks, flop_checks, side_check, set_checks, port_checks, port_checks_from}
-use Rattle.link_rules.specs.Sound.{IsShortName, IsTableNumber, IsSoundTiming, IsSoundPin, IsSoundLibrary, IsSoundInstance, IsSoundNetlist}
+use Rattle.text_forms.specs.Names.{IsShortName}
+use Rattle.link_rules.specs.Sound.{IsTableNumber, IsSoundTiming, IsSoundPin, IsSoundLibrary}
+use Rattle.verilog_net.specs.Sound.{IsSoundInstance, IsSoundNetlist}
 use Rattle.design_link.proofs.Lists.{got, each-append, each_find, find_true, each_filter, each_given, each_joined, each_any, position_within}
 use Rattle.design_link.proofs.GivenLaws.{port_in_range}
 

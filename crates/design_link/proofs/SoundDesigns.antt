@@ -40,7 +40,7 @@ use Rattle.link_rules.specs.declared.fault.LinkFault.TheVariants as faults
 use Rattle.link_rules.specs.declared.fault.LinkRefusal.TheVariants as refusals
 use Rattle.link_rules.specs.Bare.{Inputs, bare_sink, bare_net, bare_nets, bare_parts, filled_sinks, filled_nets, parts_with}
 use Rattle.link_rules.specs.Bare as bare
-use Rattle.link_rules.specs.Bits.{Bit, bits, rising}
+use Rattle.verilog_net.specs.Bits.{Bit, bits, rising}
 use Rattle.link_rules.specs.Circuit.{Numbered, numbered, port_drivers, drivers_of, pin_sink, port_sinks, sinks_of, net_pins, circuit_of}
 use Rattle.link_rules.specs.Checks.{flop_checks, port_checks_from, checks_of}
 use Rattle.link_rules.specs.Ends.{sink_name}
@@ -50,7 +50,8 @@ use Rattle.link_rules.specs.Limits.{or_fault, passed, count_fault, size_fault}
 use Rattle.link_rules.specs.Link.{AreForms, HasAcceptedWires}
 use Rattle.link_rules.specs.Pins.{Connected, end_of, inputs_on, outputs_on}
 use Rattle.link_rules.specs.Refusals.{drivers_fault, driver_fault, IsAcceptedWire}
-use Rattle.link_rules.specs.Sound.{IsSoundLibrary, IsSoundNetlist, AreSoundParasitics, IsSoundClock, AreSoundConstraints}
+use Rattle.link_rules.specs.Sound.{IsSoundLibrary, AreSoundParasitics, IsSoundClock, AreSoundConstraints}
+use Rattle.verilog_net.specs.Sound.{IsSoundNetlist}
 use Rattle.link_rules.specs.Wires.{couplings_of, tree_of}
 use Rattle.design_link.proofs.Lists.{each-append, each-weaker, each_at, there, within, numbered_at, length-numbered, mapped_at, length-mapped}
 use Rattle.design_link.proofs.GivenLaws.{all_given}

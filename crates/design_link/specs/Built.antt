@@ -8,7 +8,7 @@ use Rattle.xt_model.specs.Parts.{Parts}
 use Rattle.verilog_net.specs.declared.netlist.Netlist.{Netlist}
 use Rattle.link_rules.specs.declared.fault.LinkFault.{LinkFault}
 use Rattle.link_rules.specs.declared.fault.LinkFault.TheVariants as faults
-use Rattle.link_rules.specs.Bits.{bits}
+use Rattle.verilog_net.specs.Bits.{bits}
 use Rattle.link_rules.specs.Link.{IsLoopFault}
 
 -- the name of the net of a number

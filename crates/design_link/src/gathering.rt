@@ -3,7 +3,8 @@
 ghost use Rattle.std.specs.Prelude.{◌≡◌, None, IfOk, IfErr, Err};
 ghost use Rattle.link_rules.specs.Limits.{count_fault};
 ghost use Rattle.link_rules.specs.Link.{Links};
-ghost use Rattle.link_rules.specs.Sound.{IsSoundLibrary, IsSoundNetlist, AreSoundParasitics, AreSoundConstraints};
+ghost use Rattle.link_rules.specs.Sound.{IsSoundLibrary, AreSoundParasitics, AreSoundConstraints};
+ghost use Rattle.verilog_net.specs.Sound.{IsSoundNetlist};
 ghost use Rattle.design_link.specs.Gathered.{IsGathered};
 
 use crate::sizes::{check_reads, check_sizes};

@@ -2,9 +2,9 @@
 
 ghost use Rattle.std.specs.Prelude.{◌≡◌, ◌<◌, length, map, None, IfOk};
 ghost use Rattle.std.specs.List.{All};
-ghost use Rattle.link_rules.specs.Bits.{bits};
+ghost use Rattle.verilog_net.specs.Bits.{bits};
 ghost use Rattle.link_rules.specs.Limits.{count_fault};
-ghost use Rattle.link_rules.specs.Sound.{IsSoundNetlist};
+ghost use Rattle.verilog_net.specs.Sound.{IsSoundNetlist};
 ghost use Rattle.design_link.specs.Built.{net_name};
 
 use link_index::NetIndex;

@@ -24,9 +24,9 @@ use Rattle.hier_flatten.specs.Names.{is_repeated, has_equal_names, is_long, has_
 use Rattle.hier_flatten.specs.Meaning.{FlatMeans}
 use Rattle.hier_flatten.proofs.MeaningLaws.{built_means}
 use Rattle.hier_flatten.proofs.NamesLaws.{none_equal}
-use Rattle.sound_reads.proofs.OwnNames.{Shape, shapes, AreNamedApart, named_apart}
-use Rattle.sound_reads.proofs.SoundNetlists.{short_name}
-use Rattle.sound_reads.proofs.VerilogStates.{IsFineInstance, IsFineModule}
+use Rattle.verilog_net.proofs.OwnNames.{Shape, shapes, AreNamedApart, named_apart}
+use Rattle.text_forms.proofs.NameLaws.{short_name}
+use Rattle.verilog_net.proofs.FineStates.{IsFineInstance, IsFineModule}
 use Rattle.flat_laws.proofs.Known.{IsBitOf, IsConnected, AreConnected, HaveConnected, IsClosed}
 use Rattle.flat_laws.proofs.ScalarNames.{scalars_free}
 

@@ -26,8 +26,8 @@ use Rattle.verilog_net.specs.Meaning.{State, begin_module, name_module, netlist_
 use Rattle.verilog_net.specs.Meaning.{begin_further, begin_pin, connect, connect_new, connect_found, connect_as, connect_name, connect_within, connect_bit_as, connect_bit, instance_of, end_instance}
 use Rattle.hier_flatten.specs.Names.{is_repeated}
 use Rattle.hier_flatten.proofs.NamesLaws.{seen_more}
-use Rattle.sound_reads.proofs.Bytes.{each_push, each-weaker}
-use Rattle.sound_reads.proofs.OwnNames.{Shape, shapes, later, found_cons, absent, with_push, shapes_push, same_shapes}
+use Rattle.text_forms.proofs.Bytes.{each_push, each-weaker}
+use Rattle.verilog_net.proofs.OwnNames.{Shape, shapes, later, found_cons, absent, with_push, shapes_push, same_shapes}
 
 -- ---- items of lists
 module _ {X : Type 0} where

@@ -9,7 +9,7 @@ use Rattle.verilog_net.specs.declared.netlist.Wire.TheVariants as wires
 use Rattle.verilog_net.specs.Sorts.{netlist_tokens}
 use Rattle.verilog_net.specs.Meaning.{State, nothing, means, list_name}
 use Rattle.verilog_net.specs.Reading.{rest_means, text_state}
-use Rattle.sound_reads.proofs.Texts.{not_refused}
+use Rattle.text_forms.proofs.Kept.{not_refused}
 use Rattle.flat_laws.proofs.Stages.{Stage, before, in_module, in_instance, after, ItemsKeep, text_kept}
 use Rattle.flat_laws.proofs.Known.{Empty, Outside, Within, Ended, begins_first, begins_again, name_keeps, end_keeps, declare_keeps, left_keeps, right_keeps, begin_keeps, pin_keeps, connect_keeps, bit_keeps, net_keeps, instance_keeps}
 

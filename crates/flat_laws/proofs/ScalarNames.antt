@@ -10,8 +10,8 @@ use Rattle.name_numbers.specs.Names.{Text, found}
 use Rattle.verilog_net.specs.declared.netlist.Net.{Net}
 use Rattle.verilog_net.specs.Nets.{Nets, NetBit, written, number_of, closed_number, bit_here, bit_from, named_bit}
 use Rattle.hier_flatten.specs.Names.{is_some_bit, is_scalar, has_bit_name}
-use Rattle.sound_reads.proofs.BitNames.{tail}
-use Rattle.sound_reads.proofs.OwnNames.{Shape, shapes, Has, each_of, later, found_cons, NoBitOf, IsClear, AreClear}
+use Rattle.verilog_net.proofs.BitNames.{tail}
+use Rattle.verilog_net.proofs.OwnNames.{Shape, shapes, Has, each_of, later, found_cons, NoBitOf, IsClear, AreClear}
 use Rattle.flat_laws.proofs.Known.{bit_named}
 
 -- ---- the name of a bit

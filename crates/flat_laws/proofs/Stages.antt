@@ -12,7 +12,7 @@ use Rattle.verilog_net.specs.declared.netlist.PortRole.{PortRole}
 use Rattle.verilog_net.specs.Sorts.{same_sort}
 use Rattle.verilog_net.specs.Forms.{Text, Item, Tokens, NetlistForm, misfits, is_done, form, quiet, refused, role_of, forms, forms_in, declaration_forms}
 use Rattle.verilog_net.specs.Forms as grammar
-use Rattle.sound_reads.proofs.Texts.{FormKeeps, text_keeps}
+use Rattle.text_forms.proofs.Kept.{FormKeeps, text_keeps}
 
 -- how far a text has come: before a module, in one, in an instance of one, after a module
 pub data Stage : Type 0 where

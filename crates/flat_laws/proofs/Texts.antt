@@ -20,7 +20,7 @@ use Rattle.verilog_net.specs.Reading.{text_state, modules_in, modules_of, one_of
 use Rattle.hier_flatten.specs.Alone.{is_plain, is_alone}
 use Rattle.hier_flatten.specs.Fits.{cell_pin_fits}
 use Rattle.hier_flatten.specs.Meaning.{FlatMeans}
-use Rattle.sound_reads.proofs.VerilogTexts.{netlist_fine}
+use Rattle.verilog_net.proofs.FineTexts.{netlist_fine}
 use Rattle.flat_laws.specs.Laws.{IsOneBit, ConnectsBits, IsItself}
 use Rattle.flat_laws.proofs.Alone.{MeanSame, text_same}
 use Rattle.flat_laws.proofs.Known.{IsClosed}

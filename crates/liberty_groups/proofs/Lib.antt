@@ -1,2 +1,1 @@
 mod TreeLaws
-mod FormByForm

@@ -1,22 +1,18 @@
 -- What the values of the code stand for.
 use Rattle.std.specs.Prelude.{List, [], ◌∷◌, map, reverse, Option, Some, None, option_map}
-use Rattle.text_forms.specs.Forms.{Refusal}
-use Rattle.xt_model.specs.declared.code.Code.{Code}
-use Rattle.liberty_groups.specs.declared.item.FormRead.{FormRead}
+use Rattle.text_forms.specs.declared.form_read.FormRead.{FormRead}
+use Rattle.text_forms.specs.Reader.{whole_of as form_whole}
+use Rattle.liberty_groups.specs.declared.context.Context.{Context}
+use Rattle.liberty_groups.specs.declared.item.Item.{Item}
 use Rattle.liberty_groups.specs.declared.group.Group.{Group}
 use Rattle.liberty_groups.specs.declared.building.Building.{Building}
-use Rattle.liberty_groups.specs.Grammar.{WholeForm, Tokens, misfit, misfits}
-use Rattle.liberty_groups.specs.Trees.{Tree, tree_of, entry_of}
 use Rattle.liberty_groups.specs.Building.{Unfinished}
+use Rattle.liberty_groups.specs.Grammar.{WholeForm}
+use Rattle.liberty_groups.specs.Trees.{Tree, tree_of, entry_of}
 
 -- a form that was read
-abbrev pub whole_of : FormRead → WholeForm
-whole_of r = record { item = r.item; line = r.line; next = r.next }
-
--- the refusal of the next token, which does not fit
-abbrev pub refusal_at : Tokens → Refusal Code
-refusal_at [] = record { line = misfits.last; code = misfits.early }
-refusal_at (t ∷ ts) = record { line = t.line; code = misfit t.sort }
+abbrev pub whole_of : FormRead Item Context → WholeForm
+whole_of r = form_whole (λ item. item) r
 
 -- groups of the code, the last of which is the innermost, with the innermost first
 unfoldable pub innermost_first : List Group → List Tree

@@ -1,27 +1,32 @@
 //! A library that was read in part.
 
-ghost use Rattle.std.specs.Prelude.{◌≡◌, [], ◌∷◌, OnOk, MatchOption, option_map};
-ghost use Rattle.liberty_groups.specs.Building.{nothing_read, step, settled, opened, closed, with_value};
+ghost use Rattle.std.specs.Prelude.{◌≡◌, false, [], ◌∷◌, OnOk, MatchOption, option_map};
+ghost use Rattle.text_forms.specs.Misfits.{IsFurther};
+ghost use Rattle.text_forms.specs.Stops.{Changes, Reads, refusal_of};
+ghost use Rattle.liberty_groups.specs.Building.{nothing_read, settled, opened, closed, with_value};
 ghost use Rattle.liberty_groups.specs.Trees.{entry_of, tree_of};
-ghost use Rattle.text_forms.specs.Forms.{at_line};
-ghost use Rattle.text_forms.specs.Stops.{Gives};
 ghost use Rattle.liberty_groups.specs.View.{unfinished, innermost_first, first};
 
+use crate::context::Context;
+use crate::forms::form;
 use crate::group::{Attribute, Group};
 use crate::item::{FormRead, Item};
+use crate::sort::Sort;
 use crate::span::Span;
 use crate::values::Values;
 use std::alloc::{AllocError, Global};
+use std::marker::PhantomData;
 use std::mem;
-use xt_lex::TextFault;
+use text_forms::{FormReader, Refused, Stop, Terms};
 use xt_model::Code;
 
 /// The groups that are open, the innermost last, and the last name with its values, where it is not yet part of a
 /// group.
-#[derive(Debug, Drop)]
-pub struct Building {
+#[derive(Drop)]
+pub struct Building<'a> {
     groups: Vec<Group>,
     entry: Option<Attribute>,
+    text: PhantomData<&'a [u8]>,
 }
 
 /// The innermost group.
@@ -97,24 +102,93 @@ fn add_value(alloc: Global, entry: &mut Option<Attribute>, value: Span) -> Resul
     Ok(())
 }
 
-impl Building {
+impl<'a> Building<'a> {
     /// Nothing was read yet.
     #[tactic(auto, using(crate::proofs::TreeLaws::innermost_none))]
-    pub fn new(alloc: Global) -> Building
+    pub fn new(alloc: Global) -> Building<'a>
         ensures { unfinished result ≡ nothing_read }
     {
         Building {
             groups: Vec::new(alloc),
             entry: None,
+            text: PhantomData,
         }
     }
 
-    /// What a form makes of the text before it.
-    pub fn act(&mut self, alloc: Global, read: FormRead) -> Result<(), TextFault>
-        ensures { Gives (λ _. unfinished self.new) result
-            (at_line read.line (step read.item (unfinished self.old))) }
+    /// The group that is left when the text was read to its end, if there is one.
+    pub fn into_library(self) -> Option<Group>
+        ensures { option_map tree_of result ≡ first (unfinished self.entry).groups }
     {
-        match read.item {
+        let Building {
+            mut groups,
+            entry: _,
+            text: _,
+        } = self;
+        take_innermost(&mut groups)
+    }
+}
+
+impl<'a> FormReader for Building<'a> {
+    ghost use Rattle.liberty_groups.specs.Grammar.{Slot, fits, forms_in, is_end, first_form, misfit};
+    ghost use Rattle.liberty_groups.specs.declared.sort.Sort.TheVariants.{End};
+    ghost use Rattle.liberty_groups.specs.View.{whole_of};
+    ghost use Rattle.liberty_groups.specs.declared.item.Item.{Item};
+    ghost use Rattle.liberty_groups.specs.Building.{Unfinished, step};
+
+    type Sort = Sort;
+
+    type Terms = Terms<'a, Sort>;
+
+    type Context = Context;
+
+    type Item = Item;
+
+    ghost tokens = { λ ts. ts };
+
+    ghost Slot = { Slot };
+
+    ghost Said = { Item };
+
+    ghost fits = { fits };
+
+    ghost forms_in = { forms_in };
+
+    ghost is_done = { is_end };
+
+    ghost item_of = { λ item. item };
+
+    ghost State = { Unfinished };
+
+    ghost state_of = { unfinished };
+
+    ghost means = { step };
+
+    fn is_done(context: Context) -> bool
+        ensures { result ≡ is_end context }
+    {
+        match context {
+            Context::Done => true,
+            _ => false,
+        }
+    }
+
+    fn read_form(context: Context, terms: &mut Terms<'a, Sort>) -> Result<FormRead, Refused>
+        requires { is_end context ≡ false }
+        ensures { Reads (λ r. (whole_of r, terms.new)) result (first_form (forms_in context) terms.old) }
+    {
+        form(context, terms)
+    }
+
+    fn further(terms: &mut Terms<'a, Sort>) -> Option<Refused>
+        ensures { MatchOption result (terms.old ≡ []) (λ r. IsFurther (refusal_of r) misfit End terms.old) }
+    {
+        terms.further()
+    }
+
+    fn act(&mut self, alloc: Global, item: Item) -> Result<(), Stop>
+        ensures { Changes result (unfinished self.new) (step item (unfinished self.old)) }
+    {
+        match item {
             Item::Nothing => {}
             Item::Named(name, line) => {
                 let named = Attribute {
@@ -134,12 +208,7 @@ impl Building {
                 let entry = mem::take(&mut self.entry);
                 open(alloc, &mut self.groups, entry)?;
             }
-            Item::TooDeep => {
-                return Err(TextFault::Refused {
-                    line: read.line,
-                    code: Code::L1,
-                });
-            }
+            Item::TooDeep => return Err(Stop::Refused(Code::L1)),
             Item::Closes => {
                 let entry = mem::take(&mut self.entry);
                 settle(alloc, &mut self.groups, entry)?;
@@ -147,16 +216,5 @@ impl Building {
             }
         }
         Ok(())
-    }
-
-    /// The group that is left when the text was read to its end, if there is one.
-    pub fn into_library(self) -> Option<Group>
-        ensures { option_map tree_of result ≡ first (unfinished self).groups }
-    {
-        let Building {
-            mut groups,
-            entry: _,
-        } = self;
-        take_innermost(&mut groups)
     }
 }

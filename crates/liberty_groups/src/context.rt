@@ -1,8 +1,5 @@
 //! What may come next.
 
-ghost use Rattle.std.specs.Prelude.{◌≡◌};
-ghost use Rattle.liberty_groups.specs.Grammar.{is_end};
-
 /// What may come next in a library; the number is how many groups are open.
 #[derive(Clone, Copy, Debug, PartialEq, Eq)]
 pub enum Context {
@@ -26,17 +23,4 @@ pub enum Context {
     Behind,
     /// After the text's end.
     Done,
-}
-
-impl Context {
-    /// Whether the text is at its end.
-    #[inline]
-    pub fn is_end(self) -> bool
-        ensures { result ≡ is_end self }
-    {
-        match self {
-            Context::Done => true,
-            _ => false,
-        }
-    }
 }

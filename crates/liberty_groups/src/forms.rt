@@ -1,12 +1,12 @@
 //! One form of a library by what may come next.
 
-ghost use Rattle.std.specs.Prelude.{◌≡◌, ℕ, ◌+◌, ◌≤◌, Some, [], ◌∷◌, length, MatchResult, IfOk};
-ghost use Rattle.liberty_groups.specs.Grammar.{misfit, start_forms, args_forms, library_forms, item_forms};
+ghost use Rattle.std.specs.Prelude.{◌≡◌, ℕ, ◌+◌, ◌≤◌, false, ◌∷◌, length};
+ghost use Rattle.liberty_groups.specs.Grammar.{start_forms, args_forms, library_forms, item_forms};
 ghost use Rattle.liberty_groups.specs.Grammar.{named_forms, first_value_forms, values_forms, behind_forms};
-ghost use Rattle.liberty_groups.specs.Grammar.{forms_in, first_form, after_group};
+ghost use Rattle.liberty_groups.specs.Grammar.{forms_in, first_form, after_group, is_end};
 ghost use Rattle.text_forms.specs.Tokens.{token_of};
-ghost use Rattle.text_forms.specs.Stops.{refusal_of, Reads};
-ghost use Rattle.liberty_groups.specs.View.{whole_of, refusal_at};
+ghost use Rattle.text_forms.specs.Stops.{Reads};
+ghost use Rattle.liberty_groups.specs.View.{whole_of};
 
 use crate::context::Context;
 use crate::item::{FormRead, Item};
@@ -27,62 +27,24 @@ fn done(item: Item, line: u32, next: Context) -> FormRead
     FormRead { item, line, next }
 }
 
-/// The code of a token that does not fit.
-#[inline]
-pub fn misfit(sort: Sort) -> Code
-    ensures { result ≡ misfit sort }
-{
-    match sort {
-        Sort::End => Code::L2,
-        _ => Code::L1,
-    }
-}
-
-/// The refusal of a token that does not fit.
-#[inline]
-fn refused(term: Term<'_, Sort>) -> Refused
-    ensures { refusal_of result ≡ record { line = term.entry.line; code = misfit term.entry.sort } }
-{
-    Refused {
-        line: term.line,
-        code: misfit(term.sort),
-    }
-}
-
-/// The next token.
-#[inline]
-fn any<'a>(terms: &mut Terms<'a, Sort>) -> Result<Term<'a, Sort>, Refused>
-    ensures next { MatchResult result (λ t. terms.old ≡ token_of t ∷ terms.new)
-        (λ r. (terms.old ≡ []) × (refusal_of r ≡ refusal_at [])) }
-    ensures within { IfOk result (λ t. t.from + length t.text.now ≤ MOST_BYTES) }
-{
-    match terms.next_term() {
-        Some(term) => Ok(term),
-        None => Err(Refused {
-            line: 1,
-            code: Code::L2,
-        }),
-    }
-}
-
 /// At the start of a text.
 fn at_start(terms: &mut Terms<'_, Sort>) -> Result<FormRead, Refused>
     ensures { Reads (λ r. (whole_of r, terms.new)) result (first_form start_forms terms.old) }
 {
-    let first = any(terms)?;
+    let first = terms.any()?;
     match first.sort {
         Sort::Library => {
-            let second = any(terms)?;
+            let second = terms.any()?;
             match second.sort {
                 Sort::LeftParen => Ok(done(
                     Item::Named(span_of(first), first.line),
                     second.line,
                     Context::LibraryArgs,
                 )),
-                _ => Err(refused(second)),
+                _ => Err(second.refused()),
             }
         }
-        _ => Err(refused(first)),
+        _ => Err(first.refused()),
     }
 }
 
@@ -90,14 +52,14 @@ fn at_start(terms: &mut Terms<'_, Sort>) -> Result<FormRead, Refused>
 fn in_args(here: Context, next: Context, terms: &mut Terms<'_, Sort>) -> Result<FormRead, Refused>
     ensures { Reads (λ r. (whole_of r, terms.new)) result (first_form (args_forms here next) terms.old) }
 {
-    let first = any(terms)?;
+    let first = terms.any()?;
     match first.sort {
         Sort::Library | Sort::Word | Sort::Text => {
             Ok(done(Item::Value(span_of(first)), first.line, here))
         }
         Sort::Comma | Sort::Colon => Ok(done(Item::Nothing, first.line, here)),
         Sort::RightParen => Ok(done(Item::Nothing, first.line, next)),
-        _ => Err(refused(first)),
+        _ => Err(first.refused()),
     }
 }
 
@@ -105,10 +67,10 @@ fn in_args(here: Context, next: Context, terms: &mut Terms<'_, Sort>) -> Result<
 fn at_library(terms: &mut Terms<'_, Sort>) -> Result<FormRead, Refused>
     ensures { Reads (λ r. (whole_of r, terms.new)) result (first_form library_forms terms.old) }
 {
-    let first = any(terms)?;
+    let first = terms.any()?;
     match first.sort {
         Sort::LeftBrace => Ok(done(Item::Opens, first.line, Context::Items(1))),
-        _ => Err(refused(first)),
+        _ => Err(first.refused()),
     }
 }
 
@@ -138,15 +100,15 @@ fn item_from(
         Sort::Semicolon => Ok(done(Item::Ends, first.line, Context::Items(depth))),
         Sort::RightBrace => Ok(done(Item::Closes, first.line, after_group(depth))),
         Sort::Library | Sort::Word => {
-            let second = any(terms)?;
+            let second = terms.any()?;
             let named = Item::Named(span_of(first), first.line);
             match second.sort {
                 Sort::Colon => Ok(done(named, second.line, Context::FirstValue(depth))),
                 Sort::LeftParen => Ok(done(named, second.line, Context::Args(depth))),
-                _ => Err(refused(second)),
+                _ => Err(second.refused()),
             }
         }
-        _ => Err(refused(first)),
+        _ => Err(first.refused()),
     }
 }
 
@@ -154,7 +116,7 @@ fn item_from(
 fn at_item(depth: u32, terms: &mut Terms<'_, Sort>) -> Result<FormRead, Refused>
     ensures { Reads (λ r. (whole_of r, terms.new)) result (first_form (item_forms depth) terms.old) }
 {
-    let first = any(terms)?;
+    let first = terms.any()?;
     item_from(first, depth, terms)
 }
 
@@ -162,7 +124,7 @@ fn at_item(depth: u32, terms: &mut Terms<'_, Sort>) -> Result<FormRead, Refused>
 fn at_named(depth: u32, terms: &mut Terms<'_, Sort>) -> Result<FormRead, Refused>
     ensures { Reads (λ r. (whole_of r, terms.new)) result (first_form (named_forms depth) terms.old) }
 {
-    let first = any(terms)?;
+    let first = terms.any()?;
     match first.sort {
         Sort::LeftBrace => {
             if depth < MOST_OPEN {
@@ -179,14 +141,14 @@ fn at_named(depth: u32, terms: &mut Terms<'_, Sort>) -> Result<FormRead, Refused
 fn at_first_value(depth: u32, terms: &mut Terms<'_, Sort>) -> Result<FormRead, Refused>
     ensures { Reads (λ r. (whole_of r, terms.new)) result (first_form (first_value_forms depth) terms.old) }
 {
-    let first = any(terms)?;
+    let first = terms.any()?;
     match first.sort {
         Sort::Library | Sort::Word | Sort::Text => Ok(done(
             Item::Value(span_of(first)),
             first.line,
             Context::Values(depth),
         )),
-        _ => Err(refused(first)),
+        _ => Err(first.refused()),
     }
 }
 
@@ -194,7 +156,7 @@ fn at_first_value(depth: u32, terms: &mut Terms<'_, Sort>) -> Result<FormRead, R
 fn in_values(depth: u32, terms: &mut Terms<'_, Sort>) -> Result<FormRead, Refused>
     ensures { Reads (λ r. (whole_of r, terms.new)) result (first_form (values_forms depth) terms.old) }
 {
-    let first = any(terms)?;
+    let first = terms.any()?;
     match first.sort {
         Sort::Library | Sort::Word | Sort::Text => Ok(done(
             Item::Value(span_of(first)),
@@ -202,7 +164,7 @@ fn in_values(depth: u32, terms: &mut Terms<'_, Sort>) -> Result<FormRead, Refuse
             Context::Values(depth),
         )),
         Sort::Semicolon => Ok(done(Item::Ends, first.line, Context::Items(depth))),
-        _ => Err(refused(first)),
+        _ => Err(first.refused()),
     }
 }
 
@@ -210,16 +172,17 @@ fn in_values(depth: u32, terms: &mut Terms<'_, Sort>) -> Result<FormRead, Refuse
 fn behind(terms: &mut Terms<'_, Sort>) -> Result<FormRead, Refused>
     ensures { Reads (λ r. (whole_of r, terms.new)) result (first_form behind_forms terms.old) }
 {
-    let first = any(terms)?;
+    let first = terms.any()?;
     match first.sort {
         Sort::Semicolon => Ok(done(Item::Nothing, first.line, Context::Behind)),
         Sort::End => Ok(done(Item::Nothing, first.line, Context::Done)),
-        _ => Err(refused(first)),
+        _ => Err(first.refused()),
     }
 }
 
-/// The next form; after the text's end no token fits.
+/// The next form.
 pub fn form(context: Context, terms: &mut Terms<'_, Sort>) -> Result<FormRead, Refused>
+    requires { is_end context ≡ false }
     ensures { Reads (λ r. (whole_of r, terms.new)) result (first_form (forms_in context) terms.old) }
 {
     match context {
@@ -232,9 +195,9 @@ pub fn form(context: Context, terms: &mut Terms<'_, Sort>) -> Result<FormRead, R
         Context::FirstValue(depth) => at_first_value(depth, terms),
         Context::Values(depth) => in_values(depth, terms),
         Context::Behind => behind(terms),
-        Context::Done => {
-            let first = any(terms)?;
-            Err(refused(first))
-        }
+        Context::Done => Err(Refused {
+            line: 1,
+            code: Code::L2,
+        }),
     }
 }

@@ -21,10 +21,5 @@ pub enum Item {
     Closes,
 }
 
-/// A form that was read: its item, the line of its last token, and what may come next.
-#[derive(Clone, Copy, Debug)]
-pub struct FormRead {
-    pub item: Item,
-    pub line: u32,
-    pub next: Context,
-}
+/// A form that was read.
+pub type FormRead = text_forms::FormRead<Item, Context>;

@@ -1,42 +1,17 @@
 //! From the bytes of a library to its groups.
 
 ghost use Rattle.std.specs.Prelude.{◌≡◌, ◌≤◌, length};
-ghost use Rattle.liberty_groups.specs.Building.{nothing_read};
 ghost use Rattle.liberty_groups.specs.Trees.{tree_of};
-ghost use Rattle.liberty_groups.specs.Library.{rest_means, library_of};
+ghost use Rattle.liberty_groups.specs.Library.{library_of};
 ghost use Rattle.text_forms.specs.Stops.{Gives};
-ghost use Rattle.liberty_groups.specs.View.{unfinished};
-ghost use Rattle.liberty_groups.specs.declared.context.Context.TheVariants.{Start};
 
 use crate::building::Building;
 use crate::context::Context;
-use crate::forms::{form, misfit};
 use crate::group::Group;
-use crate::sort::Sort;
 use std::alloc::Global;
-use text_forms::{Terms, tokens_refused};
+use text_forms::{Terms, read_all, tokens_refused};
 use xt_lex::{MOST_BYTES, Rules, TextFault};
 use xt_model::Code;
-
-/// What the tokens of a text without a fault make of it.
-fn build(alloc: Global, terms: &mut Terms<'_, Sort>) -> Result<Building, TextFault>
-    ensures { Gives unfinished result (rest_means Start terms.old nothing_read) }
-{
-    let mut building = Building::new(alloc);
-    let mut context = Context::Start;
-    'forms: while !context.is_end() {
-        let read = form(context, terms)?;
-        building.act(alloc, read)?;
-        context = read.next;
-    }
-    match terms.next_term() {
-        None => Ok(building),
-        Some(term) => Err(TextFault::Refused {
-            line: term.line,
-            code: misfit(term.sort),
-        }),
-    }
-}
 
 /// The library that a Liberty text is: a group of that name, after which only `;` may come.
 ///
@@ -55,8 +30,9 @@ pub fn read_groups(alloc: Global, bytes: &[u8]) -> Result<Group, TextFault>
     if let Some(refused) = tokens_refused(bytes, Rules::Liberty, Code::L1, Code::L2) {
         return Err(TextFault::from(refused));
     }
+    let mut building = Building::new(alloc);
     let mut terms = Terms::new(bytes, Rules::Liberty);
-    let building = build(alloc, &mut terms)?;
+    read_all(alloc, Context::Start, &mut terms, &mut building)?;
     match building.into_library() {
         Some(library) => Ok(library),
         None => Err(TextFault::Refused {

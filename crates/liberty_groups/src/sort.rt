@@ -5,6 +5,7 @@ ghost use Rattle.liberty_groups.specs.Sorts.{word_sort, mark_sort};
 
 use text_forms::TokenSort;
 use xt_lex::Kind;
+use xt_model::Code;
 
 /// What a token is to the grammar. A token of another sort than these fits nowhere.
 #[derive(Clone, Copy, Debug, PartialEq, Eq)]
@@ -58,12 +59,17 @@ fn mark_sort(mark: &[u8]) -> Sort
 }
 
 impl TokenSort for Sort {
-    ghost use Rattle.liberty_groups.specs.Sorts.{sort_by};
+    ghost use Rattle.liberty_groups.specs.Sorts.{sort_by, same_sort};
+    ghost use Rattle.liberty_groups.specs.Grammar.{misfit};
     ghost use Rattle.liberty_groups.specs.declared.sort.Sort.TheVariants.{End};
 
     ghost sort_by = { sort_by };
 
     ghost end = { End };
+
+    ghost same = { same_sort };
+
+    ghost misfit = { misfit };
 
     #[inline]
     fn sort_by(kind: Kind, text: &[u8]) -> Sort {
@@ -79,5 +85,17 @@ impl TokenSort for Sort {
     #[inline]
     fn end() -> Sort {
         Sort::End
+    }
+
+    #[inline]
+    fn same(self, other: Sort) -> bool {
+        self as u8 == other as u8
+    }
+
+    fn misfit(self) -> Code {
+        match self {
+            Sort::End => Code::L2,
+            _ => Code::L1,
+        }
     }
 }

@@ -11,7 +11,8 @@ use Rattle.name_numbers.specs.Names.{Text}
 use Rattle.verilog_net.specs.declared.netlist.Net.{Net}
 use Rattle.verilog_net.specs.declared.netlist.PortRole.{PortRole}
 use Rattle.verilog_net.specs.Nets.{Nets}
-use Rattle.link_rules.specs.Bits.{Bit, rising, falling, numbers_of, bus_bit, bits_by, bits_from, bits, is_bit}
+use Rattle.verilog_net.specs.Bits.{Bit, rising, falling, numbers_of, bus_bit, bits_by, bits_from, bits}
+use Rattle.link_rules.specs.Bits.{is_bit}
 use Rattle.link_index.specs.Bits.{width, offset}
 
 -- the position, as a recursion

@@ -10,7 +10,8 @@ use Rattle.name_numbers.proofs.NameLaws.{position_mapped}
 use Rattle.verilog_net.specs.declared.netlist.Instance.{Instance}
 use Rattle.verilog_net.specs.declared.netlist.Netlist.{Netlist}
 use Rattle.verilog_net.specs.declared.netlist.Wire.{Wire}
-use Rattle.link_rules.specs.Bits.{bits, net_of}
+use Rattle.verilog_net.specs.Bits.{bits}
+use Rattle.link_rules.specs.Bits.{net_of}
 use Rattle.link_rules.specs.Nodes.{net_named, pin_net}
 use Rattle.link_index.specs.Nets.{HasNames, HaveNumbers}
 use Rattle.link_index.proofs.FirstLaws.{find_place, find_nowhere}

@@ -14,7 +14,7 @@ use Rattle.name_numbers.specs.Names.{Text, with_value}
 use Rattle.verilog_net.specs.declared.netlist.Net.{Net}
 use Rattle.verilog_net.specs.declared.netlist.PortRole.{PortRole}
 use Rattle.verilog_net.specs.Nets.{Nets}
-use Rattle.link_rules.specs.Bits.{Bit, rising, falling, numbers_of, bus_bit, bits_by, bits_from, bits}
+use Rattle.verilog_net.specs.Bits.{Bit, rising, falling, numbers_of, bus_bit, bits_by, bits_from, bits}
 use Rattle.link_index.specs.Bits.{width, offset}
 use Rattle.link_index.specs.Names.{with_names, net_names}
 use Rattle.link_index.proofs.BitLaws.{from-parts, bits_are, bits_more}

@@ -13,8 +13,8 @@ use Rattle.xt_model.specs.Names.{IsName}
 use Rattle.name_numbers.specs.Names.{Text, with_value}
 use Rattle.verilog_net.specs.declared.netlist.Net.{Net}
 use Rattle.verilog_net.specs.Nets.{Nets}
-use Rattle.link_rules.specs.Bits.{bit_name}
-use Rattle.link_rules.specs.Sound.{IsShortName}
+use Rattle.verilog_net.specs.Bits.{bit_name}
+use Rattle.text_forms.specs.Names.{IsShortName}
 use Rattle.link_index.specs.Names.{AreNames}
 
 abbrev IsPrintable : ℕ → Type 0

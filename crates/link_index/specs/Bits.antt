@@ -2,7 +2,7 @@
 use Rattle.std.specs.Prelude.{◌≡◌, ℕ, ◌+◌, ◌-◌, ◌<◌, nat_le, ◌==◌, ◌&&◌, List, length, take, Option, Some, None}
 use Rattle.std.specs.Prelude.{slice_index, if◌then◌else◌}
 use Rattle.verilog_net.specs.Nets.{Nets}
-use Rattle.link_rules.specs.Bits.{bits}
+use Rattle.verilog_net.specs.Bits.{bits}
 
 -- how many bits a net with this range has
 abbrev pub width : Option (ℕ × ℕ) → ℕ

@@ -3,7 +3,7 @@ use Rattle.std.specs.Prelude.{ℕ, List, [], ◌∷◌, map, Option, Some, None}
 use Rattle.std.specs.List.{All}
 use Rattle.name_numbers.specs.Names.{Text, with_value}
 use Rattle.xt_model.specs.Names.{IsName}
-use Rattle.link_rules.specs.Bits.{bit_name, numbers_of}
+use Rattle.verilog_net.specs.Bits.{bit_name, numbers_of}
 
 -- a table once these names have been entered
 abbrev pub with_names : List (Text × Unit {0}) → List Text → List (Text × Unit {0})

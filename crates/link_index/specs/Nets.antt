@@ -7,8 +7,8 @@ use Rattle.verilog_net.specs.declared.netlist.Netlist.{Netlist}
 use Rattle.verilog_net.specs.declared.netlist.Wire.{Wire}
 use Rattle.verilog_net.specs.Nets.{Nets}
 use Rattle.xt_model.specs.Limits.{most_nets}
-use Rattle.link_rules.specs.Bits.{bits}
-use Rattle.link_rules.specs.Sound.{IsSoundNetlist}
+use Rattle.verilog_net.specs.Bits.{bits}
+use Rattle.verilog_net.specs.Sound.{IsSoundNetlist}
 use Rattle.link_index.specs.declared.wires.PinWires.{PinWires}
 use Rattle.link_index.specs.Bits.{AreStarts}
 use Rattle.link_index.specs.Names.{AreNames}

@@ -3,7 +3,8 @@
 ghost use Rattle.std.specs.Prelude.{◌≡◌, ◌+◌, ◌<◌, ◌≤◌, ◌^◌, length, position, Some, IfOk};
 ghost use Rattle.std.specs.List.{slice_get};
 ghost use Rattle.std.specs.Option.{IsSomeAnd};
-ghost use Rattle.link_rules.specs.Bits.{bits, is_bit, numbers_of, net_of};
+ghost use Rattle.verilog_net.specs.Bits.{bits, numbers_of};
+ghost use Rattle.link_rules.specs.Bits.{is_bit, net_of};
 ghost use Rattle.link_index.specs.Bits.{width, offset, AreStarts};
 
 use name_numbers::NameTable;

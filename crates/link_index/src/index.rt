@@ -38,9 +38,10 @@ impl<'a> NetIndex<'a> {
     ghost use Rattle.std.specs.List.{slice_get};
     ghost use Rattle.xt_model.specs.Limits.{most_nets, most_instances};
     ghost use Rattle.xt_model.specs.Names.{IsName};
-    ghost use Rattle.link_rules.specs.Bits.{bits, net_of};
+    ghost use Rattle.verilog_net.specs.Bits.{bits};
+    ghost use Rattle.link_rules.specs.Bits.{net_of};
     ghost use Rattle.link_rules.specs.Nodes.{net_named, pin_net, node_net};
-    ghost use Rattle.link_rules.specs.Sound.{IsSoundNetlist};
+    ghost use Rattle.verilog_net.specs.Sound.{IsSoundNetlist};
 
     /// The index of a netlist with at most 262,144 bits and instances. Takes time and memory in proportion to the names
     /// of bits, the instances and their pins.

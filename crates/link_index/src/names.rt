@@ -3,8 +3,9 @@
 ghost use Rattle.std.specs.Prelude.{◌≡◌, ◌<◌, ◌^◌, map, length, Some, IfOk, OnOk};
 ghost use Rattle.std.specs.List.{All, slice_get};
 ghost use Rattle.std.specs.Option.{IsSomeAnd};
-ghost use Rattle.link_rules.specs.Bits.{bits, bit_name, numbers_of};
-ghost use Rattle.link_rules.specs.Sound.{IsShortName, IsSoundNetlist};
+ghost use Rattle.verilog_net.specs.Bits.{bits, bit_name, numbers_of};
+ghost use Rattle.text_forms.specs.Names.{IsShortName};
+ghost use Rattle.verilog_net.specs.Sound.{IsSoundNetlist};
 ghost use Rattle.link_index.specs.Bits.{width};
 ghost use Rattle.link_index.specs.Nets.{HasNames};
 ghost use Rattle.link_index.specs.Names.{with_names, net_names, AreNames};

@@ -8,7 +8,7 @@ use Rattle.name_numbers.specs.Names.{Text}
 use Rattle.verilog_net.specs.declared.netlist.Net.{Net}
 use Rattle.verilog_net.specs.declared.netlist.PortRole.{PortRole}
 use Rattle.verilog_net.specs.Nets.{Nets}
-use Rattle.link_rules.specs.Bits.{Bit, bus_bit, bits_by, bits_from, bits}
+use Rattle.verilog_net.specs.Bits.{Bit, bus_bit, bits_by, bits_from, bits}
 use Rattle.link_index.proofs.BitLaws.{bits_are, from-parts}
 use Rattle.link_pins.specs.declared.bits.BitAt.{BitAt}
 use Rattle.link_pins.specs.Seen.{bit_at, numbered_bit}

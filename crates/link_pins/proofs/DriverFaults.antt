@@ -11,7 +11,7 @@ use Rattle.verilog_net.specs.declared.netlist.Netlist.{Netlist}
 use Rattle.link_rules.specs.declared.fault.LinkFault.{LinkFault}
 use Rattle.link_rules.specs.declared.fault.LinkFault.TheVariants as faults
 use Rattle.link_rules.specs.declared.fault.LinkRefusal.TheVariants as refusals
-use Rattle.link_rules.specs.Bits.{Bit, bits}
+use Rattle.verilog_net.specs.Bits.{Bit, bits}
 use Rattle.link_rules.specs.Circuit.{Numbered, numbered, drivers_of}
 use Rattle.link_rules.specs.Refusals.{drivers_fault, driver_fault}
 

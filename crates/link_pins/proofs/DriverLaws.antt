@@ -10,11 +10,11 @@ use Rattle.std.proofs.lemmas.Option.{none-some, same_Some, slice_get-map, slice_
 use Rattle.liberty_cells.specs.declared.library.Library.{Library}
 use Rattle.verilog_net.specs.declared.netlist.Netlist.{Netlist}
 use Rattle.verilog_net.specs.Nets.{Nets}
-use Rattle.link_rules.specs.Bits.{Bit, bits}
+use Rattle.verilog_net.specs.Bits.{Bit, bits}
 use Rattle.link_rules.specs.Ends.{NetEnd}
 use Rattle.link_rules.specs.Circuit.{first_of, port_drivers}
 use Rattle.link_rules.specs.Pins.{Connected, end_of, is_output, pins}
-use Rattle.link_rules.specs.Sound.{IsSoundNetlist}
+use Rattle.verilog_net.specs.Sound.{IsSoundNetlist}
 use Rattle.link_pins.specs.declared.drivers.Driver.{Driver}
 use Rattle.link_pins.specs.Rows.{outputs_in, drivers_by, IsDriver, AreDrivers}
 use Rattle.link_pins.proofs.PinLaws.{take_next}

@@ -17,7 +17,7 @@ use Rattle.link_rules.specs.declared.fault.LinkRefusal.TheVariants as refusals
 use Rattle.link_rules.specs.Limits.{or_fault}
 use Rattle.link_rules.specs.Pins.{cell_named, pin_named}
 use Rattle.link_rules.specs.Refusals.{is_odd_cell, pin_fault, cell_fault, instances_fault}
-use Rattle.link_rules.specs.Sound.{IsShortName}
+use Rattle.text_forms.specs.Names.{IsShortName}
 use Rattle.link_index.specs.Cells.{cell_place, pin_place}
 use Rattle.link_index.proofs.FirstLaws.{first_and_rest, rest_of, no_items}
 use Rattle.link_pins.specs.Answers.{IsFound, Tests, missing_pin}

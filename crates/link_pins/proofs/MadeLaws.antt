@@ -12,7 +12,7 @@ use Rattle.xt_model.specs.declared.net.TimingArc.{TimingArc}
 use Rattle.link_rules.specs.declared.circuit.Circuit.{Circuit}
 use Rattle.link_rules.specs.declared.circuit.NetPins.{NetPins}
 use Rattle.link_rules.specs.Arcs.{pin_arcs, arcs_of}
-use Rattle.link_rules.specs.Bits.{Bit, bits}
+use Rattle.verilog_net.specs.Bits.{Bit, bits}
 use Rattle.link_rules.specs.Checks.{pin_checks, flop_checks, port_checks_from, checks_of}
 use Rattle.link_rules.specs.Circuit.{Numbered, numbered, first_of, drivers_of, sinks_of, net_pins, circuit_of}
 use Rattle.link_rules.specs.Given.{given_of, is_input_port}

@@ -7,7 +7,7 @@ use Rattle.xt_model.specs.declared.check.CheckPoint.{CheckPoint}
 use Rattle.liberty_cells.specs.declared.library.Library.{Library}
 use Rattle.verilog_net.specs.declared.netlist.Netlist.{Netlist}
 use Rattle.sdc_read.specs.declared.constraints.Constraints.{Constraints}
-use Rattle.link_rules.specs.Bits.{Bit}
+use Rattle.verilog_net.specs.Bits.{Bit}
 use Rattle.link_rules.specs.Checks.{port_checks, port_checks_from}
 use Rattle.link_pins.proofs.PinLaws.{take_next}
 

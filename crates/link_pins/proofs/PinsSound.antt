@@ -14,9 +14,11 @@ use Rattle.verilog_net.specs.declared.netlist.Netlist.{Netlist}
 use Rattle.verilog_net.specs.declared.netlist.Wire.{Wire}
 use Rattle.verilog_net.specs.declared.netlist.Wire.TheVariants as wires
 use Rattle.verilog_net.specs.Nets.{Nets}
-use Rattle.link_rules.specs.Bits.{bits, is_bit, net_of}
+use Rattle.verilog_net.specs.Bits.{bits}
+use Rattle.link_rules.specs.Bits.{is_bit, net_of}
 use Rattle.link_rules.specs.Pins.{Connected, cell_named, pin_named, connected, pins_from, pins}
-use Rattle.link_rules.specs.Sound.{IsShortName, IsSoundInstance, IsSoundNetlist}
+use Rattle.text_forms.specs.Names.{IsShortName}
+use Rattle.verilog_net.specs.Sound.{IsSoundInstance, IsSoundNetlist}
 use Rattle.link_pins.proofs.PinLaws.{placed_within, passes}
 
 pub record IsFine (netlist : Netlist) (c : Connected) : Type 0 where

@@ -12,7 +12,7 @@ use Rattle.xt_model.specs.declared.check.CheckPoint.{CheckPoint}
 use Rattle.liberty_cells.specs.declared.library.Library.{Library}
 use Rattle.verilog_net.specs.declared.netlist.Netlist.{Netlist}
 use Rattle.link_rules.specs.Arcs.{pin_arcs}
-use Rattle.link_rules.specs.Bits.{bits}
+use Rattle.verilog_net.specs.Bits.{bits}
 use Rattle.link_rules.specs.Checks.{pin_checks}
 use Rattle.link_rules.specs.Pins.{Connected, is_output}
 use Rattle.link_pins.specs.declared.timings.NetArcs.{NetArcs}

@@ -10,7 +10,7 @@ use Rattle.liberty_cells.specs.declared.library.Library.{Library}
 use Rattle.verilog_net.specs.declared.netlist.Netlist.{Netlist}
 use Rattle.verilog_net.specs.Nets.{Nets}
 use Rattle.sdc_read.specs.declared.constraints.Constraints.{Constraints}
-use Rattle.link_rules.specs.Bits.{Bit, bits}
+use Rattle.verilog_net.specs.Bits.{Bit, bits}
 use Rattle.link_rules.specs.declared.circuit.Sink.{Sink}
 use Rattle.link_rules.specs.Circuit.{pin_sink, port_sinks, sinks_of}
 use Rattle.link_rules.specs.Pins.{Connected, is_input, pins}

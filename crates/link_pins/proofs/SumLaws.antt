@@ -10,11 +10,11 @@ use Rattle.verilog_net.specs.declared.netlist.Netlist.{Netlist}
 use Rattle.sdc_read.specs.declared.constraints.Constraints.{Constraints}
 use Rattle.link_rules.specs.declared.circuit.NetPins.{NetPins}
 use Rattle.link_rules.specs.Arcs.{pin_arcs, arcs_of}
-use Rattle.link_rules.specs.Bits.{Bit, bits}
+use Rattle.verilog_net.specs.Bits.{Bit, bits}
 use Rattle.link_rules.specs.Checks.{pin_checks, flop_checks, port_checks_from, checks_of}
 use Rattle.link_rules.specs.Circuit.{Numbered, numbered, net_pins, circuit_of}
 use Rattle.link_rules.specs.Pins.{Connected, is_output, pins}
-use Rattle.link_rules.specs.Sound.{IsSoundNetlist}
+use Rattle.verilog_net.specs.Sound.{IsSoundNetlist}
 use Rattle.link_pins.specs.declared.counts.Counts.{Counts}
 use Rattle.link_pins.specs.declared.joined.Joined.{Joined}
 use Rattle.link_pins.specs.Joined.{arc_count, AreCounts, AreCounted, IsJoined}

@@ -8,12 +8,12 @@ use Rattle.link_rules.specs.declared.circuit.Circuit.{Circuit}
 use Rattle.link_rules.specs.declared.circuit.NetPins.{NetPins}
 use Rattle.link_rules.specs.declared.fault.LinkFault.{LinkFault}
 use Rattle.link_rules.specs.Arcs.{pin_arcs}
-use Rattle.link_rules.specs.Bits.{bits}
+use Rattle.verilog_net.specs.Bits.{bits}
 use Rattle.link_rules.specs.Checks.{pin_checks, port_checks_from}
 use Rattle.link_rules.specs.Circuit.{circuit_of}
 use Rattle.link_rules.specs.Pins.{Connected, is_output, pins as pins_of}
 use Rattle.link_rules.specs.Refusals.{driver_fault}
-use Rattle.link_rules.specs.Sound.{IsSoundNetlist}
+use Rattle.verilog_net.specs.Sound.{IsSoundNetlist}
 use Rattle.link_pins.specs.declared.counts.Counts.{Counts}
 use Rattle.link_pins.specs.declared.joined.Joined.{Joined}
 use Rattle.link_pins.specs.declared.timings.NetArcs.{NetArcs}

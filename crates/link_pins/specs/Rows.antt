@@ -8,7 +8,7 @@ use Rattle.sdc_read.specs.declared.constraints.Constraints.{Constraints}
 use Rattle.link_rules.specs.declared.circuit.Sink.{Sink}
 use Rattle.xt_model.specs.declared.check.CheckPoint.{CheckPoint}
 use Rattle.link_rules.specs.Arcs.{pin_arcs}
-use Rattle.link_rules.specs.Bits.{Bit, bits}
+use Rattle.verilog_net.specs.Bits.{Bit, bits}
 use Rattle.link_rules.specs.Checks.{pin_checks}
 use Rattle.link_rules.specs.Circuit.{port_drivers, first_of, pin_sink, sinks_of}
 use Rattle.link_rules.specs.Ends.{NetEnd}

@@ -7,9 +7,9 @@ use Rattle.liberty_cells.specs.Pins.{PinParts}
 use Rattle.verilog_net.specs.declared.netlist.Netlist.{Netlist}
 use Rattle.verilog_net.specs.declared.netlist.PortRole.{PortRole}
 use Rattle.verilog_net.specs.Nets.{Nets}
-use Rattle.link_rules.specs.Bits.{Bit, bits}
+use Rattle.verilog_net.specs.Bits.{Bit, bits}
 use Rattle.link_rules.specs.Pins.{Connected, pins}
-use Rattle.link_rules.specs.Sound.{IsShortName}
+use Rattle.text_forms.specs.Names.{IsShortName}
 use Rattle.link_pins.specs.declared.bits.BitAt.{BitAt}
 use Rattle.link_pins.specs.declared.pins.PinOn.{PinOn}
 

@@ -3,7 +3,7 @@
 ghost use Rattle.std.specs.Prelude.{◌≡◌, ◌<◌, ◌++◌, length, map, IfOk, OnOk};
 ghost use Rattle.std.specs.List.{slice_get};
 ghost use Rattle.std.specs.Option.{IsSomeAnd};
-ghost use Rattle.link_rules.specs.Bits.{bits_by, numbers_of};
+ghost use Rattle.verilog_net.specs.Bits.{bits_by, numbers_of};
 ghost use Rattle.link_pins.specs.Seen.{bit_at, numbered_bit, AreBits};
 
 use link_index::{number_at, width};

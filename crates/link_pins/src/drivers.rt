@@ -4,12 +4,12 @@ ghost use Rattle.std.specs.Prelude.{◌≡◌, ◌<◌, ◌++◌, List, [], ◌�
 ghost use Rattle.std.specs.Prelude.{IfOk, IfErr, OnOk};
 ghost use Rattle.std.specs.List.{slice_get};
 ghost use Rattle.liberty_cells.specs.declared.library.Library.{Library};
-ghost use Rattle.link_rules.specs.Bits.{Bit, bits};
+ghost use Rattle.verilog_net.specs.Bits.{Bit, bits};
 ghost use Rattle.link_rules.specs.Circuit.{port_drivers};
 ghost use Rattle.link_rules.specs.Ends.{NetEnd};
 ghost use Rattle.link_rules.specs.Pins.{Connected, end_of, pins as pins_of};
 ghost use Rattle.link_rules.specs.Refusals.{driver_fault};
-ghost use Rattle.link_rules.specs.Sound.{IsSoundNetlist};
+ghost use Rattle.verilog_net.specs.Sound.{IsSoundNetlist};
 ghost use Rattle.link_pins.specs.Answers.{Tests, IsFound};
 ghost use Rattle.link_pins.specs.Rows.{IsDriver, AreDrivers};
 ghost use Rattle.link_pins.specs.Seen.{bit_at, AreBits, ArePins, HasShortNames, connected_at};

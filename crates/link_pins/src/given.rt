@@ -1,7 +1,7 @@
 //! The windows that constraints give the nets of input ports.
 
 ghost use Rattle.std.specs.Prelude.{◌≡◌, option_map};
-ghost use Rattle.link_rules.specs.Bits.{Bit};
+ghost use Rattle.verilog_net.specs.Bits.{Bit};
 ghost use Rattle.link_rules.specs.Given.{span_of, slews_of, window_of, windows_of, clock_at, input_windows};
 ghost use Rattle.link_rules.specs.Given.{set_windows, given_of};
 ghost use Rattle.link_pins.specs.Seen.{bit_at};

@@ -6,7 +6,7 @@ ghost use Rattle.xt_model.specs.Names.{IsName};
 ghost use Rattle.liberty_cells.specs.declared.cell.Cell.{Cell};
 ghost use Rattle.link_rules.specs.Pins.{cell_named, pin_named};
 ghost use Rattle.link_rules.specs.Refusals.{cell_fault, instance_fault};
-ghost use Rattle.link_rules.specs.Sound.{IsSoundInstance, IsSoundNetlist};
+ghost use Rattle.verilog_net.specs.Sound.{IsSoundInstance, IsSoundNetlist};
 ghost use Rattle.link_pins.specs.Answers.{Tests, missing_pin};
 
 use link_index::CellIndex;

@@ -3,8 +3,8 @@
 ghost use Rattle.std.specs.Prelude.{◌≡◌, ◌<◌, length, IfOk};
 ghost use Rattle.std.specs.List.{slice_get};
 ghost use Rattle.std.specs.Option.{IsSomeAnd};
-ghost use Rattle.link_rules.specs.Bits.{bits};
-ghost use Rattle.link_rules.specs.Sound.{IsSoundNetlist};
+ghost use Rattle.verilog_net.specs.Bits.{bits};
+ghost use Rattle.verilog_net.specs.Sound.{IsSoundNetlist};
 
 use link_index::NetIndex;
 use std::alloc::{AllocError, Global};

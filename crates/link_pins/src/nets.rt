@@ -3,12 +3,12 @@
 ghost use Rattle.std.specs.Prelude.{◌≡◌, ◌<◌, ◌++◌, [], length, map, Some, IfOk, OnOk};
 ghost use Rattle.std.specs.List.{slice_get};
 ghost use Rattle.liberty_cells.specs.declared.library.Library.{Library};
-ghost use Rattle.link_rules.specs.Bits.{Bit, bits as bits_of};
+ghost use Rattle.verilog_net.specs.Bits.{Bit, bits as bits_of};
 ghost use Rattle.link_rules.specs.Checks.{port_checks, port_checks_from};
 ghost use Rattle.link_rules.specs.Circuit.{net_pins as pins_by, numbered, sinks_of};
 ghost use Rattle.link_rules.specs.Given.{given_of, is_input_port};
 ghost use Rattle.link_rules.specs.Pins.{pins as pins_of};
-ghost use Rattle.link_rules.specs.Sound.{IsSoundNetlist};
+ghost use Rattle.verilog_net.specs.Sound.{IsSoundNetlist};
 ghost use Rattle.link_pins.specs.Joined.{without_arcs};
 ghost use Rattle.link_pins.specs.Rows.{AreDrivers, AreSinks};
 ghost use Rattle.link_pins.specs.Seen.{bit_at, AreBits};

@@ -4,10 +4,10 @@ ghost use Rattle.std.specs.Prelude.{◌≡◌, ◌<◌, ◌++◌, [], ◌∷◌,
 ghost use Rattle.std.specs.List.{slice_get};
 ghost use Rattle.std.specs.Option.{IsSomeAnd};
 ghost use Rattle.liberty_cells.specs.declared.library.Library.{Library};
-ghost use Rattle.link_rules.specs.Bits.{Bit, bits};
+ghost use Rattle.verilog_net.specs.Bits.{Bit, bits};
 ghost use Rattle.link_rules.specs.Circuit.{port_sinks, pin_sink};
 ghost use Rattle.link_rules.specs.Pins.{Connected, end_of, is_input, pins as pins_of};
-ghost use Rattle.link_rules.specs.Sound.{IsSoundNetlist};
+ghost use Rattle.verilog_net.specs.Sound.{IsSoundNetlist};
 ghost use Rattle.link_pins.specs.Rows.{ArePinSinks, AreSinks, ArePlaces};
 ghost use Rattle.link_pins.specs.Seen.{bit_at, AreBits, ArePins, HasShortNames, connected_at};
 

@@ -4,9 +4,9 @@ ghost use Rattle.std.specs.Prelude.{◌≡◌, ℕ, ◌<◌, ◌≤◌, ◌⊎�
 ghost use Rattle.std.specs.Prelude.{IfOk, OnOk};
 ghost use Rattle.std.specs.List.{All, slice_get};
 ghost use Rattle.std.specs.Option.{IsSomeAnd};
-ghost use Rattle.link_rules.specs.Bits.{bits};
+ghost use Rattle.verilog_net.specs.Bits.{bits};
 ghost use Rattle.link_rules.specs.Pins.{Connected, pins as pins_of};
-ghost use Rattle.link_rules.specs.Sound.{IsSoundNetlist};
+ghost use Rattle.verilog_net.specs.Sound.{IsSoundNetlist};
 ghost use Rattle.link_pins.specs.Places.{AreEntered, AreListed, HasRoom, IsPlaced, IsStretch};
 ghost use Rattle.link_pins.specs.Known.{known as held, AreRight, AreSinksOf};
 ghost use Rattle.link_pins.specs.Related.{IsIndexed, AreFound, number_at, group_at, AreKept};

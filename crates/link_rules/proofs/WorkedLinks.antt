@@ -29,7 +29,8 @@ use Rattle.elmore_tree.specs.Trees.{TreeParts}
 use Rattle.link_rules.specs.declared.circuit.Sink.{Sink}
 use Rattle.link_rules.specs.declared.circuit.NetPins.{NetPins}
 use Rattle.link_rules.specs.declared.circuit.Circuit.{Circuit}
-use Rattle.link_rules.specs.Bits.{bits, net_of}
+use Rattle.verilog_net.specs.Bits.{bits}
+use Rattle.link_rules.specs.Bits.{net_of}
 use Rattle.link_rules.specs.Pins.{pins}
 use Rattle.link_rules.specs.Ends.{Pin, Port}
 use Rattle.link_rules.specs.Arcs.{sink_at, arcs_of}

@@ -15,7 +15,7 @@ use Rattle.verilog_net.specs.declared.netlist.PortRole.TheVariants as roles
 use Rattle.sdc_read.specs.declared.constraints.Constraints.{Constraints}
 use Rattle.sdc_read.specs.declared.ports.PortSet.{PortSet}
 use Rattle.sdc_read.specs.Ports.{port_at}
-use Rattle.link_rules.specs.Bits.{Bit, bits}
+use Rattle.verilog_net.specs.Bits.{Bit, bits}
 use Rattle.link_rules.specs.Pins.{Connected, end_of, is_input, pins, inputs_on}
 use Rattle.link_rules.specs.Ends.{sink_name}
 use Rattle.link_rules.specs.Arcs.{sink_at}

@@ -11,7 +11,7 @@ use Rattle.sdc_read.specs.Ports.{port_at}
 use Rattle.link_rules.specs.declared.circuit.Sink.{Sink}
 use Rattle.link_rules.specs.declared.circuit.NetPins.{NetPins}
 use Rattle.link_rules.specs.declared.circuit.Circuit.{Circuit}
-use Rattle.link_rules.specs.Bits.{Bit, bits}
+use Rattle.verilog_net.specs.Bits.{Bit, bits}
 use Rattle.link_rules.specs.Pins.{Connected, end_of, inputs_on, outputs_on}
 use Rattle.link_rules.specs.Ends.{NetEnd, Port}
 use Rattle.link_rules.specs.Arcs.{arcs_of}

@@ -11,7 +11,7 @@ use Rattle.sdc_read.specs.declared.constraints.Constraints.{Constraints}
 use Rattle.sdc_read.specs.declared.ports.Sides.{Sides}
 use Rattle.sdc_read.specs.declared.ports.PortSet.{PortSet}
 use Rattle.sdc_read.specs.Ports.{port_at, no_sides}
-use Rattle.link_rules.specs.Bits.{Bit}
+use Rattle.verilog_net.specs.Bits.{Bit}
 
 -- the lesser and the greater of two numbers, of which a missing one is the other
 abbrev pub span_of : Option ℤ → Option ℤ → Option (ℤ × ℤ)

@@ -11,7 +11,7 @@ use Rattle.verilog_net.specs.declared.netlist.Netlist.{Netlist}
 use Rattle.elmore_tree.specs.Trees.{TreeParts, ground_sum, tap_sum}
 use Rattle.link_rules.specs.declared.fault.LinkFault.{LinkFault}
 use Rattle.link_rules.specs.declared.fault.LinkFault.TheVariants as faults
-use Rattle.link_rules.specs.Bits.{bits}
+use Rattle.verilog_net.specs.Bits.{bits}
 
 -- the greatest load of a net, in aF
 abbrev pub most_load : ℕ

@@ -8,7 +8,8 @@ use Rattle.name_numbers.specs.Names.{Text, value_of}
 use Rattle.verilog_net.specs.declared.netlist.Netlist.{Netlist}
 use Rattle.spef_read.specs.declared.parasitics.Name.{Name}
 use Rattle.spef_read.specs.declared.parasitics.Parasitics.{Parasitics}
-use Rattle.link_rules.specs.Bits.{bits, net_of}
+use Rattle.verilog_net.specs.Bits.{bits}
+use Rattle.link_rules.specs.Bits.{net_of}
 
 -- the bytes of a name of parasitics
 abbrev pub text_of : Parasitics → Name → Text

@@ -1,16 +1,14 @@
--- What reading leaves true of what is linked: names fit, numbers of tables and names lead somewhere, and quantities
--- keep their ranges.
-use Rattle.std.specs.Prelude.{◌≡◌, ◌≢◌, ℕ, ◌<◌, ◌≤◌, ◌^◌, ℤ, pos, [], ◌∷◌, length, Option, Some, IfSome}
-use Rattle.std.specs.List.{All, slice_get}
-use Rattle.name_numbers.specs.Names.{Text}
-use Rattle.xt_model.specs.Limits.{most_period, most_text_name}
+-- What reading leaves true of a library, of parasitics and of constraints that are linked: names fit, numbers of tables
+-- and names lead somewhere, and quantities keep their ranges.
+use Rattle.std.specs.Prelude.{ℕ, ◌<◌, pos, [], ◌∷◌, length, Option, IfSome}
+use Rattle.std.specs.List.{All}
+use Rattle.xt_model.specs.Limits.{most_period}
 use Rattle.xt_model.specs.Names.{IsName}
 use Rattle.xt_model.specs.Sound.{IsBetween}
+use Rattle.xt_number.specs.Quantities.{IsQuantity}
 use Rattle.liberty_cells.specs.declared.library.Library.{Library}
 use Rattle.liberty_cells.specs.declared.timing.Timing.{Timing}
 use Rattle.liberty_cells.specs.Pins.{PinParts}
-use Rattle.verilog_net.specs.declared.netlist.Instance.{Instance}
-use Rattle.verilog_net.specs.declared.netlist.Netlist.{Netlist}
 use Rattle.spef_read.specs.declared.parasitics.Name.{Name}
 use Rattle.spef_read.specs.declared.parasitics.CapText.{CapText}
 use Rattle.spef_read.specs.declared.parasitics.ResText.{ResText}
@@ -19,16 +17,6 @@ use Rattle.spef_read.specs.declared.parasitics.Parasitics.{Parasitics}
 use Rattle.sdc_read.specs.declared.constraints.Clock.{Clock}
 use Rattle.sdc_read.specs.declared.constraints.Constraints.{Constraints}
 use Rattle.sdc_read.specs.Ports.{IsInRange}
-use Rattle.link_rules.specs.Bits.{Bit, bits}
-
--- a name of a netlist: of 1 to 1,024 bytes, so that those of an instance and a pin make a name together
-pub record IsShortName (bytes : Text) : Type 0 where
-  pub name : IsName bytes
-  pub short : length bytes ≤ most_text_name
-
--- a quantity of a text is 0 to 2^40, in aF or in milliohms
-abbrev pub IsQuantity : ℤ → Type 0
-IsQuantity x = IsBetween (pos 0) (pos (2 ^ 40)) x
 
 -- ---- the library
 
@@ -48,23 +36,6 @@ pub record IsSoundPin (library : Library) (p : PinParts) : Type 0 where
 -- the tables that timing groups name are there, and capacitances keep their range
 pub record IsSoundLibrary (library : Library) : Type 0 where
   pub pins : All (λ cell. All (IsSoundPin library) cell.pins) library.cells
-
--- ---- the netlist
-
-pub record IsSoundInstance (i : Instance) : Type 0 where
-  pub cell : IsShortName i.cell
-  pub name : IsShortName i.name
-  pub pins : All (λ p. IsShortName p.0) i.pins
-
--- no two bits have the same name
-pub record HaveOwnNames (netlist : Netlist) : Type 0 where
-  pub differ : (i j : ℕ) (a b : Bit) → i < j → slice_get (bits netlist.nets) i ≡ Some a
-      → slice_get (bits netlist.nets) j ≡ Some b → a.name ≢ b.name
-
-pub record IsSoundNetlist (netlist : Netlist) : Type 0 where
-  pub nets : All (λ net. IsShortName net.0) netlist.nets
-  pub own : HaveOwnNames netlist
-  pub instances : All IsSoundInstance netlist.instances
 
 -- ---- the parasitics
 

@@ -13,7 +13,7 @@ use Rattle.spef_read.specs.declared.parasitics.Parasitics.{Parasitics}
 use Rattle.elmore_tree.specs.declared.part.Resistor.{Resistor}
 use Rattle.elmore_tree.specs.declared.part.Tap.{Tap}
 use Rattle.elmore_tree.specs.Trees.{TreeParts}
-use Rattle.link_rules.specs.Bits.{rising}
+use Rattle.verilog_net.specs.Bits.{rising}
 use Rattle.link_rules.specs.declared.circuit.Sink.{Sink}
 use Rattle.link_rules.specs.declared.circuit.NetPins.{NetPins}
 use Rattle.link_rules.specs.Ends.{NetEnd, end_name}

@@ -27,7 +27,7 @@ impl Model for End {
 
 impl End {
     ghost use Rattle.link_rules.specs.Ends.{Pin, Port, end_name, sink_name};
-    ghost use Rattle.link_rules.specs.Sound.{IsShortName};
+    ghost use Rattle.text_forms.specs.Names.{IsShortName};
 
     /// A port by its name.
     pub fn port(name: Name) -> End

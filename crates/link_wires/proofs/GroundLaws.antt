@@ -10,7 +10,7 @@ use Rattle.std.proofs.lemmas.Int.{ints}
 use Rattle.std.proofs.lemmas.List.{ext_get_or, get_or-map, length-map, get_or-set_same, get_or-set_other, length-set}
 use Rattle.std.proofs.lemmas.List.Sums.{sum_by-cons}
 use Rattle.std.proofs.Math.Seq.{drop-cons}
-use Rattle.link_rules.specs.Bits.{rising}
+use Rattle.verilog_net.specs.Bits.{rising}
 use Rattle.link_rules.specs.Wires.{Charge, sum_at}
 use Rattle.link_wires.specs.Wires.{charge_sum, AreWithin, AreNatural}
 use Rattle.link_wires.specs.Ground.{IsGathered}

@@ -8,7 +8,7 @@ use Rattle.link_rules.specs.declared.circuit.Sink.{Sink}
 use Rattle.link_rules.specs.declared.fault.LinkFault.{LinkFault}
 use Rattle.link_rules.specs.declared.fault.LinkFault.TheVariants as faults
 use Rattle.link_rules.specs.Limits.{greatest_load}
-use Rattle.link_rules.specs.Sound.{IsQuantity}
+use Rattle.xt_number.specs.Quantities.{IsQuantity}
 use Rattle.link_rules.specs.Wires.{Wire, charges_of, tap_of, tree_by}
 use Rattle.link_wires.specs.WireFaults.{limit_by, IsLimit}
 use Rattle.link_wires.specs.Wires.{charge_sum, HasQuantities, IsNumbered}

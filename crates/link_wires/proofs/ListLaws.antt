@@ -9,7 +9,7 @@ use Rattle.std.proofs.lemmas.List.Elements.{filter_map-append, All-cons, All-app
 use Rattle.name_numbers.specs.Names.{Text, number_of}
 use Rattle.xt_model.specs.Names.{IsName}
 use Rattle.link_rules.specs.declared.circuit.Sink.{Sink}
-use Rattle.link_rules.specs.Bits.{rising}
+use Rattle.verilog_net.specs.Bits.{rising}
 use Rattle.link_rules.specs.Wires.{Capacitor, NamedResistor, Wire, sink_node, sink_charges, names_on, has_resistors}
 use Rattle.link_wires.specs.Wires.{IsNumbered}
 

@@ -8,8 +8,8 @@ use Rattle.std.proofs.lemmas.List.Elements.{All-cons, All-append, All-nil, All-m
 use Rattle.name_numbers.specs.Names.{Text, number_of}
 use Rattle.elmore_tree.specs.Trees.{IsSoundResistor, IsSoundTap, ground_sum, tap_sum, IsSoundTree}
 use Rattle.link_rules.specs.declared.circuit.Sink.{Sink}
-use Rattle.link_rules.specs.Bits.{rising}
-use Rattle.link_rules.specs.Sound.{IsQuantity}
+use Rattle.verilog_net.specs.Bits.{rising}
+use Rattle.xt_number.specs.Quantities.{IsQuantity}
 use Rattle.link_rules.specs.Wires.{Capacitor, NamedResistor, Wire, Charge, has_resistors, node_count, node_at, sink_node, sink_charges, ground_by, ground_charge}
 use Rattle.link_rules.specs.Wires.{total_charges, charges_of, sum_at, tap_of, resistor_of, tree_by}
 use Rattle.link_wires.specs.Wires.{charge_sum, AreWithin, AreNatural, HasQuantities, IsNumbered}

@@ -10,7 +10,7 @@ use Rattle.link_rules.specs.declared.circuit.Sink.{Sink}
 use Rattle.link_rules.specs.declared.circuit.NetPins.{NetPins}
 use Rattle.link_rules.specs.declared.fault.LinkFault.{LinkFault}
 use Rattle.link_rules.specs.declared.fault.LinkFault.TheVariants as faults
-use Rattle.link_rules.specs.Sound.{IsQuantity}
+use Rattle.xt_number.specs.Quantities.{IsQuantity}
 use Rattle.link_rules.specs.Wires.{Wire, Charge, names_on, has_resistors, couplings_of}
 use Rattle.link_rules.specs.Bare as bare
 use Rattle.link_rules.specs.Refusals.{IsAcceptedWire, IsWireFault, IsFirstWireFault}

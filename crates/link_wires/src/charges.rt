@@ -4,7 +4,7 @@ ghost use Rattle.std.specs.Prelude.{◌≡◌, ◌+◌, ◌*◌, ◌<◌, ◌≤
 ghost use Rattle.std.specs.Prelude.{option_to_list};
 ghost use Rattle.name_parts.specs.Parts.{whole};
 ghost use Rattle.elmore_tree.specs.Trees.{tap_sum};
-ghost use Rattle.link_rules.specs.Bits.{rising};
+ghost use Rattle.verilog_net.specs.Bits.{rising};
 ghost use Rattle.link_rules.specs.Wires.{charges_of, sum_at, has_resistors, node_at, sink_node, couplings_of, tap_of};
 ghost use Rattle.link_rules.specs.Wires.{ground_charge, coupling_of};
 ghost use Rattle.link_wires.specs.Wires.{charge_sum, AreWithin, AreNatural};

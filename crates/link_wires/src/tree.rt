@@ -3,9 +3,9 @@
 ghost use Rattle.std.specs.Prelude.{◌≡◌, ◌≤◌, ◌<◌, ◌^◌, ◌+◌, ◌*◌, length, map, true, IfOk};
 ghost use Rattle.std.specs.List.{All};
 ghost use Rattle.elmore_tree.specs.Trees.{tap_sum};
-ghost use Rattle.link_rules.specs.Bits.{rising};
+ghost use Rattle.verilog_net.specs.Bits.{rising};
 ghost use Rattle.link_rules.specs.Limits.{greatest_load};
-ghost use Rattle.link_rules.specs.Sound.{IsQuantity};
+ghost use Rattle.xt_number.specs.Quantities.{IsQuantity};
 ghost use Rattle.link_rules.specs.Wires.{charges_of, resistor_of, sink_node, node_count, has_resistors, tree_by};
 ghost use Rattle.link_wires.specs.Wires.{charge_sum, HasQuantities, IsNumbered};
 

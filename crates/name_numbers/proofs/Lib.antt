@@ -1,2 +1,3 @@
 pub mod EightLaws
 pub mod NameLaws
+pub mod FoundLaws

@@ -27,11 +27,12 @@ use Rattle.hier_flatten.specs.Flat.{Scope, Flat, flat_instance, flat_pins, own_o
 use Rattle.hier_flatten.specs.Names.{is_repeated, is_some_bit, is_scalar, has_bit_name, has_equal_names, is_long, has_long_name}
 use Rattle.hier_flatten.specs.Meaning.{Outcome, named, within_limits, TopMeans, HierarchyMeans, circular, finite, unless_misfit, FlatMeans, AnswersFlat}
 use Rattle.hier_flatten.proofs.MeaningLaws.{top_has}
-use Rattle.link_rules.specs.Sound.{IsShortName, IsSoundInstance, IsSoundNetlist}
-use Rattle.sound_reads.specs.Modules.{IsSoundModule}
-use Rattle.sound_reads.proofs.Bytes.{each-append, each_push, each_at}
-use Rattle.sound_reads.proofs.OwnNames.{Shape, shapes, Has, AreNamedApart, IsDistinct, AreDistinct, IsBounded, bit_unknown}
-use Rattle.sound_reads.proofs.SoundNetlists.{own_names}
+use Rattle.text_forms.specs.Names.{IsShortName}
+use Rattle.verilog_net.specs.Sound.{IsSoundInstance, IsSoundNetlist}
+use Rattle.verilog_net.specs.Sound.{IsSoundModule}
+use Rattle.text_forms.proofs.Bytes.{each-append, each_push, each_at}
+use Rattle.verilog_net.proofs.OwnNames.{Shape, shapes, Has, AreNamedApart, IsDistinct, AreDistinct, IsBounded, bit_unknown}
+use Rattle.verilog_net.proofs.SoundNetlists.{own_names}
 
 -- ---- names
 abbrev IsPlain : ℕ → Type 0

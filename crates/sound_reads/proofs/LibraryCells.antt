@@ -31,8 +31,9 @@ use Rattle.liberty_cells.specs.Timings.{Numbered, with_table, related_of, add_us
 use Rattle.liberty_cells.specs.Pins.{PinParts, Pins, cap_at, cap_by, cap_of, pin_named, add_pins}
 use Rattle.liberty_cells.specs.Cells.{Cells, new_name, pins_of, add_cell, cells_of}
 use Rattle.liberty_cells.specs.Library.{library_in, library_meant}
-use Rattle.sound_reads.proofs.Bytes.{each-append, each_push, each-weaker}
-use Rattle.sound_reads.proofs.Values.{IsQuantity, zero_is, quantity_from}
+use Rattle.text_forms.proofs.Bytes.{each-append, each_push, each-weaker}
+use Rattle.xt_number.specs.Quantities.{IsQuantity}
+use Rattle.xt_number.proofs.Quantities.{zero_is, quantity_from}
 use Rattle.sound_reads.proofs.LibraryUnits.{units_are}
 
 -- ---- values one after another

@@ -35,7 +35,7 @@ use Rattle.xt_model.specs.Results.{◌>>=◌}
 use Rattle.sdc_read.specs.Objects.{names_in, port_names, all_of, named_bits, net_bits, has_role, same_role, change_found, change_names, change_if, change_all, change_as, change_objects, knows_clock, source_of, bit_name}
 use Rattle.sdc_read.specs.Meaning.{State, nothing, with_units, number_or_refusal, number_in, at_least, number_from, fall_in, or_name, with_clock, create_clock, bit_of, change_ports, if_known, means}
 use Rattle.sdc_read.specs.Reading.{command_means, commands_mean, constraints_in, constraints_of}
-use Rattle.sound_reads.proofs.Texts.{not_refused}
+use Rattle.text_forms.proofs.Kept.{not_refused}
 use Rattle.sdc_read.proofs.Ranges.{over_in_range, bits_in_range, if_in_range}
 
 -- ---- numbers

@@ -14,9 +14,6 @@ use Rattle.liberty_cells.specs.declared.timing.Timing.{Timing}
 use Rattle.liberty_cells.specs.Pins.{PinParts}
 use Rattle.liberty_cells.specs.Library.{library_meant}
 use Rattle.text_forms.specs.Stops.{Gives}
-use Rattle.verilog_net.specs.declared.netlist.Modules.{Modules}
-use Rattle.verilog_net.specs.declared.netlist.Netlist.{Netlist}
-use Rattle.verilog_net.specs.Reading.{modules_of, netlist_of_text}
 use Rattle.spef_read.specs.declared.parasitics.CapText.{CapText}
 use Rattle.spef_read.specs.declared.parasitics.ResText.{ResText}
 use Rattle.spef_read.specs.declared.parasitics.WireText.{WireText}
@@ -30,16 +27,12 @@ use Rattle.sdc_read.specs.Ports.{IsInRange}
 use Rattle.sdc_read.specs.Reading.{constraints_of}
 use Rattle.verilog_net.specs.Nets.{Nets}
 use Rattle.sound_reads.proofs.SdcPorts.{ports_in_range}
-use Rattle.link_rules.specs.Sound.{IsSoundTiming, IsSoundPin, IsSoundLibrary, IsSoundNetlist, IsSoundCap, IsSoundRes, IsSoundWire, AreSoundParasitics, IsSoundClock, AreSoundConstraints}
-use Rattle.sound_reads.proofs.Bytes.{each-weaker, name_is}
+use Rattle.link_rules.specs.Sound.{IsSoundTiming, IsSoundPin, IsSoundLibrary, IsSoundCap, IsSoundRes, IsSoundWire, AreSoundParasitics, IsSoundClock, AreSoundConstraints}
+use Rattle.text_forms.proofs.Bytes.{each-weaker, name_is}
 use Rattle.sound_reads.proofs.LibraryCells as cells
 use Rattle.sound_reads.proofs.SpefNames.{IsWhole, whole_is_name}
 use Rattle.sound_reads.proofs.SpefStates as spef
 use Rattle.sound_reads.proofs.SpefTexts.{text_fine}
-use Rattle.sound_reads.specs.Modules.{IsSoundModule}
-use Rattle.sound_reads.proofs.VerilogStates.{IsFineModule}
-use Rattle.sound_reads.proofs.VerilogTexts.{modules_fine, netlist_fine}
-use Rattle.sound_reads.proofs.SoundNetlists.{module_sound, netlist_sound}
 
 -- ---- the library
 module _ (library : Library) where
@@ -130,15 +123,6 @@ pub scales_answer : (r : Result Library TextFault) (bytes : List ℕ) → Gives 
     → IfOk r (λ library. IsScale library.time_scale × IsScale library.cap_scale)
 scales_answer (Ok library) bytes h = library_scales library (cells.library_fine bytes library h)
 scales_answer (Err fault) bytes h = tt
-
-pub netlist_answer : (r : Result Netlist TextFault) (bytes : List ℕ) → Gives (λ netlist. netlist) r (netlist_of_text bytes) → IfOk r IsSoundNetlist
-netlist_answer (Ok netlist) bytes h = netlist_sound netlist (netlist_fine bytes netlist h)
-netlist_answer (Err fault) bytes h = tt
-
-pub modules_answer : (r : Result Modules TextFault) (bytes : List ℕ) → Gives (λ m. m.list) r (modules_of bytes) → IfOk r (λ m. All IsSoundModule m.list)
-modules_answer (Ok m) bytes h =
-    All-from_recursion IsSoundModule m.list (each-weaker IsFineModule IsSoundModule module_sound m.list (modules_fine bytes m.list h))
-modules_answer (Err fault) bytes h = tt
 
 pub spef_answer : (r : Result Parasitics TextFault) (bytes : List ℕ) → Gives (λ p. p) r (parasitics_of bytes) → IfOk r AreSoundParasitics
 spef_answer (Ok p) bytes h = parasitics_sound bytes p h

@@ -11,8 +11,8 @@ use Rattle.xt_number.specs.Value.{without_zeros}
 use Rattle.spef_read.specs.declared.marks.Marks.{Marks}
 use Rattle.spef_read.specs.Words.{Text, are_digits, before, from_mark, place_of}
 use Rattle.spef_read.specs.Names.{NameMap, meant, unescaped, has_size, sized, mapped, mapped_name, whole_name, pair_name}
-use Rattle.sound_reads.proofs.Bytes.{IsGraphic, AreGraphic, each-append, each-drop, name_is}
-use Rattle.sound_reads.proofs.NameLaws.{found_value}
+use Rattle.text_forms.proofs.Bytes.{IsGraphic, AreGraphic, each-append, each-drop, name_is}
+use Rattle.name_numbers.proofs.FoundLaws.{found_value}
 
 -- a name, whose bytes are printable
 pub record IsWhole (name : Text) : Type 0 where

@@ -23,9 +23,10 @@ use Rattle.spef_read.specs.Meaning.{State, Names, nothing, with_separator, set_s
 use Rattle.spef_read.specs.Meaning.{number_as, unit_number, with_scale, unit_as, unit_power, set_unit, with_units, index_as, pair_number, pair_as, end_pair}
 use Rattle.spef_read.specs.Meaning.{enter_as, enter, node, net_as, net_by, net_name, value_as, value_of, total_as, net_total, first_as, first_node}
 use Rattle.spef_read.specs.Meaning.{cap_second_as, cap_node, res_second_as, res_node, cap_as, cap_value, res_as, res_value, net_of, end_net}
-use Rattle.sound_reads.proofs.Bytes.{IsGraphic, AreGraphic, each_push, each-weaker}
-use Rattle.sound_reads.proofs.NameLaws.{found_within, with_names, with_values, with_grows, with_further}
-use Rattle.sound_reads.proofs.Values.{IsQuantity, zero_is, quantity_from}
+use Rattle.text_forms.proofs.Bytes.{IsGraphic, AreGraphic, each_push, each-weaker}
+use Rattle.name_numbers.proofs.FoundLaws.{found_within, with_names, with_values, with_grows, with_further}
+use Rattle.xt_number.specs.Quantities.{IsQuantity}
+use Rattle.xt_number.proofs.Quantities.{zero_is, quantity_from}
 use Rattle.sound_reads.proofs.SpefNames.{IsWhole, IsGraphicMap, whole_name_is, pair_name_is}
 
 -- ---- what is true of a state

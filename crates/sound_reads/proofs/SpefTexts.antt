@@ -22,8 +22,8 @@ use Rattle.spef_read.specs.Forms.{cap_value_forms, resistors_forms, res_second_f
 use Rattle.spef_read.specs.Forms as grammar
 use Rattle.spef_read.specs.Meaning.{State, nothing, means}
 use Rattle.spef_read.specs.Reading.{rest_means, text_state}
-use Rattle.sound_reads.proofs.Bytes.{AreGraphic}
-use Rattle.sound_reads.proofs.Texts.{FormKeeps, text_keeps, not_refused}
+use Rattle.text_forms.proofs.Bytes.{AreGraphic}
+use Rattle.text_forms.proofs.Kept.{FormKeeps, text_keeps, not_refused}
 use Rattle.sound_reads.proofs.SpefTokens.{IsPrintable, words_printable}
 use Rattle.sound_reads.proofs.SpefStates.{IsFine, nothing_fine, separator_leads, pair_leads, brackets_lead, unit_number_leads, unit_leads, units_lead}
 use Rattle.sound_reads.proofs.SpefStates.{pair_number_leads, end_pair_leads, first_leads, cap_node_leads, res_node_leads, net_name_leads, total_leads}

@@ -21,7 +21,7 @@ use Rattle.spef_read.specs.declared.sort.Sort.{Sort}
 use Rattle.spef_read.specs.declared.sort.Sort.TheVariants as sorts
 use Rattle.spef_read.specs.Sorts.{sort_by, spef_tokens}
 use Rattle.spef_read.specs.Forms.{is_word}
-use Rattle.sound_reads.proofs.Bytes.{AreGraphic, IsGraphic, each-drop, front_passes}
+use Rattle.text_forms.proofs.Bytes.{AreGraphic, IsGraphic, each-drop, front_passes}
 
 -- the bytes of a token that is no string are printable
 abbrev AreFine : Option Kind → List ℕ → Type 0

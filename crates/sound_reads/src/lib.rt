@@ -1,18 +1,17 @@
-//! The readers of the files that are linked, each with what its value keeps: names fit, differ and lead somewhere, and
-//! quantities keep their ranges.
+//! The readers of a library, of parasitics and of constraints that are linked, and the flat netlist, each with what its
+//! value keeps: names fit, differ and lead somewhere, and quantities keep their ranges.
 #![tactic(auto)]
 
 ghost use Rattle.std.specs.Prelude.{◌≤◌, length, IfOk};
 ghost use Rattle.std.specs.List.{All};
 ghost use Rattle.text_forms.specs.Stops.{Gives};
 ghost use Rattle.liberty_cells.specs.Library.{library_meant};
-ghost use Rattle.verilog_net.specs.Reading.{modules_of, netlist_of_text};
 ghost use Rattle.hier_flatten.specs.Meaning.{FlatMeans, AnswersFlat};
-ghost use Rattle.sound_reads.specs.Modules.{IsSoundModule};
 ghost use Rattle.spef_read.specs.Reading.{parasitics_of};
 ghost use Rattle.sdc_read.specs.Reading.{constraints_of};
 ghost use Rattle.sdc_read.specs.Meaning.{IsScale};
-ghost use Rattle.link_rules.specs.Sound.{IsSoundLibrary, IsSoundNetlist, AreSoundParasitics, AreSoundConstraints};
+ghost use Rattle.link_rules.specs.Sound.{IsSoundLibrary, AreSoundParasitics, AreSoundConstraints};
+ghost use Rattle.verilog_net.specs.Sound.{IsSoundModule, IsSoundNetlist};
 
 use hier_flatten::FlatFault;
 use liberty_cells::Library;
@@ -31,26 +30,6 @@ pub fn read_library(alloc: Global, bytes: &[u8]) -> Result<Library, TextFault>
     ensures scales { IfOk result (λ library. IsScale library.time_scale × IsScale library.cap_scale) }
 {
     liberty_cells::read_library(alloc, bytes)
-}
-
-/// The module of a structural Verilog text, as `verilog_net::read_netlist` reads it: its names have 1 to 1,024 bytes,
-/// and no two of its bits have the same name.
-pub fn read_netlist(alloc: Global, bytes: &[u8]) -> Result<Netlist, TextFault>
-    requires { length bytes.now ≤ MOST_BYTES }
-    ensures value { Gives (λ netlist. netlist) result (netlist_of_text bytes.now) }
-    ensures sound { IfOk result IsSoundNetlist }
-{
-    verilog_net::read_netlist(alloc, bytes)
-}
-
-/// The modules of a structural Verilog text, as `verilog_net::read_modules` reads them: their names have 1 to 1,024
-/// bytes, and bounds of ranges are at most 1,048,575.
-pub fn read_modules(alloc: Global, bytes: &[u8]) -> Result<Modules, TextFault>
-    requires { length bytes.now ≤ MOST_BYTES }
-    ensures value { Gives (λ modules. modules.list) result (modules_of bytes.now) }
-    ensures sound { IfOk result (λ modules. All IsSoundModule modules.list) }
-{
-    verilog_net::read_modules(alloc, bytes)
 }
 
 /// The flat netlist of the modules of a text, as `hier_flatten::flatten` makes it: its names have 1 to 1,024 bytes, and

@@ -16,7 +16,7 @@ use crate::net_forms::{
     res_second, res_value, resistors, totalled,
 };
 use crate::sort::Sort;
-use text_forms::{Refused, Term, Terms};
+use text_forms::{Refused, Term, Terms, TokenSort};
 use xt_model::Code;
 
 /// A form that was read, whose last token is in this line.

@@ -3,11 +3,12 @@
 ghost use Rattle.std.specs.Prelude.{◌≡◌};
 ghost use Rattle.spef_read.specs.Sorts.{is_title, is_separator, is_unit, is_skipped, is_unsupported, is_connection};
 ghost use Rattle.spef_read.specs.Sorts.{net_sort, outer_sort, keyword_sort, index_sort, starred_sort, plain_sort};
-ghost use Rattle.spef_read.specs.Sorts.{word_sort, same_sort};
+ghost use Rattle.spef_read.specs.Sorts.{word_sort};
 
 use crate::words::{all_digits, are_digits, is_bracket, is_value};
 use text_forms::TokenSort;
 use xt_lex::Kind;
+use xt_model::Code;
 
 /// What a token is to the grammar.
 #[derive(Clone, Copy, Debug, PartialEq, Eq)]
@@ -62,16 +63,6 @@ pub enum Sort {
     Text,
     /// The end of the text.
     End,
-}
-
-impl Sort {
-    /// Whether both are one sort.
-    #[inline]
-    pub fn same(self, other: Sort) -> bool
-        ensures { result ≡ same_sort self other }
-    {
-        self as u8 == other as u8
-    }
 }
 
 /// Whether the word after `*` is that of an item of the header with one string.
@@ -247,12 +238,17 @@ fn word_sort(word: &[u8]) -> Sort
 }
 
 impl TokenSort for Sort {
-    ghost use Rattle.spef_read.specs.Sorts.{sort_by};
+    ghost use Rattle.spef_read.specs.Sorts.{sort_by, same_sort};
+    ghost use Rattle.spef_read.specs.Forms.{misfit};
     ghost use Rattle.spef_read.specs.declared.sort.Sort.TheVariants as sorts;
 
     ghost sort_by = { sort_by };
 
     ghost end = { sorts.End };
+
+    ghost same = { same_sort };
+
+    ghost misfit = { misfit };
 
     #[inline]
     fn sort_by(kind: Kind, text: &[u8]) -> Sort {
@@ -268,5 +264,17 @@ impl TokenSort for Sort {
     #[inline]
     fn end() -> Sort {
         Sort::End
+    }
+
+    #[inline]
+    fn same(self, other: Sort) -> bool {
+        self as u8 == other as u8
+    }
+
+    fn misfit(self) -> Code {
+        match self {
+            Sort::End => Code::S2,
+            _ => Code::S1,
+        }
     }
 }

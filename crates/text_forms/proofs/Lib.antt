@@ -1,2 +1,5 @@
+pub mod Bytes
 pub mod ByForms
-mod NameLaws
+mod Further
+pub mod Kept
+pub mod NameLaws

@@ -1,13 +1,13 @@
 -- Bytes that may be a name are one.
-use Rattle.std.proofs.Common.{◌≡◌, refl, ℕ, ◌≤◌, List, [], ◌∷◌, length, arith}
+use Rattle.std.proofs.Common.{◌≡◌, ℕ, ◌≤◌, List, [], ◌∷◌, length, arith}
 use Rattle.std.proofs.lemmas.Bool.{and_parts}
 use Rattle.std.proofs.lemmas.Bool.Decides.{nat_tests}
 use Rattle.std.proofs.lemmas.List.Elements.{All-from_recursion}
-use Rattle.std.specs.Prelude.{Bool, true, false, not, ◌&&◌, nat_le, ◌==◌}
+use Rattle.std.specs.Prelude.{true, not, ◌&&◌, nat_le, ◌==◌}
 use Rattle.std.specs.Char.{is_ascii_graphic}
 use Rattle.std.specs.List.{list_all, AllByRecursion}
 use Rattle.xt_model.specs.Names.{IsName}
-use Rattle.text_forms.specs.Names.{is_name}
+use Rattle.text_forms.specs.Names.{is_name, IsShortName}
 
 abbrev IsPrintable : ℕ → Type 0
 IsPrintable b = (33 ≤ b) × (b ≤ 126)
@@ -36,3 +36,10 @@ is_name_sound name e =
       short = grind (arith, nat_tests, short);
       printable = All-from_recursion IsPrintable name (printable name second.1);
     }
+
+pub short_name : (name : List ℕ) → is_name name ≡ true → IsShortName name
+short_name name e =
+    let first = and_parts (not (length name == 0)) (nat_le (length name) 1024 && list_all is_ascii_graphic name) e in
+    let second = and_parts (nat_le (length name) 1024) (list_all is_ascii_graphic name) first.1 in
+    let short = second.0 in
+    record { name = is_name_sound name e; short = grind (arith, nat_tests, short) }

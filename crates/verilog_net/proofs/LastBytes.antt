@@ -1,5 +1,5 @@
 -- Names that end with no `]`.
-use Rattle.std.specs.Prelude.{◌≡◌, refl, ℕ, suc, ◌+◌, ◌-◌, ◌==◌, Bool, true, false, List, [], ◌∷◌, length, slice_index, Option, None, if◌then◌else◌}
+use Rattle.std.specs.Prelude.{◌≡◌, refl, ℕ, suc, ◌+◌, ◌-◌, ◌==◌, Bool, true, false, [], ◌∷◌, length, slice_index, Option, None, if◌then◌else◌}
 use Rattle.std.proofs.Common.{ap, sym, ◌∙◌, arith}
 use Rattle.name_numbers.specs.Names.{Text}
 use Rattle.verilog_net.specs.Nets.{bit_from, bit_here, closed_number}

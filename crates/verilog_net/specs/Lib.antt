@@ -7,3 +7,5 @@ pub mod Ports
 pub mod Meaning
 pub mod Reading
 pub mod View
+pub mod Bits
+pub mod Sound

@@ -1,15 +1,12 @@
 -- What the values of the code stand for.
-use Rattle.std.specs.Prelude.{◌≡◌, false, [], ◌∷◌}
-use Rattle.text_forms.specs.Forms.{Refusal}
-use Rattle.xt_model.specs.declared.code.Code.{Code}
-use Rattle.verilog_net.specs.declared.sort.Sort.{Sort}
 use Rattle.verilog_net.specs.declared.item.Item.{Item}
 use Rattle.verilog_net.specs.declared.item.Item.TheVariants as items
-use Rattle.verilog_net.specs.declared.item.FormRead.{FormRead}
-use Rattle.verilog_net.specs.Sorts.{same_sort}
+use Rattle.text_forms.specs.declared.form_read.FormRead.{FormRead}
+use Rattle.text_forms.specs.Reader.{whole_of as form_whole}
+use Rattle.verilog_net.specs.declared.context.Context.{Context}
 use Rattle.verilog_net.specs.Forms.{Nothing, ModuleBegins, ModuleName, Listed, ModuleEnds, Scalar, Left, Right}
 use Rattle.verilog_net.specs.Forms.{Further, Instance, FurtherInstance, Pin, NoConnection, Constant, Net, Bit}
-use Rattle.verilog_net.specs.Forms.{InstanceEnds, WholeForm, Tokens, misfit, misfits}
+use Rattle.verilog_net.specs.Forms.{InstanceEnds, WholeForm}
 use Rattle.verilog_net.specs.Forms as grammar
 
 -- an item as the grammar has it
@@ -34,15 +31,5 @@ item_text (items.Bit bus number) = Bit bus.now number.now
 item_text items.InstanceEnds = InstanceEnds
 
 -- a form that was read
-abbrev pub whole_of : FormRead → WholeForm
-whole_of r = record { item = item_text r.item; line = r.line; next = r.next }
-
--- the refusal of the next token, which does not fit
-abbrev pub refusal_at : Tokens → Refusal Code
-refusal_at [] = record { line = misfits.last; code = misfits.early }
-refusal_at (t ∷ ts) = record { line = t.line; code = misfit t.sort }
-
--- there is a next token, but of another sort
-abbrev pub IsOther : Sort → Tokens → Type 0
-IsOther sort [] = Unit {0}
-IsOther sort (t ∷ ts) = same_sort sort t.sort ≡ false
+abbrev pub whole_of : FormRead Item Context → WholeForm
+whole_of r = form_whole item_text r

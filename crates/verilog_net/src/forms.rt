@@ -1,17 +1,16 @@
 //! One form of a netlist by what may come next.
 
-ghost use Rattle.std.specs.Prelude.{◌≡◌, ℕ, Some, None, [], ◌∷◌, true, MatchResult, IfOk, IfErr, Option};
-ghost use Rattle.text_forms.specs.Forms.{Form};
+ghost use Rattle.std.specs.Prelude.{◌≡◌, [], ◌∷◌};
 ghost use Rattle.text_forms.specs.Tokens.{token_of};
-ghost use Rattle.verilog_net.specs.Forms.{misfit, misfits, role_of, first_form, start_forms, behind_module_forms};
+ghost use Rattle.verilog_net.specs.Forms.{role_of, first_form, start_forms, behind_module_forms};
 ghost use Rattle.verilog_net.specs.Forms.{module_name_forms, header_forms, listed_forms, body_forms};
 ghost use Rattle.verilog_net.specs.Forms.{left_bound_forms, right_bound_forms, declared_forms, opening_forms};
 ghost use Rattle.verilog_net.specs.Forms.{pins_forms, pin_forms, connection_forms, bit_given_forms};
-ghost use Rattle.verilog_net.specs.Forms.{connected_forms, closed_forms, forms_in, is_done};
+ghost use Rattle.verilog_net.specs.Forms.{connected_forms, closed_forms, forms_in};
 ghost use Rattle.verilog_net.specs.Behind.{behind_one, behind_two};
 ghost use Rattle.verilog_net.specs.declared.sort.Sort.TheVariants.{Name, LeftBracket, RightParen, Comma};
-ghost use Rattle.text_forms.specs.Stops.{refusal_of, Reads};
-ghost use Rattle.verilog_net.specs.View.{item_text, whole_of, refusal_at, IsOther};
+ghost use Rattle.text_forms.specs.Stops.{Reads};
+ghost use Rattle.verilog_net.specs.View.{item_text, whole_of};
 
 use crate::context::Context;
 use crate::item::{FormRead, Item};
@@ -28,27 +27,6 @@ fn done(item: Item<'_>, line: u32, next: Context) -> FormRead<'_>
     FormRead { item, line, next }
 }
 
-/// The code of a token that does not fit.
-fn misfit(sort: Sort) -> Code
-    ensures { result ≡ misfit sort }
-{
-    match sort {
-        Sort::End => Code::V2,
-        Sort::Unsupported => Code::V3,
-        _ => Code::V1,
-    }
-}
-
-/// The refusal of a token that does not fit.
-pub fn refused(term: Term<'_, Sort>) -> Refused
-    ensures { refusal_of result ≡ record { line = term.entry.line; code = misfit term.entry.sort } }
-{
-    Refused {
-        line: term.line,
-        code: misfit(term.sort),
-    }
-}
-
 /// What the word of a declaration makes of the names after it.
 fn role_of(word: &[u8]) -> PortRole
     ensures { result ≡ role_of word.now }
@@ -62,42 +40,15 @@ fn role_of(word: &[u8]) -> PortRole
     }
 }
 
-/// The next token.
-#[inline]
-fn any<'a>(terms: &mut Terms<'a, Sort>) -> Result<Term<'a, Sort>, Refused>
-    ensures { MatchResult result (λ t. terms.old ≡ token_of t ∷ terms.new)
-        (λ r. (terms.old ≡ []) × (refusal_of r ≡ refusal_at [])) }
-{
-    terms.next_term().ok_or(Refused {
-        line: 1,
-        code: Code::V2,
-    })
-}
-
-/// The next token, which has to be of this sort.
-#[inline]
-fn expect<'a>(sort: Sort, terms: &mut Terms<'a, Sort>) -> Result<Term<'a, Sort>, Refused>
-    ensures found { IfOk result (λ t. (terms.old ≡ token_of t ∷ terms.new) × (t.sort ≡ sort)) }
-    ensures refused { IfErr result (λ r. refusal_of r ≡ refusal_at terms.old) }
-    ensures other { IfErr result (λ r. IsOther sort terms.old) }
-{
-    let term = any(terms)?;
-    if sort.same(term.sort) {
-        Ok(term)
-    } else {
-        Err(refused(term))
-    }
-}
-
 /// At the start of a text.
 fn at_start<'a>(terms: &mut Terms<'a, Sort>) -> Result<FormRead<'a>, Refused>
     ensures { Reads (λ r. (whole_of r, terms.new)) result (first_form start_forms terms.old) }
 {
-    let first = any(terms)?;
+    let first = terms.any()?;
     match first.sort {
         Sort::Module => Ok(done(Item::ModuleBegins, first.line, Context::ModuleName)),
         Sort::Unsupported => Ok(done(Item::Refused(Code::V1), first.line, Context::Done)),
-        _ => Err(refused(first)),
+        _ => Err(first.refused()),
     }
 }
 
@@ -105,12 +56,12 @@ fn at_start<'a>(terms: &mut Terms<'a, Sort>) -> Result<FormRead<'a>, Refused>
 fn behind_module<'a>(terms: &mut Terms<'a, Sort>) -> Result<FormRead<'a>, Refused>
     ensures { Reads (λ r. (whole_of r, terms.new)) result (first_form behind_module_forms terms.old) }
 {
-    let first = any(terms)?;
+    let first = terms.any()?;
     match first.sort {
         Sort::Module => Ok(done(Item::ModuleBegins, first.line, Context::ModuleName)),
         Sort::End => Ok(done(Item::Nothing, first.line, Context::Done)),
         Sort::Unsupported => Ok(done(Item::Refused(Code::V1), first.line, Context::Done)),
-        _ => Err(refused(first)),
+        _ => Err(first.refused()),
     }
 }
 
@@ -118,7 +69,7 @@ fn behind_module<'a>(terms: &mut Terms<'a, Sort>) -> Result<FormRead<'a>, Refuse
 fn module_name<'a>(terms: &mut Terms<'a, Sort>) -> Result<FormRead<'a>, Refused>
     ensures { Reads (λ r. (whole_of r, terms.new)) result (first_form module_name_forms terms.old) }
 {
-    let name = expect(Sort::Name, terms)?;
+    let name = terms.expect(Sort::Name)?;
     Ok(done(Item::ModuleName(name.text), name.line, Context::Header))
 }
 
@@ -130,11 +81,11 @@ fn header_name<'a>(
     ensures { Reads (λ r. (whole_of r, terms.new)) result
         (behind_one Comma listed_forms (token_of mark.entry) terms.old) }
 {
-    let name = any(terms)?;
+    let name = terms.any()?;
     match name.sort {
         Sort::Name => Ok(done(Item::Listed(name.text), name.line, Context::Listed)),
         Sort::Direction => Ok(done(Item::Refused(Code::V3), name.line, Context::Done)),
-        _ => Err(refused(name)),
+        _ => Err(name.refused()),
     }
 }
 
@@ -146,11 +97,11 @@ fn header_end<'a>(
     ensures { Reads (λ r. (whole_of r, terms.new)) result
         (behind_one RightParen listed_forms (token_of paren.entry) terms.old) }
 {
-    let second = any(terms)?;
+    let second = terms.any()?;
     match second.sort {
         Sort::Semicolon => Ok(done(Item::Nothing, second.line, Context::Body)),
         Sort::Direction => Ok(done(Item::Refused(Code::V3), second.line, Context::Done)),
-        _ => Err(refused(second)),
+        _ => Err(second.refused()),
     }
 }
 
@@ -158,12 +109,12 @@ fn header_end<'a>(
 fn header<'a>(terms: &mut Terms<'a, Sort>) -> Result<FormRead<'a>, Refused>
     ensures { Reads (λ r. (whole_of r, terms.new)) result (first_form header_forms terms.old) }
 {
-    let first = any(terms)?;
+    let first = terms.any()?;
     match first.sort {
         Sort::Semicolon => Ok(done(Item::Nothing, first.line, Context::Body)),
         Sort::LeftParen => header_name(first, terms),
         Sort::Direction => Ok(done(Item::Refused(Code::V3), first.line, Context::Done)),
-        _ => Err(refused(first)),
+        _ => Err(first.refused()),
     }
 }
 
@@ -171,12 +122,12 @@ fn header<'a>(terms: &mut Terms<'a, Sort>) -> Result<FormRead<'a>, Refused>
 fn listed<'a>(terms: &mut Terms<'a, Sort>) -> Result<FormRead<'a>, Refused>
     ensures { Reads (λ r. (whole_of r, terms.new)) result (first_form listed_forms terms.old) }
 {
-    let first = any(terms)?;
+    let first = terms.any()?;
     match first.sort {
         Sort::Comma => header_name(first, terms),
         Sort::RightParen => header_end(first, terms),
         Sort::Direction => Ok(done(Item::Refused(Code::V3), first.line, Context::Done)),
-        _ => Err(refused(first)),
+        _ => Err(first.refused()),
     }
 }
 
@@ -184,11 +135,11 @@ fn listed<'a>(terms: &mut Terms<'a, Sort>) -> Result<FormRead<'a>, Refused>
 fn in_body<'a>(terms: &mut Terms<'a, Sort>) -> Result<FormRead<'a>, Refused>
     ensures { Reads (λ r. (whole_of r, terms.new)) result (first_form body_forms terms.old) }
 {
-    let first = any(terms)?;
+    let first = terms.any()?;
     match first.sort {
         Sort::Direction | Sort::NetType => {
             let role = role_of(first.text);
-            let second = any(terms)?;
+            let second = terms.any()?;
             match second.sort {
                 Sort::Name => Ok(done(
                     Item::Scalar(role, second.text),
@@ -196,23 +147,23 @@ fn in_body<'a>(terms: &mut Terms<'a, Sort>) -> Result<FormRead<'a>, Refused>
                     Context::Declared,
                 )),
                 Sort::LeftBracket => {
-                    let number = expect(Sort::Number, terms)?;
+                    let number = terms.expect(Sort::Number)?;
                     Ok(done(
                         Item::Left(role, number.text),
                         number.line,
                         Context::LeftBound,
                     ))
                 }
-                _ => Err(refused(second)),
+                _ => Err(second.refused()),
             }
         }
         Sort::Name => {
-            let name = expect(Sort::Name, terms)?;
+            let name = terms.expect(Sort::Name)?;
             let item = Item::Instance(first.text, name.text, name.line);
             Ok(done(item, name.line, Context::Opening))
         }
         Sort::Endmodule => Ok(done(Item::ModuleEnds, first.line, Context::BehindModule)),
-        _ => Err(refused(first)),
+        _ => Err(first.refused()),
     }
 }
 
@@ -220,8 +171,8 @@ fn in_body<'a>(terms: &mut Terms<'a, Sort>) -> Result<FormRead<'a>, Refused>
 fn left_bound<'a>(terms: &mut Terms<'a, Sort>) -> Result<FormRead<'a>, Refused>
     ensures { Reads (λ r. (whole_of r, terms.new)) result (first_form left_bound_forms terms.old) }
 {
-    expect(Sort::Colon, terms)?;
-    let number = expect(Sort::Number, terms)?;
+    terms.expect(Sort::Colon)?;
+    let number = terms.expect(Sort::Number)?;
     Ok(done(Item::Right(number.text), number.line, Context::RightBound))
 }
 
@@ -229,8 +180,8 @@ fn left_bound<'a>(terms: &mut Terms<'a, Sort>) -> Result<FormRead<'a>, Refused>
 fn right_bound<'a>(terms: &mut Terms<'a, Sort>) -> Result<FormRead<'a>, Refused>
     ensures { Reads (λ r. (whole_of r, terms.new)) result (first_form right_bound_forms terms.old) }
 {
-    expect(Sort::RightBracket, terms)?;
-    let name = expect(Sort::Name, terms)?;
+    terms.expect(Sort::RightBracket)?;
+    let name = terms.expect(Sort::Name)?;
     Ok(done(Item::Further(name.text), name.line, Context::Declared))
 }
 
@@ -238,14 +189,14 @@ fn right_bound<'a>(terms: &mut Terms<'a, Sort>) -> Result<FormRead<'a>, Refused>
 fn declared<'a>(terms: &mut Terms<'a, Sort>) -> Result<FormRead<'a>, Refused>
     ensures { Reads (λ r. (whole_of r, terms.new)) result (first_form declared_forms terms.old) }
 {
-    let first = any(terms)?;
+    let first = terms.any()?;
     match first.sort {
         Sort::Comma => {
-            let name = expect(Sort::Name, terms)?;
+            let name = terms.expect(Sort::Name)?;
             Ok(done(Item::Further(name.text), name.line, Context::Declared))
         }
         Sort::Semicolon => Ok(done(Item::Nothing, first.line, Context::Body)),
-        _ => Err(refused(first)),
+        _ => Err(first.refused()),
     }
 }
 
@@ -253,11 +204,11 @@ fn declared<'a>(terms: &mut Terms<'a, Sort>) -> Result<FormRead<'a>, Refused>
 fn opening<'a>(terms: &mut Terms<'a, Sort>) -> Result<FormRead<'a>, Refused>
     ensures { Reads (λ r. (whole_of r, terms.new)) result (first_form opening_forms terms.old) }
 {
-    let first = any(terms)?;
+    let first = terms.any()?;
     match first.sort {
         Sort::LeftParen => Ok(done(Item::Nothing, first.line, Context::Pins)),
         Sort::LeftBracket => Ok(done(Item::Refused(Code::V3), first.line, Context::Done)),
-        _ => Err(refused(first)),
+        _ => Err(first.refused()),
     }
 }
 
@@ -265,17 +216,17 @@ fn opening<'a>(terms: &mut Terms<'a, Sort>) -> Result<FormRead<'a>, Refused>
 fn pins<'a>(terms: &mut Terms<'a, Sort>) -> Result<FormRead<'a>, Refused>
     ensures { Reads (λ r. (whole_of r, terms.new)) result (first_form pins_forms terms.old) }
 {
-    let first = any(terms)?;
+    let first = terms.any()?;
     match first.sort {
         Sort::RightParen => Ok(done(Item::InstanceEnds, first.line, Context::Closed)),
         Sort::Dot => {
-            let name = expect(Sort::Name, terms)?;
+            let name = terms.expect(Sort::Name)?;
             Ok(done(Item::Pin(name.text), name.line, Context::Pin))
         }
         Sort::Name | Sort::Constant | Sort::LeftBrace => {
             Ok(done(Item::Refused(Code::V3), first.line, Context::Done))
         }
-        _ => Err(refused(first)),
+        _ => Err(first.refused()),
     }
 }
 
@@ -283,7 +234,7 @@ fn pins<'a>(terms: &mut Terms<'a, Sort>) -> Result<FormRead<'a>, Refused>
 fn pin<'a>(terms: &mut Terms<'a, Sort>) -> Result<FormRead<'a>, Refused>
     ensures { Reads (λ r. (whole_of r, terms.new)) result (first_form pin_forms terms.old) }
 {
-    let paren = expect(Sort::LeftParen, terms)?;
+    let paren = terms.expect(Sort::LeftParen)?;
     Ok(done(Item::Nothing, paren.line, Context::Connection))
 }
 
@@ -296,15 +247,15 @@ fn bit<'a>(
     ensures { Reads (λ r. (whole_of r, terms.new)) result
         (behind_two Name LeftBracket connection_forms (token_of bus.entry) (token_of bracket.entry) terms.old) }
 {
-    let number = expect(Sort::Number, terms)?;
-    let last = any(terms)?;
+    let number = terms.expect(Sort::Number)?;
+    let last = terms.any()?;
     match last.sort {
         Sort::RightBracket => {
             let item = Item::Bit(bus.text, number.text);
             Ok(done(item, last.line, Context::BitGiven))
         }
         Sort::Colon => Ok(done(Item::Refused(Code::V3), last.line, Context::Done)),
-        _ => Err(refused(last)),
+        _ => Err(last.refused()),
     }
 }
 
@@ -316,11 +267,11 @@ fn net_or_bit<'a>(
     ensures { Reads (λ r. (whole_of r, terms.new)) result
         (behind_one Name connection_forms (token_of name.entry) terms.old) }
 {
-    let second = any(terms)?;
+    let second = terms.any()?;
     match second.sort {
         Sort::RightParen => Ok(done(Item::Net(name.text), second.line, Context::Connected)),
         Sort::LeftBracket => bit(name, second, terms),
-        _ => Err(refused(second)),
+        _ => Err(second.refused()),
     }
 }
 
@@ -328,16 +279,16 @@ fn net_or_bit<'a>(
 fn connection<'a>(terms: &mut Terms<'a, Sort>) -> Result<FormRead<'a>, Refused>
     ensures { Reads (λ r. (whole_of r, terms.new)) result (first_form connection_forms terms.old) }
 {
-    let first = any(terms)?;
+    let first = terms.any()?;
     match first.sort {
         Sort::RightParen => Ok(done(Item::NoConnection, first.line, Context::Connected)),
         Sort::Constant => {
-            let paren = expect(Sort::RightParen, terms)?;
+            let paren = terms.expect(Sort::RightParen)?;
             Ok(done(Item::Constant, paren.line, Context::Connected))
         }
         Sort::Name => net_or_bit(first, terms),
         Sort::LeftBrace => Ok(done(Item::Refused(Code::V3), first.line, Context::Done)),
-        _ => Err(refused(first)),
+        _ => Err(first.refused()),
     }
 }
 
@@ -345,7 +296,7 @@ fn connection<'a>(terms: &mut Terms<'a, Sort>) -> Result<FormRead<'a>, Refused>
 fn bit_given<'a>(terms: &mut Terms<'a, Sort>) -> Result<FormRead<'a>, Refused>
     ensures { Reads (λ r. (whole_of r, terms.new)) result (first_form bit_given_forms terms.old) }
 {
-    let paren = expect(Sort::RightParen, terms)?;
+    let paren = terms.expect(Sort::RightParen)?;
     Ok(done(Item::Nothing, paren.line, Context::Connected))
 }
 
@@ -357,16 +308,16 @@ fn further_pin<'a>(
     ensures { Reads (λ r. (whole_of r, terms.new)) result
         (behind_one Comma connected_forms (token_of comma.entry) terms.old) }
 {
-    let second = any(terms)?;
+    let second = terms.any()?;
     match second.sort {
         Sort::Dot => {
-            let name = expect(Sort::Name, terms)?;
+            let name = terms.expect(Sort::Name)?;
             Ok(done(Item::Pin(name.text), name.line, Context::Pin))
         }
         Sort::Name | Sort::Constant | Sort::LeftBrace => {
             Ok(done(Item::Refused(Code::V3), second.line, Context::Done))
         }
-        _ => Err(refused(second)),
+        _ => Err(second.refused()),
     }
 }
 
@@ -374,11 +325,11 @@ fn further_pin<'a>(
 fn connected<'a>(terms: &mut Terms<'a, Sort>) -> Result<FormRead<'a>, Refused>
     ensures { Reads (λ r. (whole_of r, terms.new)) result (first_form connected_forms terms.old) }
 {
-    let first = any(terms)?;
+    let first = terms.any()?;
     match first.sort {
         Sort::RightParen => Ok(done(Item::InstanceEnds, first.line, Context::Closed)),
         Sort::Comma => further_pin(first, terms),
-        _ => Err(refused(first)),
+        _ => Err(first.refused()),
     }
 }
 
@@ -386,15 +337,15 @@ fn connected<'a>(terms: &mut Terms<'a, Sort>) -> Result<FormRead<'a>, Refused>
 fn closed<'a>(terms: &mut Terms<'a, Sort>) -> Result<FormRead<'a>, Refused>
     ensures { Reads (λ r. (whole_of r, terms.new)) result (first_form closed_forms terms.old) }
 {
-    let first = any(terms)?;
+    let first = terms.any()?;
     match first.sort {
         Sort::Comma => {
-            let name = expect(Sort::Name, terms)?;
+            let name = terms.expect(Sort::Name)?;
             let item = Item::FurtherInstance(name.text, name.line);
             Ok(done(item, name.line, Context::Opening))
         }
         Sort::Semicolon => Ok(done(Item::Nothing, first.line, Context::Body)),
-        _ => Err(refused(first)),
+        _ => Err(first.refused()),
     }
 }
 
@@ -402,8 +353,8 @@ fn closed<'a>(terms: &mut Terms<'a, Sort>) -> Result<FormRead<'a>, Refused>
 fn at_end<'a>(terms: &mut Terms<'a, Sort>) -> Result<FormRead<'a>, Refused>
     ensures { Reads (λ r. (whole_of r, terms.new)) result (first_form [] terms.old) }
 {
-    let first = any(terms)?;
-    Err(refused(first))
+    let first = terms.any()?;
+    Err(first.refused())
 }
 
 /// The next form.
@@ -428,15 +379,5 @@ pub fn read_form<'a>(context: Context, terms: &mut Terms<'a, Sort>) -> Result<Fo
         Context::Connected => connected(terms),
         Context::Closed => closed(terms),
         Context::Done => at_end(terms),
-    }
-}
-
-/// Whether the text is at its end.
-pub fn is_done(context: Context) -> bool
-    ensures { result ≡ is_done context }
-{
-    match context {
-        Context::Done => true,
-        _ => false,
     }
 }

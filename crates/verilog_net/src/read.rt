@@ -1,56 +1,19 @@
 //! From the bytes of a netlist to its modules.
 
-ghost use Rattle.std.specs.Prelude.{◌≡◌, ◌≤◌, length, false};
-ghost use Rattle.verilog_net.specs.Forms.{is_done};
-ghost use Rattle.verilog_net.specs.declared.context.Context.TheVariants.{Start};
-ghost use Rattle.verilog_net.specs.Reading.{rest_means, text_state, modules_in, modules_of, one_of, netlist_of_text};
-ghost use Rattle.text_forms.specs.Stops.{Gives, Steps};
+ghost use Rattle.std.specs.Prelude.{◌≡◌, ◌≤◌, length, IfOk};
+ghost use Rattle.std.specs.List.{All};
+ghost use Rattle.verilog_net.specs.Reading.{text_state, modules_in, modules_of, one_of, netlist_of_text};
+ghost use Rattle.verilog_net.specs.Sound.{IsSoundModule, IsSoundNetlist};
+ghost use Rattle.text_forms.specs.Stops.{Gives};
 
 use crate::context::Context;
-use crate::forms::{is_done, read_form, refused};
 use crate::netlist::{Modules, Netlist};
-use crate::sort::Sort;
 use crate::state::Progress;
 use name_numbers::TextKey;
 use std::alloc::Global;
-use text_forms::{Terms, tokens_refused};
+use text_forms::{Terms, read_all, tokens_refused};
 use xt_lex::{MOST_BYTES, Rules, TextFault};
 use xt_model::{Code, Row};
-
-/// Reads one form and does what it says.
-fn step<'a>(
-    alloc: Global,
-    context: Context,
-    terms: &mut Terms<'a, Sort>,
-    state: &mut Progress<'a>,
-) -> Result<Context, TextFault>
-    requires { is_done context ≡ false }
-    ensures { Steps rest_means context terms.old state.old result terms.new state.new }
-{
-    let read = read_form(context, terms)?;
-    match state.act(alloc, read.item) {
-        Ok(()) => Ok(read.next),
-        Err(stop) => Err(stop.at_line(read.line)),
-    }
-}
-
-/// Reads a text without a fault of its tokens to its end.
-fn read_all<'a>(
-    alloc: Global,
-    terms: &mut Terms<'a, Sort>,
-    state: &mut Progress<'a>,
-) -> Result<(), TextFault>
-    ensures { Gives (λ _. state.new) result (rest_means Start terms.old state.old) }
-{
-    let mut context = Context::Start;
-    'forms: while !is_done(context) {
-        context = step(alloc, context, terms, state)?;
-    }
-    match terms.next_term() {
-        None => Ok(()),
-        Some(more) => Err(TextFault::from(refused(more))),
-    }
-}
 
 /// The modules of a text, where one alone is admitted or several are.
 #[tactic(auto, unfolding(crate::specs::Reading::text_state))]
@@ -62,7 +25,8 @@ fn modules(alloc: Global, single: bool, bytes: &[u8]) -> Result<Vec<Netlist>, Te
         return Err(TextFault::from(refused));
     }
     let mut state = Progress::new(alloc, TextKey::of(bytes), single);
-    let read = read_all(alloc, &mut Terms::new(bytes, Rules::Verilog), &mut state);
+    let mut terms = Terms::new(bytes, Rules::Verilog);
+    let read = read_all(alloc, Context::Start, &mut terms, &mut state);
     // What is left of the state is dropped here alone, whatever was read.
     let ended = state.into_ended();
     match read {
@@ -84,7 +48,8 @@ fn modules(alloc: Global, single: bool, bytes: &[u8]) -> Result<Vec<Netlist>, Te
 /// bytes.
 pub fn read_modules(alloc: Global, bytes: &[u8]) -> Result<Modules, TextFault>
     requires { length bytes.now ≤ MOST_BYTES }
-    ensures { Gives (λ m. m.list) result (modules_of bytes.now) }
+    ensures value { Gives (λ m. m.list) result (modules_of bytes.now) }
+    ensures sound { IfOk result (λ m. All IsSoundModule m.list) }
 {
     let list = modules(alloc, false, bytes)?;
     Ok(Modules {
@@ -96,7 +61,8 @@ pub fn read_modules(alloc: Global, bytes: &[u8]) -> Result<Modules, TextFault>
 /// second module and at the `)` after a whole bus as a connection. `NoMemory`, time and memory are as there.
 pub fn read_netlist(alloc: Global, bytes: &[u8]) -> Result<Netlist, TextFault>
     requires { length bytes.now ≤ MOST_BYTES }
-    ensures { Gives (λ m. m) result (netlist_of_text bytes.now) }
+    ensures value { Gives (λ m. m) result (netlist_of_text bytes.now) }
+    ensures sound { IfOk result IsSoundNetlist }
 {
     let mut list = modules(alloc, true, bytes)?;
     if list.is_empty() {

@@ -2,10 +2,11 @@
 
 ghost use Rattle.std.specs.Prelude.{◌≡◌};
 ghost use Rattle.verilog_net.specs.Sorts.{is_direction, is_net_type, is_unsupported};
-ghost use Rattle.verilog_net.specs.Sorts.{name_sort, digits_sort, letters_sort, word_sort, mark_sort, same_sort};
+ghost use Rattle.verilog_net.specs.Sorts.{name_sort, digits_sort, letters_sort, word_sort, mark_sort};
 
 use text_forms::{TokenSort, is_name};
 use xt_lex::Kind;
+use xt_model::Code;
 
 /// What a token is to the grammar. A token of another sort than these fits nowhere.
 #[derive(Clone, Copy, Debug, PartialEq, Eq)]
@@ -33,16 +34,6 @@ pub enum Sort {
     Other,
     /// The end of the text.
     End,
-}
-
-impl Sort {
-    /// Whether both are one sort.
-    #[inline]
-    pub fn same(self, other: Sort) -> bool
-        ensures { result ≡ same_sort self other }
-    {
-        self as u8 == other as u8
-    }
 }
 
 /// Whether the word is a direction.
@@ -162,12 +153,17 @@ fn mark_sort(mark: &[u8]) -> Sort
 }
 
 impl TokenSort for Sort {
-    ghost use Rattle.verilog_net.specs.Sorts.{sort_by};
+    ghost use Rattle.verilog_net.specs.Sorts.{sort_by, same_sort};
+    ghost use Rattle.verilog_net.specs.Forms.{misfit};
     ghost use Rattle.verilog_net.specs.declared.sort.Sort.TheVariants.{End};
 
     ghost sort_by = { sort_by };
 
     ghost end = { End };
+
+    ghost same = { same_sort };
+
+    ghost misfit = { misfit };
 
     #[inline]
     fn sort_by(kind: Kind, text: &[u8]) -> Sort {
@@ -183,5 +179,18 @@ impl TokenSort for Sort {
     #[inline]
     fn end() -> Sort {
         Sort::End
+    }
+
+    #[inline]
+    fn same(self, other: Sort) -> bool {
+        self as u8 == other as u8
+    }
+
+    fn misfit(self) -> Code {
+        match self {
+            Sort::End => Code::V2,
+            Sort::Unsupported => Code::V3,
+            _ => Code::V1,
+        }
     }
 }

@@ -1,25 +1,28 @@
 //! What the forms of a netlist mean, one after another.
 
-ghost use Rattle.std.specs.Prelude.{◌≡◌, ℕ, [], map, Ok};
+ghost use Rattle.std.specs.Prelude.{◌≡◌, ℕ, false, [], map, Ok, MatchOption};
 ghost use Rattle.std.specs.List.{list_all};
 ghost use Rattle.verilog_net.specs.Nets.{is_port, named_bit};
 ghost use Rattle.verilog_net.specs.Meaning.{nothing, begin_module, name_module, list_name, end_module, declare};
 ghost use Rattle.verilog_net.specs.Meaning.{with_further, declare_new};
 ghost use Rattle.verilog_net.specs.Meaning.{declare_scalar, left_bound, right_bound, begin_further, begin_instance};
-ghost use Rattle.verilog_net.specs.Meaning.{begin_pin, connect, connect_name, connect_bit, end_instance, means};
-ghost use Rattle.text_forms.specs.Stops.{Changes};
-ghost use Rattle.verilog_net.specs.View.{item_text};
+ghost use Rattle.verilog_net.specs.Meaning.{begin_pin, connect, connect_name, connect_bit, end_instance};
+ghost use Rattle.text_forms.specs.Misfits.{IsFurther};
+ghost use Rattle.text_forms.specs.Stops.{Changes, Reads, refusal_of};
 
-use crate::item::Item;
+use crate::context::Context;
+use crate::forms::read_form;
+use crate::item::{FormRead, Item};
 use crate::name::Name;
 use crate::netlist::{Instance, Net, Netlist, PortRole, Wire};
 use crate::nets::{has_bit, has_bit_net, is_port, named_bit, note_net, number_of, same_range};
 use crate::pin_names::PinNames;
+use crate::sort::Sort;
 use name_numbers::{NameTable, Named, Names, TextKey};
 use std::alloc::Global;
 use std::marker::Model;
 use std::mem;
-use text_forms::Stop;
+use text_forms::{FormReader, Refused, Stop, Terms};
 use xt_model::{Code, Row};
 
 /// What the forms of a netlist said so far.
@@ -373,9 +376,75 @@ impl<'a> Progress<'a> {
         Ok(())
     }
 
-    /// What a form means.
+    /// The modules that ended.
+    pub fn into_ended(self) -> Vec<Netlist>
+        ensures { result.items ≡ self.entry.ended }
+    {
+        self.ended
+    }
+}
+
+impl<'a> FormReader for Progress<'a> {
+    ghost use Rattle.verilog_net.specs.declared.sort.Sort.{Sort};
+    ghost use Rattle.verilog_net.specs.Sorts.{same_sort};
+    ghost use Rattle.verilog_net.specs.declared.sort.Sort.TheVariants.{End};
+    ghost use Rattle.verilog_net.specs.Forms.{forms_in, is_done, first_form, misfit};
+    ghost use Rattle.verilog_net.specs.Forms as grammar;
+    ghost use Rattle.verilog_net.specs.Meaning.{State, means};
+    ghost use Rattle.verilog_net.specs.View.{item_text, whole_of};
+
+    type Sort = Sort;
+
+    type Terms = Terms<'a, Sort>;
+
+    type Context = Context;
+
+    type Item = Item<'a>;
+
+    ghost tokens = { λ ts. ts };
+
+    ghost Slot = { Sort };
+
+    ghost Said = { grammar.Item };
+
+    ghost fits = { same_sort };
+
+    ghost forms_in = { forms_in };
+
+    ghost is_done = { is_done };
+
+    ghost item_of = { item_text };
+
+    ghost State = { State };
+
+    ghost state_of = { λ s. s };
+
+    ghost means = { means };
+
+    fn is_done(context: Context) -> bool
+        ensures { result ≡ is_done context }
+    {
+        match context {
+            Context::Done => true,
+            _ => false,
+        }
+    }
+
+    fn read_form(context: Context, terms: &mut Terms<'a, Sort>) -> Result<FormRead<'a>, Refused>
+        requires { is_done context ≡ false }
+        ensures { Reads (λ r. (whole_of r, terms.new)) result (first_form (forms_in context) terms.old) }
+    {
+        read_form(context, terms)
+    }
+
+    fn further(terms: &mut Terms<'a, Sort>) -> Option<Refused>
+        ensures { MatchOption result (terms.old ≡ []) (λ r. IsFurther (refusal_of r) misfit End terms.old) }
+    {
+        terms.further()
+    }
+
     #[tactic(auto, unfolding(crate::specs::Meaning::means))]
-    pub fn act(&mut self, alloc: Global, item: Item<'a>) -> Result<(), Stop>
+    fn act(&mut self, alloc: Global, item: Item<'a>) -> Result<(), Stop>
         ensures { Changes result self.new (means (item_text item.entry) self.old) }
     {
         match item {
@@ -398,12 +467,5 @@ impl<'a> Progress<'a> {
             Item::Bit(bus, digits) => self.connect_bit(alloc, bus, digits),
             Item::InstanceEnds => self.end_instance(alloc),
         }
-    }
-
-    /// The modules that ended.
-    pub fn into_ended(self) -> Vec<Netlist>
-        ensures { result.items ≡ self.entry.ended }
-    {
-        self.ended
     }
 }

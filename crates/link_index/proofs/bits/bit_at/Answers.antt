@@ -1,6 +1,6 @@
 use Rattle.std.proofs.Common.{◌≡◌, ◌+◌, length, take, Some, slice_index, ap, sym, ◌∙◌, arith}
 use Rattle.std.proofs.lemmas.Option.{slice_get_within}
-use Rattle.link_rules.specs.Bits.{bits}
+use Rattle.verilog_net.specs.Bits.{bits}
 use Rattle.link_index.proofs.BitLaws.{bit_nowhere, bit_off, bit_there}
 use Rattle.link_index.proofs.NameLaws.{offset_within, net_bits_within}
 use Rattle.link_index.proofs.bits.bit_at.Goals as goal

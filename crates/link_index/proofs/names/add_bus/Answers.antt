@@ -1,7 +1,7 @@
 use Rattle.std.proofs.Common.{map, ap, sym, subst, ◌∙◌, arith}
 use Rattle.std.proofs.lemmas.List.{take_all}
 use Rattle.name_numbers.specs.Names.{with_value}
-use Rattle.link_rules.specs.Bits.{bit_name, numbers_of}
+use Rattle.verilog_net.specs.Bits.{bit_name, numbers_of}
 use Rattle.link_index.specs.Names.{with_names, AreNames}
 use Rattle.link_index.proofs.BitLaws.{length-numbers}
 use Rattle.link_index.proofs.NameLaws.{entered_one}

@@ -1,5 +1,5 @@
 use Rattle.std.proofs.Common.{◌≡◌, map, take}
-use Rattle.link_rules.specs.Bits.{bit_name, numbers_of}
+use Rattle.verilog_net.specs.Bits.{bit_name, numbers_of}
 use Rattle.link_index.specs.Names.{with_names, AreNames}
 use Rattle.link_index.proofs.names.add_bus.Given as goal
 

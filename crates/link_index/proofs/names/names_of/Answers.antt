@@ -1,7 +1,7 @@
 use Rattle.std.proofs.Common.{[], map, ap, sym, subst, ◌∙◌, arith}
 use Rattle.std.proofs.lemmas.List.Elements.{All-nil}
 use Rattle.xt_model.specs.Names.{IsName}
-use Rattle.link_rules.specs.Bits.{bits}
+use Rattle.verilog_net.specs.Bits.{bits}
 use Rattle.link_index.specs.Names.{with_names, AreNames}
 use Rattle.link_index.proofs.NameLaws.{no_nets, all_nets, names_all, names_apart, entered_more}
 use Rattle.link_index.proofs.names.names_of.Goals as goal

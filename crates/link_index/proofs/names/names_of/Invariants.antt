@@ -1,5 +1,5 @@
 use Rattle.std.proofs.Common.{◌≡◌, [], map, take}
-use Rattle.link_rules.specs.Bits.{bits}
+use Rattle.verilog_net.specs.Bits.{bits}
 use Rattle.link_index.specs.Names.{with_names, AreNames}
 use Rattle.link_index.proofs.names.names_of.Given as goal
 

@@ -1,6 +1,6 @@
 use Rattle.std.proofs.Common.{arith, sym}
 use Rattle.std.proofs.lemmas.List.{append-nil}
-use Rattle.link_rules.specs.Bits.{numbers_of}
+use Rattle.verilog_net.specs.Bits.{numbers_of}
 use Rattle.link_index.proofs.BitLaws.{length-numbers}
 use Rattle.link_pins.specs.Seen.{numbered_bit}
 use Rattle.link_pins.proofs.BitLaws.{numbered_more, numbered_all}

@@ -1,5 +1,5 @@
 use Rattle.std.proofs.Common.{◌≡◌, ◌++◌, map, take}
-use Rattle.link_rules.specs.Bits.{numbers_of}
+use Rattle.verilog_net.specs.Bits.{numbers_of}
 use Rattle.link_pins.specs.Seen.{numbered_bit}
 use Rattle.link_pins.proofs.bits.add_bus.Given as goal
 

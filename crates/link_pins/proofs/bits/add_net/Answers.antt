@@ -1,4 +1,4 @@
-use Rattle.link_rules.specs.Bits.{numbers_of}
+use Rattle.verilog_net.specs.Bits.{numbers_of}
 use Rattle.link_pins.proofs.BitLaws.{bus_bits}
 use Rattle.link_pins.proofs.bits.add_net.Goals as goal
 

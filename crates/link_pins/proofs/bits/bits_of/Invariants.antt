@@ -1,5 +1,5 @@
 use Rattle.std.proofs.Common.{◌≡◌, map, take}
-use Rattle.link_rules.specs.Bits.{bits}
+use Rattle.verilog_net.specs.Bits.{bits}
 use Rattle.link_pins.specs.Seen.{bit_at}
 use Rattle.link_pins.proofs.bits.bits_of.Given as goal
 

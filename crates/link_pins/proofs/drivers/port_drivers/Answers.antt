@@ -1,7 +1,7 @@
 use Rattle.std.proofs.Common.{length, ap, subst, arith}
 use Rattle.std.proofs.lemmas.List.{length_push}
 use Rattle.verilog_net.specs.declared.netlist.PortRole.{PortRole}
-use Rattle.link_rules.specs.Bits.{bits}
+use Rattle.verilog_net.specs.Bits.{bits}
 use Rattle.link_rules.specs.Circuit.{port_drivers}
 use Rattle.link_pins.specs.declared.bits.BitAt.{BitAt}
 use Rattle.link_pins.specs.Rows.{IsDriver}

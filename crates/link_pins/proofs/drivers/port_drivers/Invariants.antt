@@ -1,6 +1,6 @@
 use Rattle.std.proofs.Common.{◌≡◌, ℕ, [], length, Some}
 use Rattle.std.specs.List.{slice_get}
-use Rattle.link_rules.specs.Bits.{Bit, bits}
+use Rattle.verilog_net.specs.Bits.{Bit, bits}
 use Rattle.link_pins.specs.declared.drivers.Driver.{Driver}
 use Rattle.link_pins.specs.Rows.{IsDriver, drivers_by}
 use Rattle.link_pins.proofs.drivers.port_drivers.Given as goal

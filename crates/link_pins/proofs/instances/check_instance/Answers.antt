@@ -1,7 +1,7 @@
 use Rattle.std.proofs.Common.{◌∙◌, ℕ, List, sym}
 use Rattle.std.proofs.lemmas.Result.{err_from_is_err_and}
 use Rattle.verilog_net.specs.declared.netlist.Wire.{Wire}
-use Rattle.link_rules.specs.Sound.{IsShortName}
+use Rattle.text_forms.specs.Names.{IsShortName}
 use Rattle.link_pins.proofs.FaultLaws.{found_as, error_tests, cell_is_missing, cell_is_odd, pins_decide, first_name, others, pin_turn, pin_found, no_pins}
 use Rattle.link_pins.proofs.PinLaws.{some_and}
 use Rattle.link_pins.proofs.instances.check_instance.Goals as goal

@@ -2,7 +2,7 @@ use Rattle.std.proofs.Common.{◌≡◌, length, Some}
 use Rattle.std.specs.List.{All, slice_get}
 use Rattle.liberty_cells.specs.declared.cell.Cell.{Cell}
 use Rattle.link_rules.specs.Refusals.{pin_fault}
-use Rattle.link_rules.specs.Sound.{IsShortName}
+use Rattle.text_forms.specs.Names.{IsShortName}
 use Rattle.link_pins.proofs.instances.check_instance.Given as goal
 
 abbrev pub invariant-pins : goal.invariant-pins

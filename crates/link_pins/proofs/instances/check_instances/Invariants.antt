@@ -1,7 +1,7 @@
 use Rattle.std.proofs.Common.{◌≡◌, length}
 use Rattle.std.specs.List.{All}
 use Rattle.link_rules.specs.Refusals.{instances_fault}
-use Rattle.link_rules.specs.Sound.{IsSoundInstance}
+use Rattle.verilog_net.specs.Sound.{IsSoundInstance}
 use Rattle.link_pins.proofs.instances.check_instances.Given as goal
 
 abbrev pub invariant-instances : goal.invariant-instances

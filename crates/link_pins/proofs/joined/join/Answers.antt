@@ -1,6 +1,6 @@
 use Rattle.std.proofs.Common.{List, ◌++◌, ◌∙◌, ap}
 use Rattle.xt_model.specs.declared.check.CheckPoint.{CheckPoint}
-use Rattle.link_rules.specs.Bits.{bits}
+use Rattle.verilog_net.specs.Bits.{bits}
 use Rattle.link_rules.specs.Checks.{port_checks_from}
 use Rattle.link_pins.proofs.MadeLaws.{bare_so, bare_count}
 use Rattle.link_pins.proofs.joined.join.Goals as goal

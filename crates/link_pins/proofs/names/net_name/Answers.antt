@@ -1,4 +1,4 @@
-use Rattle.link_rules.specs.Bits.{bits}
+use Rattle.verilog_net.specs.Bits.{bits}
 use Rattle.std.proofs.lemmas.Option.{none-some}
 use Rattle.link_pins.proofs.PinLaws.{element_at}
 use Rattle.link_pins.proofs.names.net_name.Goals as goal

@@ -2,7 +2,7 @@ use Rattle.std.proofs.Common.{◌≡◌, ◌<◌, length, get_or, Some, refl, sy
 use Rattle.std.specs.List.{slice_get}
 use Rattle.std.proofs.lemmas.List.{append-nil}
 use Rattle.std.proofs.lemmas.Option.{slice_get_read}
-use Rattle.link_rules.specs.Bits.{bits}
+use Rattle.verilog_net.specs.Bits.{bits}
 use Rattle.link_pins.specs.declared.sinks.NetSinks.{NetSinks}
 use Rattle.link_pins.proofs.BitLaws.{bit_read}
 use Rattle.link_pins.proofs.NetLaws.{ports_more, ports_all}

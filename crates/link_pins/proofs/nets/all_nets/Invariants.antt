@@ -1,5 +1,5 @@
 use Rattle.std.proofs.Common.{◌≡◌, length, map, take}
-use Rattle.link_rules.specs.Bits.{bits}
+use Rattle.verilog_net.specs.Bits.{bits}
 use Rattle.link_rules.specs.Circuit.{numbered}
 use Rattle.link_pins.specs.declared.drivers.Driver.{Driver}
 use Rattle.link_pins.specs.declared.sinks.NetSinks.{NetSinks}

@@ -2,7 +2,7 @@ use Rattle.std.proofs.Common.{◌≡◌, ◌<◌, ◌∙◌, length, Some, refl,
 use Rattle.std.specs.List.{slice_get}
 use Rattle.std.proofs.lemmas.List.{length-set}
 use Rattle.std.proofs.lemmas.Option.{slice_get_read, slice_get_within}
-use Rattle.link_rules.specs.Bits.{bits}
+use Rattle.verilog_net.specs.Bits.{bits}
 use Rattle.link_pins.proofs.BitLaws.{bit_read}
 use Rattle.link_pins.proofs.PinLaws.{element_at}
 use Rattle.link_pins.proofs.SinkLaws.{ports_done, ports_left}

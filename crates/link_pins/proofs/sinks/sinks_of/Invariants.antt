@@ -1,6 +1,6 @@
 use Rattle.std.proofs.Common.{◌≡◌, ℕ, ◌<◌, ◌≤◌, length, Some}
 use Rattle.std.specs.List.{slice_get}
-use Rattle.link_rules.specs.Bits.{Bit, bits}
+use Rattle.verilog_net.specs.Bits.{Bit, bits}
 use Rattle.link_rules.specs.Circuit.{sinks_of}
 use Rattle.link_rules.specs.Pins.{pins}
 use Rattle.link_pins.specs.declared.sinks.NetSinks.{NetSinks}

@@ -1,5 +1,5 @@
 use Rattle.std.proofs.Common.{◌≡◌, map}
-use Rattle.link_rules.specs.Bits.{rising}
+use Rattle.verilog_net.specs.Bits.{rising}
 use Rattle.link_rules.specs.Wires.{sink_node}
 use Rattle.link_wires.proofs.tree.sink_nodes.Given as goal
 

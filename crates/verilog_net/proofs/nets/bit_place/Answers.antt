@@ -1,4 +1,4 @@
-use Rattle.std.proofs.Common.{◌≡◌, ◌-◌, ◌==◌, length, slice_index, false, sym, ◌∙◌, rules}
+use Rattle.std.proofs.Common.{◌≡◌, ◌-◌, ◌==◌, length, slice_index, false, sym, rules}
 use Rattle.verilog_net.proofs.LastBytes.{no_bit}
 use Rattle.verilog_net.proofs.nets.bit_place.Goals as goal
 

@@ -1,6 +1,6 @@
 use Rattle.std.proofs.Common.{option_map, sym, ap, ◌∙◌}
 use Rattle.std.specs.List.{slice_get}
-use Rattle.link_rules.specs.Bits.{bits}
+use Rattle.verilog_net.specs.Bits.{bits}
 use Rattle.link_index.proofs.IndexLaws.{name_is}
 use Rattle.link_index.proofs.SpelledLaws.{spelled_at}
 use Rattle.link_index.proofs.index.NetIndex.name.Goals as goal

@@ -4,10 +4,27 @@ use Rattle.std.specs.List.{AllByRecursion}
 use Rattle.std.proofs.Common.{append_assoc, subst}
 use Rattle.std.proofs.lemmas.List.{append-nil}
 use Rattle.text_forms.specs.Forms.{Token, Form, Refusal, Misfits, agree, agree_one, at_line, whole_or}
+use Rattle.text_forms.specs.Reader.{forms_by, rest_by}
+use Rattle.text_forms.specs.Tokens.{token_by, end_at, tokens_to_end}
+use Rattle.xt_lex.specs.Tokens.{TokenText}
+use Rattle.xt_lex.specs.declared.token.Kind.{Kind}
 use Rattle.text_forms.specs.Refusals.{Meant, unless}
 use Rattle.text_forms.specs.Meaning.{Yields, behind, go_on, reading, meaning, text_means}
 use Rattle.xt_model.specs.Results.{◌>>=◌}
 use Rattle.xt_model.specs.declared.code.Code as model
+
+-- ---- what is true of a value that is not refused
+module _ {S C : Type 0} (P : S → Type 0) {s s' : S} where
+  pub kept : ◌≡◌ {A = Result S C} (Ok s) (Ok s') → P s → P s'
+  kept e p = let same : s ≡ s' = cc in subst P same p
+
+  pub kept_unless : (b : Bool) (c : C) → (if b then Err c else Ok s) ≡ Ok s' → P s → P s'
+  kept_unless true c e p = absurd (cc)
+  kept_unless false c e p = kept e p
+
+  pub kept_if : (b : Bool) (c : C) → (if b then Ok s else Err c) ≡ Ok s' → P s → P s'
+  kept_if true c e p = kept e p
+  kept_if false c e p = absurd (cc)
 
 module _ {Slot Sort : Type 0} (fits : Slot → Sort → Bool) (P : Token Sort → Type 0) where
   -- a token for each slot, which fits it and of which P holds
@@ -115,6 +132,35 @@ module _ {Slot Sort Item Context State Code : Type 0} (fits : Slot → Sort → 
         → text_means fits misfits forms step context ts s ≡ Ok s' → HoldsAtEnd s'
     unfolding text_means
     text_keeps context ts s s' ps i h = behind_form (forms context) ts context s s' (goes ts ps) refl i h
+
+-- ---- the forms of a context, by what fits their slots
+module _ {Slot Sort Item Context State : Type 0} (fits : Slot → Sort → Bool) (misfits : Misfits Sort model.Code)
+    (is_end : Context → Bool) (forms_in : Context → List (Form Slot Sort Item Context)) (step : Item → State → Result State model.Code)
+    (P : Token Sort → Type 0) (Inv : Context → State → Type 0) where
+  -- a form keeps the fact, whatever tokens fit it
+  abbrev pub Keeping : Context → Form Slot Sort Item Context → Type 0
+  Keeping context f = FormKeeps fits misfits (forms_by is_end forms_in) step P Inv context [] f
+
+  module _ (keep : (context : Context) → AllByRecursion (Keeping context) (forms_in context)) where
+    keep_by : (context : Context) (fs : List (Form Slot Sort Item Context)) (b : Bool)
+        → (if b then None else Some (forms_in context)) ≡ Some fs → AllByRecursion (Keeping context) fs
+    keep_by context fs true e = absurd (cc)
+    keep_by context fs false e = let same : forms_in context ≡ fs = cc in rw same at (keep context)
+
+    -- the fact is true behind a whole text
+    pub rest_keeps : (context : Context) (ts : List (Token Sort)) (s s' : State) → AllByRecursion P ts → Inv context s
+        → rest_by fits misfits is_end forms_in step context ts s ≡ Ok s'
+        → HoldsAtEnd fits misfits (forms_by is_end forms_in) step P Inv s'
+    rest_keeps context ts s s' ps i h =
+        text_keeps fits misfits (forms_by is_end forms_in) step P Inv (λ context fs e. keep_by context fs (is_end context) e) context ts s s' ps i h
+
+-- ---- the tokens of a text
+module _ {Sort : Type 0} (sort_by : Kind → List ℕ → Sort) (end : Sort) (P : Token Sort → Type 0) where
+  -- what is true of the tokens and of the end is true of all
+  pub each_token : (last : ℕ) (ts : List TokenText) → P (end_at sort_by end last)
+      → AllByRecursion (λ t. P (token_by sort_by end t.kind t)) ts → AllByRecursion P (tokens_to_end sort_by end false last ts)
+  each_token last [] e each = (e, tt)
+  each_token last (t ∷ ts) e each = (each.0, each_token last ts e each.1)
 
 -- the tokens of a text that means something have no fault
 pub not_refused : {A : Type 0} (o : Option (Refusal model.Code)) (meant : Meant A) (x : A) → unless o meant ≡ Ok x → meant ≡ Ok x

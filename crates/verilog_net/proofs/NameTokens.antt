@@ -5,7 +5,9 @@ use Rattle.std.specs.List.{AllByRecursion}
 use Rattle.std.specs.Str.{bytes_eq}
 use Rattle.std.proofs.lemmas.Bool.{cond_both, false≢true}
 use Rattle.text_forms.specs.Forms.{Token}
-use Rattle.text_forms.specs.Tokens.{token_by, tokens_to_end}
+use Rattle.text_forms.specs.Tokens.{token_by}
+use Rattle.text_forms.proofs.Bytes.{each_of_all}
+use Rattle.text_forms.proofs.Kept.{each_token}
 use Rattle.xt_lex.specs.Bytes.{begins, last_line}
 use Rattle.xt_lex.specs.Tokens.{TokenText, token_texts}
 use Rattle.xt_lex.specs.declared.rules.Rules.TheVariants.{Verilog}
@@ -92,9 +94,7 @@ sorted_as kinds.Escaped t = name_as (drop 1 t.text)
 sorted_as kinds.Text t = λ h. absurd (false≢true h)
 sorted_as kinds.Break t = λ h. absurd (false≢true h)
 
-all_sorted : (last : ℕ) (ts : List TokenText) → AllByRecursion IsNamed (tokens_to_end sort_by sorts.End false last ts)
-all_sorted last [] = ((λ h. absurd (false≢true h)), tt)
-all_sorted last (t ∷ ts) = (sorted_as t.kind t, all_sorted last ts)
-
 pub names_named : (bytes : List ℕ) → AllByRecursion IsNamed (netlist_tokens bytes)
-names_named bytes = all_sorted (last_line bytes) (token_texts Verilog bytes)
+names_named bytes =
+    let each = each_of_all (λ t. IsNamed (token_by sort_by sorts.End t.kind t)) (λ t. sorted_as t.kind t) (token_texts Verilog bytes) in
+    each_token sort_by sorts.End IsNamed (last_line bytes) (token_texts Verilog bytes) (λ h. absurd (false≢true h)) each

@@ -13,8 +13,8 @@ use Rattle.name_numbers.specs.Names.{Text, found, value_of, with_value}
 use Rattle.verilog_net.specs.declared.netlist.Net.{Net}
 use Rattle.text_forms.specs.Names.{is_name}
 use Rattle.verilog_net.specs.Nets.{Nets, most_bit, has_bit, named_bit, bit_from, BitNets, bit_nets_of, with_bit_net, with_net_at, with_net, has_bit_net}
-use Rattle.sound_reads.proofs.NameLaws.{entry, entry_at}
-use Rattle.sound_reads.proofs.BitNames.{tail, found_bit}
+use Rattle.name_numbers.proofs.FoundLaws.{entry, entry_at}
+use Rattle.verilog_net.proofs.BitNames.{tail, found_bit}
 
 -- ---- what is in a list
 module _ {X : Type 0} where

@@ -1,40 +1,25 @@
 -- A module that is fine is sound to be linked.
-use Rattle.std.specs.Prelude.{◌≡◌, ◌≢◌, refl, ℕ, zero, suc, ◌+◌, ◌-◌, ◌<◌, ◌≤◌, nat_le, ◌==◌, ◌&&◌, not, true, List, [], ◌∷◌, ◌++◌, length, map, decimal}
-use Rattle.std.specs.Prelude.{Option, Some, None, IfSome}
-use Rattle.std.specs.Char.{is_ascii_graphic}
-use Rattle.std.specs.List.{AllByRecursion, list_all, slice_get}
+use Rattle.std.specs.Prelude.{◌≡◌, ◌≢◌, refl, ℕ, zero, suc, ◌+◌, ◌-◌, ◌<◌, ◌≤◌, nat_le, ◌&&◌, true, false, List, [], ◌∷◌, ◌++◌, map, decimal}
+use Rattle.std.specs.Prelude.{Option, Some, None, IfSome, Ok}
+use Rattle.std.specs.List.{All, AllByRecursion, slice_get}
 use Rattle.std.proofs.Common.{arith, sym, ap, ◌∙◌, append_assoc, inl, inr}
-use Rattle.std.proofs.lemmas.Bool.{and_parts, or_left, or_right, and_from, le-leb, lt-leb, leb-true, not-true, eqb-false, cases_lt}
+use Rattle.std.proofs.lemmas.Bool.{or_left, or_right, and_from, le-leb, lt-leb, cases_lt}
 use Rattle.std.proofs.lemmas.List.Elements.{All-from_recursion}
 use Rattle.name_numbers.specs.Names.{Text}
 use Rattle.verilog_net.specs.declared.netlist.Netlist.{Netlist}
+use Rattle.verilog_net.specs.Reading.{text_state, modules_in}
 use Rattle.verilog_net.specs.declared.netlist.Instance.{Instance}
 use Rattle.verilog_net.specs.declared.netlist.PortRole.{PortRole}
-use Rattle.text_forms.specs.Names.{is_name}
+use Rattle.text_forms.specs.Names.{is_name, IsShortName}
 use Rattle.verilog_net.specs.Nets.{Nets, most_bit, has_bit}
-use Rattle.link_rules.specs.Bits.{Bit, rising, falling, numbers_of, bit_name, bus_bit, bits_by, bits_from, bits}
-use Rattle.link_rules.specs.Sound.{IsShortName, IsSoundInstance, HaveOwnNames, IsSoundNetlist}
-use Rattle.sound_reads.specs.Modules.{IsSoundModule}
-use Rattle.sound_reads.proofs.Bytes.{AreGraphic, each-append, each-weaker, each_at, name_is}
-use Rattle.sound_reads.proofs.BitNames.{tail, same_number, same_bus}
-use Rattle.sound_reads.proofs.OwnNames.{Shape, shape, shapes, IsDistinct, AreDistinct, clear_distinct, IsBounded, bit_bounded}
-use Rattle.sound_reads.proofs.VerilogStates.{IsNamed, IsFineInstance, IsFineModule}
-
--- ---- short names
-graphic_all : (bytes : Text) → list_all is_ascii_graphic bytes ≡ true → AreGraphic bytes
-graphic_all [] h = tt
-graphic_all (b ∷ more) h = let parts = and_parts (is_ascii_graphic b) (list_all is_ascii_graphic more) h in (parts.0, graphic_all more parts.1)
-
-some_by : (k : ℕ) → (k ≡ 0 → ⊥) → 0 < k
-some_by k d = omega (arith, d)
-
-pub short_name : (name : Text) → IsNamed name → IsShortName name
-short_name name h =
-    let parts = and_parts (not (length name == 0)) (nat_le (length name) 1024 && list_all is_ascii_graphic name) h in
-    let rest = and_parts (nat_le (length name) 1024) (list_all is_ascii_graphic name) parts.1 in
-    let apart : length name ≡ 0 → ⊥ = eqb-false (length name) 0 (not-true (length name == 0) parts.0) in
-    let short : length name ≤ 1024 = leb-true (length name) 1024 rest.0 in
-    record { name = name_is name (some_by (length name) apart) (omega (arith, short)) (graphic_all name rest.1); short = short }
+use Rattle.verilog_net.specs.Bits.{Bit, rising, falling, numbers_of, bit_name, bus_bit, bits_by, bits_from, bits}
+use Rattle.verilog_net.specs.Sound.{IsSoundInstance, HaveOwnNames, IsSoundNetlist, IsSoundModule}
+use Rattle.text_forms.proofs.Bytes.{each-append, each-weaker, each_at}
+use Rattle.text_forms.proofs.NameLaws.{short_name}
+use Rattle.verilog_net.proofs.BitNames.{tail, same_number, same_bus}
+use Rattle.verilog_net.proofs.OwnNames.{Shape, shape, shapes, IsDistinct, AreDistinct, clear_distinct, IsBounded, bit_bounded}
+use Rattle.verilog_net.proofs.FineTexts.{modules_fine}
+use Rattle.verilog_net.proofs.FineStates.{IsNamed, IsFineInstance, IsFineModule}
 
 -- ---- the numbers of a bus's bits
 abbrev AreApart : List ℕ → Type 0
@@ -221,3 +206,11 @@ module_sound m h = record {
   ranges = All-from_recursion (λ e. IfSome e.1.range (λ r. (r.0 ≤ most_bit) × (r.1 ≤ most_bit))) m.nets (net_ranges m.nets h.nets.1.bounded);
   instances = All-from_recursion IsSoundInstance m.instances (each-weaker IsFineInstance IsSoundInstance instance_sound m.instances h.instances);
 }
+
+-- ---- the modules of a text
+module _ (bytes : List ℕ) (ms : List Netlist) where
+  pub all_modules : modules_in (text_state false bytes) ≡ Ok ms → All IsSoundModule ms
+  all_modules e = All-from_recursion IsSoundModule ms (each-weaker IsFineModule IsSoundModule module_sound ms (modules_fine false bytes ms e))
+
+  pub all_netlists : modules_in (text_state true bytes) ≡ Ok ms → All IsSoundNetlist ms
+  all_netlists e = All-from_recursion IsSoundNetlist ms (each-weaker IsFineModule IsSoundNetlist netlist_sound ms (modules_fine true bytes ms e))

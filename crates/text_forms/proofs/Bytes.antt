@@ -17,6 +17,10 @@ AreGraphic bytes = AllByRecursion IsGraphic bytes
 
 -- ---- each item of a list
 module _ {X : Type 0} (P : X → Type 0) where
+  pub each_of_all : ((x : X) → P x) → (xs : List X) → AllByRecursion P xs
+  each_of_all f [] = tt
+  each_of_all f (x ∷ xs) = (f x, each_of_all f xs)
+
   pub each-append : (xs ys : List X) → AllByRecursion P xs → AllByRecursion P ys → AllByRecursion P (xs ++ ys)
   each-append [] ys a b = b
   each-append (x ∷ xs) ys a b = (a.0, each-append xs ys a.1 b)

@@ -1,5 +1,5 @@
 -- The module of a netlist's text is fine.
-use Rattle.std.specs.Prelude.{◌≡◌, refl, ℕ, Bool, true, false, List, [], ◌∷◌, Option, Some, None, Result, Ok, Err, if◌then◌else◌}
+use Rattle.std.specs.Prelude.{◌≡◌, refl, ℕ, Bool, true, List, [], ◌∷◌, Result, Ok, Err}
 use Rattle.std.specs.List.{AllByRecursion}
 use Rattle.text_forms.specs.Forms.{Token, Refusal, text_at, line_at}
 use Rattle.text_forms.specs.Refusals.{tokens_refused}
@@ -20,13 +20,13 @@ use Rattle.verilog_net.specs.Forms.{left_bound_forms, right_bound_forms, declare
 use Rattle.verilog_net.specs.Forms.{bit_given_forms, connected_forms, closed_forms}
 use Rattle.verilog_net.specs.Forms as grammar
 use Rattle.verilog_net.specs.Meaning.{State, nothing, means}
-use Rattle.verilog_net.specs.Reading.{rest_means, text_state, modules_in, modules_of, one_of, netlist_of_text}
-use Rattle.sound_reads.proofs.Texts.{FormKeeps, text_keeps, not_refused}
-use Rattle.sound_reads.proofs.VerilogTokens as tokens
-use Rattle.sound_reads.proofs.VerilogTokens.{names_named}
-use Rattle.sound_reads.proofs.VerilogStates.{IsNamed, IsFine, IsFineModule, IsOutsideModule, IsInInstance, IsInPin, nothing_fine, begin_module_is, name_module_fine}
-use Rattle.sound_reads.proofs.VerilogStates.{list_name_fine, end_module_fine, declare_fine, left_bound_fine, right_bound_fine, scalar_fine, further_instance}
-use Rattle.sound_reads.proofs.VerilogStates.{begin_pin_fine, connect_fine, connect_bit_fine, connect_name_fine, end_instance_fine}
+use Rattle.verilog_net.specs.Reading.{rest_means, text_state, modules_in, one_of, netlist_of_text}
+use Rattle.text_forms.proofs.Kept.{FormKeeps, kept, rest_keeps, not_refused}
+use Rattle.verilog_net.proofs.NameTokens as tokens
+use Rattle.verilog_net.proofs.NameTokens.{names_named}
+use Rattle.verilog_net.proofs.FineStates.{IsNamed, IsFine, IsFineModule, IsOutsideModule, IsInInstance, IsInPin, nothing_fine, begin_module_fine, name_module_fine}
+use Rattle.verilog_net.proofs.FineStates.{end_module_fine, declare_fine, left_bound_fine, right_bound_fine, scalar_fine, further_instance}
+use Rattle.verilog_net.proofs.FineStates.{begin_pin_fine, connect_fine, connect_bit_fine, connect_name_fine, end_instance_fine}
 
 -- what else holds in a context
 abbrev In : Context → State → Type 0
@@ -54,14 +54,11 @@ AllOf context fs = AllByRecursion (Keeps context) fs
 abbrev ItemKeeps : Context → Context → Item → Type 0
 ItemKeeps context next item = (s s' : State) → Holds context s → means item s ≡ Ok s' → Holds next s'
 
-moved : (context : Context) (s s' : State) → ◌≡◌ {A = Result State Code} (Ok s) (Ok s') → Holds context s → Holds context s'
-moved context s s' e h = let same : s ≡ s' = cc in rw same at h
-
 -- ---- forms by their shapes
 module _ (context next : Context) where
   quiet_keeps : (slots : List Sort) → ((s : State) → In context s → In next s) → Keeps context (quiet slots next)
   unfolding means
-  quiet_keeps slots n ts fit s s' h e = moved next s s' e (h.0, n s h.1)
+  quiet_keeps slots n ts fit s s' h e = kept (Holds next) e (h.0, n s h.1)
 
   -- a form whose meaning does not want its tokens
   plain : (slots : List Sort) (item : Tokens → Item) → ((ts : Tokens) → ItemKeeps context next (item ts)) → Keeps context (form slots item next)
@@ -109,10 +106,7 @@ refused_keeps context slots code ts fit s s' h e = absurd (cc)
 module _ (context : Context) where
   begins : ((s : State) → In context s → IsOutsideModule s) → (ts : Tokens) → ItemKeeps context contexts.ModuleName grammar.ModuleBegins
   unfolding means
-  begins n ts s s' h e =
-      let same = begin_module_is s s' h.0 e in
-      let all : Holds contexts.ModuleName s = (h.0, n s h.1) in
-      rw same at all
+  begins n ts s s' h e = begin_module_fine s s' h.0 e (n s h.1)
 
   module_keeps : ((s : State) → In context s → IsOutsideModule s) → (name : Text) → ItemKeeps context contexts.Header (grammar.ModuleName name)
   unfolding means
@@ -120,11 +114,11 @@ module _ (context : Context) where
 
   listed_keeps : (name : Text) → ItemKeeps context contexts.Listed (grammar.Listed name)
   unfolding means
-  listed_keeps name s s' h e = (list_name_fine s s' h.0 name e, tt)
+  listed_keeps name s s' h e = kept (Holds contexts.Listed) e (h.0, tt)
 
   end_keeps : (ts : Tokens) → ItemKeeps context contexts.BehindModule grammar.ModuleEnds
   unfolding means
-  end_keeps ts s s' h e = let f = end_module_fine s s' h.0 e in (f.0, f.1)
+  end_keeps ts s s' h e = end_module_fine s s' h.0 e
 
   scalar_keeps : (role : PortRole) (name : Text) → IsNamed name → ItemKeeps context contexts.Declared (grammar.Scalar role name)
   unfolding means
@@ -145,16 +139,7 @@ module _ (context : Context) where
   instance_keeps : (cell name : Text) (line : ℕ) → IsNamed cell → IsNamed name → ItemKeeps context contexts.Opening (grammar.Instance cell name line)
   unfolding means
   instance_keeps cell name line is also s s' h e =
-      let f = h.0 in
-      let celled : IsFine (record s { cell = cell }) = record {
-        ended = f.ended;
-        nets = f.nets;
-        instances = f.instances;
-        left = f.left;
-        range = f.range;
-        pins = f.pins;
-      } in
-      further_instance (record s { cell = cell }) celled s' name line is also e
+      further_instance (record s { cell = cell }) h.0 s' name line is also e
 
   module _ (n : (s : State) → In context s → IsInInstance s) where
     further_instance_keeps : (name : Text) (line : ℕ) → IsNamed name → ItemKeeps context contexts.Opening (grammar.FurtherInstance name line)
@@ -309,18 +294,11 @@ forms_keep contexts.Closed = (
 )
 forms_keep contexts.Done = tt
 
-all_by : (context : Context) (fs : List NetlistForm) (b : Bool) → (if b then None else Some (forms_in context)) ≡ Some fs → AllOf context fs
-all_by context fs true e = absurd (cc)
-all_by context fs false e = let same : forms_in context ≡ fs = cc in rw same at (forms_keep context)
-
-all_keep : (context : Context) (fs : List NetlistForm) → forms context ≡ Some fs → AllOf context fs
-all_keep context fs e = all_by context fs (is_done context) e
-
 text_fine : (single : Bool) (bytes : List ℕ) (s : State) → text_state single bytes ≡ Ok s → IsFine s
 unfolding text_state
 text_fine single bytes s e =
     let read = not_refused (tokens_refused Verilog V1 V2 bytes) (rest_means contexts.Start (netlist_tokens bytes) (nothing single)) s e in
-    let end = text_keeps same_sort misfits forms means tokens.IsNamed Holds all_keep contexts.Start (netlist_tokens bytes) (nothing single) s
+    let end = rest_keeps same_sort misfits is_done forms_in means tokens.IsNamed Holds forms_keep contexts.Start (netlist_tokens bytes) (nothing single) s
     (names_named bytes) (nothing_fine single, refl) read in
     end.2.0
 
@@ -334,12 +312,12 @@ module_by (Ok s) m f e = first s.ended (f s refl).ended e
 
 -- the module that a text means is fine
 pub netlist_fine : (bytes : List ℕ) (m : Netlist) → netlist_of_text bytes ≡ Ok m → IsFineModule m
-netlist_fine bytes m e = module_by (text_state true bytes) m (λ s at. text_fine true bytes s at) e
+netlist_fine bytes m e = module_by (text_state true bytes) m (text_fine true bytes) e
 
 modules_by : (r : Result State (Refusal Code)) (ms : List Netlist) → ((s : State) → r ≡ Ok s → IsFine s) → modules_in r ≡ Ok ms → AllByRecursion IsFineModule ms
 modules_by (Err refusal) ms f e = absurd (cc)
 modules_by (Ok s) ms f e = let same : s.ended ≡ ms = cc in rw same at ((f s refl).ended)
 
 -- the modules that a text means are fine
-pub modules_fine : (bytes : List ℕ) (ms : List Netlist) → modules_of bytes ≡ Ok ms → AllByRecursion IsFineModule ms
-modules_fine bytes ms e = modules_by (text_state false bytes) ms (λ s at. text_fine false bytes s at) e
+pub modules_fine : (single : Bool) (bytes : List ℕ) (ms : List Netlist) → modules_in (text_state single bytes) ≡ Ok ms → AllByRecursion IsFineModule ms
+modules_fine single bytes ms e = modules_by (text_state single bytes) ms (text_fine single bytes) e
