@@ -16,7 +16,7 @@ use crate::words::number_in;
 use net_eval::ReadLists;
 use xt_model::{Design, NetId, Pair, Windows};
 
-/// The windows that a look found in words, and a mark for each net. Where a net is marked and each net of its read list,
+/// The windows that a look found in words, and a mark for each net. Where a net and all nets of its read list are marked,
 /// the operator gives its windows back.
 #[derive(Drop)]
 pub struct Looked<'a> {
@@ -63,7 +63,7 @@ impl<'a> Looked<'a> {
         true
     }
 
-    /// Whether a net is marked with all that it reads, and the numbers loaded for its read list are those of its windows.
+    /// Whether a net is marked with all that it reads, and what was loaded for its read list is what the look found.
     fn knows(&self, lists: &ReadLists, net: NetId, numbers: &[u64]) -> bool
         requires there { net.0 < length lists.now }
         requires own { net.0 < length self.now.marks.now }

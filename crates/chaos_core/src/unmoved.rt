@@ -80,8 +80,8 @@ fn is_steady(
     closed_part(design, windows, net, next)
 }
 
-/// Whether the operator gives windows back at each net from number `from` to before number `to`, where it does so at each
-/// net that is marked with all nets of its read list. Evaluates none of these.
+/// Whether the operator gives windows back at each net from number `from` to before number `to`, where it does so at
+/// each net that is marked with all nets of its read list. Evaluates none of these.
 pub fn closed_where(
     design: &Design,
     lists: &ReadLists,

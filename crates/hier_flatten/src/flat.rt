@@ -17,9 +17,9 @@ use xt_model::Code;
 /// of, with each instance of a module in the place of what is below it.
 ///
 /// Its nets are those of the top, then for each instance of a module, in the order of the text, the flat nets of that
-/// instance. There a port without a connection is an inner net. Another port adds no net: it is what it is connected to,
-/// bit for bit from the left bounds on. A name below the top is the names of the instances that lead to it and its own,
-/// joined by `/`. Ports are those of the top.
+/// instance. There a port without a connection is an inner net. Another port adds no net: it is what it is connected
+/// to, bit for bit from the left bounds on. A name below the top is the names of the instances that lead to it and its
+/// own, joined by `/`. Ports are those of the top.
 ///
 /// Refused are, in this order: `V7`, at an instance's line, a whole bus at an instance of a cell, and at an instance of
 /// a module a pin that is no port of the module, or a connection of another width; `V8`, at line 1, a module that

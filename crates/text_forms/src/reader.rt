@@ -14,8 +14,8 @@ use crate::terms::TokenSort;
 use std::alloc::Global;
 use xt_lex::TextFault;
 
-/// A text that was read in part. Its forms are read one after another by the forms that may come next; each changes what
-/// the text means so far by its item, or is refused.
+/// A text that was read in part. Its forms are read one after another by the forms that may come next; each changes
+/// what the text means so far by its item, or is refused.
 pub trait FormReader {
     type Sort: TokenSort;
     /// The tokens that are left.

@@ -109,8 +109,8 @@ impl Design {
         (parts, NetOrder::new(levels, order, depth), pairs)
     }
 
-    /// The design of these parts, whose arcs are those of the nets that had this order, and of whose nets this many pairs
-    /// are coupled. Nothing is counted or sorted.
+    /// The design of these parts, whose arcs are those of the nets that had this order, and which have this many pairs
+    /// of coupled nets. Nothing is counted or sorted.
     pub fn from_order(parts: DesignParts, kept: NetOrder, pairs: u64) -> Design
         requires sound { IsSound parts }
         requires levels { AreLevels parts.nets kept }
