@@ -79,7 +79,9 @@ SettlesAlone a lists windows rounds =
 abbrev pub workers_in : RunRoom → ℕ
 workers_in room = length room.workers.idle.items
 
--- a room for a run on a design with these read lists: all its workers are idle, and it has windows for each net
+-- a room for a run on a design with these read lists: all its workers are idle, and it has windows and a mark for each
+-- net
 pub record IsRoomFor (d : Parts) (lists : List (List NetId)) (room : RunRoom) : Type 0 where
   pub idle : AreIdle lists room.workers
   pub count : length room.windows ≡ length d.nets
+  pub marks : length room.marks.items ≡ length d.nets

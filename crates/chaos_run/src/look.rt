@@ -1,7 +1,7 @@
 //! A look at all words of a board: the windows that are in them, and whether the operator gives these back.
 
-ghost use Rattle.std.specs.Prelude.{◌≡◌, ◌↔◌, ℕ, ◌+◌, ◌*◌, ◌/◌, ◌<◌, ◌≤◌, length, IsTrue};
-ghost use Rattle.std.specs.List.{All};
+ghost use Rattle.std.specs.Prelude.{◌≡◌, ◌↔◌, ℕ, ◌+◌, ◌*◌, ◌/◌, ◌<◌, ◌≤◌, false, length, IsTrue};
+ghost use Rattle.std.specs.List.{All, slice_index_or};
 ghost use Rattle.std.specs.Thread.{IsSync};
 ghost use Rattle.xt_model.specs.declared.edge.Edge.{Edge};
 ghost use Rattle.xt_model.specs.Limits.{most_nets, most_workers};
@@ -10,15 +10,17 @@ ghost use Rattle.xt_model.specs.Assign.{quads_of};
 ghost use Rattle.xt_meaning.specs.Barrier.{IsFittingStart, IsWithinEnvelope};
 ghost use Rattle.xt_meaning.specs.Words.{bounds_in, numbers_of};
 ghost use Rattle.net_eval.specs.Closing.{IsSteadyAt};
+ghost use Rattle.net_eval.specs.ReadLists.{AreReadLists};
 ghost use Rattle.chaos_core.specs.Boards.{nets_of};
+ghost use Rattle.chaos_core.specs.Looks.{AreUnmoved, IsLook};
 ghost use Rattle.chaos_core.specs.Memories.{AreKept};
-ghost use Rattle.chaos_core.specs.Rounds.{AreClosed};
+ghost use Rattle.chaos_core.specs.Rounds.{AreClosed, HasCarried};
 ghost use Rattle.window_words.specs.Boards.{IsAlone, IsOf};
 ghost use Rattle.window_words.specs.Steps.{IsRested};
 ghost use Rattle.chaos_run.specs.Looks.{quad_from};
 
-use chaos_core::bound_of;
-use net_eval::closed_part;
+use chaos_core::{bound_of, closed_where};
+use net_eval::ReadLists;
 use std::thread::{Threads, join};
 use window_words::{Pass, SharedBoard};
 use xt_model::{Design, Pair, Quad, Windows};
@@ -74,14 +76,16 @@ fn load_pair(board: &SharedBoard, first: &mut Pass, net: usize) -> Pair
     }
 }
 
-/// Gives each net the windows that are in its words.
-fn load_all(board: &SharedBoard, first: &mut Pass, windows: &mut Windows)
+/// Gives each net the windows that are in its words, and marks the nets that had these before, and no other.
+fn load_all(board: &SharedBoard, first: &mut Pass, windows: &mut Windows, marks: &mut [bool])
     requires own { IsOf board.now first.old }
     requires alone { IsAlone first.old.view }
     requires count { length windows.old ≡ nets_of first.old.view.setting }
+    requires marks { length marks.old ≡ length windows.old }
     ensures own { IsOf board.now first.new }
     ensures view { first.new.view ≡ first.old.view }
     ensures count { length windows.new ≡ length windows.old }
+    ensures marks { AreUnmoved windows.old windows.new marks.new }
     ensures numbers { numbers_of windows.new ≡ first.old.view.seen }
     ensures range { All IsPairInRange windows.new }
     ensures kept { AreKept first.old.view.setting first.old.view.seen }
@@ -91,6 +95,7 @@ fn load_all(board: &SharedBoard, first: &mut Pass, windows: &mut Windows)
     first.respects();
     for net in 0..windows.pairs().len() {
         let pair = load_pair(board, first, net);
+        marks[net] = windows.pair(net).same(&pair);
         windows.set(net, pair);
     }
 }
@@ -105,17 +110,30 @@ fn part(count: u32, some: u32, shares: u32) -> u32
     (u64::from(count) * u64::from(some) / u64::from(shares)) as u32
 }
 
+/// Takes the mark from each net.
+fn unmark(marks: &mut [bool])
+    ensures count { length marks.new ≡ length marks.old }
+    ensures none { (net : ℕ) → IsTrue (slice_index_or marks.new net false) → ⊥ }
+{
+    for net in 0..marks.len() {
+        marks[net] = false;
+    }
+}
+
 /// Whether the operator gives the windows back at each net from number `from` to before number `to`. Each of this many
-/// threads decides it of a share of the nets.
+/// threads decides it of a share of the nets, and evaluates no net that is marked with all nets of its read list.
 fn closed_by<R: Threads + Sync>(
     rt: &R,
     design: &Design,
+    lists: &ReadLists,
+    marks: &[bool],
     windows: &Windows,
     from: u32,
     to: u32,
     shares: u32,
 ) -> bool
-    requires count { length windows.now ≡ length design.now.nets }
+    requires lists { AreReadLists design.now lists.now }
+    requires look { IsLook design.now lists.now windows.now marks.now }
     requires within { IsWithinEnvelope design.now windows.now }
     requires order { from ≤ to }
     requires end { to ≤ length design.now.nets }
@@ -123,7 +141,7 @@ fn closed_by<R: Threads + Sync>(
     ensures { IsTrue result ↔ ((n : ℕ) → from ≤ n → n < to → IsSteadyAt design.now windows.now n) }
 {
     if shares <= 1 {
-        return closed_part(design, windows, from, to);
+        return closed_where(design, lists, marks, windows, from, to);
     }
     let some = shares / 2;
     let rest = shares - some;
@@ -131,37 +149,43 @@ fn closed_by<R: Threads + Sync>(
     let (left, right) = join(
         rt,
         move || -> bool
-            requires { IsSync R.row × (length windows.now ≡ length design.now.nets)
-                × IsWithinEnvelope design.now windows.now × (from ≤ middle) × (middle ≤ length design.now.nets)
+            requires { IsSync R.row × AreReadLists design.now lists.now
+                × IsLook design.now lists.now windows.now marks.now × IsWithinEnvelope design.now windows.now
+                × (from ≤ middle) × (middle ≤ length design.now.nets)
                 × (some ≤ most_workers) }
             ensures { IsTrue result ↔ ((n : ℕ) → from ≤ n → n < middle
                 → IsSteadyAt design.entry.now windows.entry.now n) }
-        { closed_by(rt, design, windows, from, middle, some) },
+        { closed_by(rt, design, lists, marks, windows, from, middle, some) },
         move || -> bool
-            requires { IsSync R.row × (length windows.now ≡ length design.now.nets)
-                × IsWithinEnvelope design.now windows.now × (middle ≤ to) × (to ≤ length design.now.nets)
+            requires { IsSync R.row × AreReadLists design.now lists.now
+                × IsLook design.now lists.now windows.now marks.now × IsWithinEnvelope design.now windows.now
+                × (middle ≤ to) × (to ≤ length design.now.nets)
                 × (rest ≤ most_workers) }
             ensures { IsTrue result ↔ ((n : ℕ) → middle ≤ n → n < to
                 → IsSteadyAt design.entry.now windows.entry.now n) }
-        { closed_by(rt, design, windows, middle, to, rest) },
+        { closed_by(rt, design, lists, marks, windows, middle, to, rest) },
     );
     left && right
 }
 
 /// Loads each word by the first pass into the windows, and decides whether the words are closed, by this many threads.
-/// Takes no memory.
+/// Leaves no net marked. Takes no memory.
 pub(crate) fn look<R: Threads + Sync>(
     rt: &R,
     board: &SharedBoard,
     first: &mut Pass,
     design: &Design,
+    lists: &ReadLists,
     windows: &mut Windows,
+    marks: &mut [bool],
     shares: u32,
 ) -> bool
     requires own { IsOf board.now first.old }
     requires alone { IsAlone first.old.view }
     requires design { board.now.setting.design ≡ design.now }
+    requires lists { AreReadLists design.now lists.now }
     requires count { length windows.old ≡ length design.now.nets }
+    requires marks { length marks.old ≡ length design.now.nets }
     requires few { shares ≤ most_workers }
     ensures own { IsOf board.now first.new }
     ensures view { first.new.view ≡ first.old.view }
@@ -169,8 +193,62 @@ pub(crate) fn look<R: Threads + Sync>(
     ensures fits { IsFittingStart board.now.setting.way design.now windows.new }
     ensures kept { AreKept board.now.setting first.old.view.seen }
     ensures rested { 0 < length design.now.nets → IsRested first.old.view }
+    ensures look { IsLook design.now lists.now windows.new marks.new }
     ensures closed { IsTrue result ↔ AreClosed design.now first.old.view.seen }
 {
-    load_all(board, first, windows);
-    closed_by(rt, design, windows, 0, design.nets().len() as u32, shares)
+    load_all(board, first, windows, marks);
+    unmark(marks);
+    closed_by(
+        rt,
+        design,
+        lists,
+        marks,
+        windows,
+        0,
+        design.nets().len() as u32,
+        shares,
+    )
+}
+
+/// A look as by [`look`] after a round from the words of these windows: it marks the nets that the round did not move,
+/// and evaluates only nets that read one which it moved.
+pub(crate) fn look_again<R: Threads + Sync>(
+    rt: &R,
+    board: &SharedBoard,
+    first: &mut Pass,
+    design: &Design,
+    lists: &ReadLists,
+    windows: &mut Windows,
+    marks: &mut [bool],
+    shares: u32,
+) -> bool
+    requires own { IsOf board.now first.old }
+    requires alone { IsAlone first.old.view }
+    requires design { board.now.setting.design ≡ design.now }
+    requires lists { AreReadLists design.now lists.now }
+    requires before { IsFittingStart board.now.setting.way design.now windows.old }
+    requires marks { length marks.old ≡ length design.now.nets }
+    requires carried { IsRested first.old.view
+        → HasCarried board.now.setting (numbers_of windows.old) first.old.view.seen }
+    requires few { shares ≤ most_workers }
+    ensures own { IsOf board.now first.new }
+    ensures view { first.new.view ≡ first.old.view }
+    ensures numbers { numbers_of windows.new ≡ first.old.view.seen }
+    ensures fits { IsFittingStart board.now.setting.way design.now windows.new }
+    ensures kept { AreKept board.now.setting first.old.view.seen }
+    ensures rested { 0 < length design.now.nets → IsRested first.old.view }
+    ensures look { IsLook design.now lists.now windows.new marks.new }
+    ensures closed { IsTrue result ↔ AreClosed design.now first.old.view.seen }
+{
+    load_all(board, first, windows, marks);
+    closed_by(
+        rt,
+        design,
+        lists,
+        marks,
+        windows,
+        0,
+        design.nets().len() as u32,
+        shares,
+    )
 }

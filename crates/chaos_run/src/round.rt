@@ -4,15 +4,17 @@ ghost use Rattle.std.specs.Prelude.{◌≡◌, ℕ, ◌+◌, ◌<◌, ◌≤◌,
 ghost use Rattle.std.specs.List.{All, AllZip};
 ghost use Rattle.xt_model.specs.Limits.{most_workers};
 ghost use Rattle.xt_model.specs.Levels.{IsOrder};
+ghost use Rattle.chaos_core.specs.Looks.{IsLook};
 ghost use Rattle.chaos_core.specs.Runs.{Ran};
 ghost use Rattle.window_words.specs.Boards.{knowledge_of, IsAlone, IsFirst, IsOf};
 ghost use Rattle.chaos_run.specs.Rounds.{with_out, AreIdle, AreRoomy, IsRun, IsSent, IsReady, HasRun, IsBack};
 
 use crate::workers::{Run, SeatedWorker, Workers};
-use chaos_core::{Gate, run_worker};
+use chaos_core::{Gate, Looked, run_looked};
 use std::thread;
 use std::thread::Threads;
 use window_words::{Pass, Seated};
+use xt_model::Windows;
 
 /// Gives every worker a pass of its own.
 fn send_out<'a, G>(run: &Run<'a, G>, workers: &mut Workers<'a>, first: &mut Pass)
@@ -40,19 +42,27 @@ fn send_out<'a, G>(run: &Run<'a, G>, workers: &mut Workers<'a>, first: &mut Pass
 }
 
 /// One worker's part of a round: it passes the gate, and then draws and works until it is done.
-fn work<G: Gate>(run: &Run<'_, G>, own: &mut SeatedWorker<'_>, number: u32, round: u64)
+fn work<G: Gate>(
+    run: &Run<'_, G>,
+    own: &mut SeatedWorker<'_>,
+    number: u32,
+    round: u64,
+    look: &Looked<'_>,
+)
     requires run { IsRun run.now.board.now run.now.design.now run.now.lists.now run.now.direction }
+    requires look { IsLook run.now.design.now run.now.lists.now look.now.windows.now look.now.marks.now }
     requires ready { IsReady run.now.board.now run.now.lists.now own.old }
     ensures { HasRun run.now.board.now run.now.design.now run.now.lists.now own.old own.new }
 {
     run.gate.pass(number, round);
     own.worker.reset();
-    run_worker(
+    run_looked(
         &mut own.seated,
         &mut own.worker,
         run.design,
         run.lists,
         run.direction,
+        look,
     );
 }
 
@@ -63,8 +73,10 @@ fn work_all<R: Threads + Sync, G: Gate>(
     run: &Run<'_, G>,
     seated: &mut [SeatedWorker<'_>],
     round: u64,
+    look: &Looked<'_>,
 )
     requires run { IsRun run.now.board.now run.now.design.now run.now.lists.now run.now.direction }
+    requires look { IsLook run.now.design.now run.now.lists.now look.now.windows.now look.now.marks.now }
     requires some { 0 < length seated.old }
     requires few { length seated.old ≤ most_workers }
     requires ready { All (IsReady run.now.board.now run.now.lists.now) seated.old }
@@ -78,10 +90,11 @@ fn work_all<R: Threads + Sync, G: Gate>(
         &|place: usize, own: &mut SeatedWorker<'_>|
             requires { (place < most_workers)
                 × IsRun run.now.board.now run.now.design.now run.now.lists.now run.now.direction
+                × IsLook run.now.design.now run.now.lists.now look.now.windows.now look.now.marks.now
                 × IsReady run.now.board.now run.now.lists.now own.now }
             ensures { HasRun run.entry.now.board.now run.entry.now.design.now run.entry.now.lists.now
                 own.entry.now own.exit.now }
-        { work(run, own, place as u32 + 1, round) },
+        { work(run, own, place as u32 + 1, round, look) },
     );
 }
 
@@ -118,10 +131,13 @@ pub(crate) fn round<'a, R: Threads + Sync, G: Gate>(
     workers: &mut Workers<'a>,
     first: &mut Pass,
     round: u64,
+    windows: &Windows,
+    marks: &[bool],
 )
     requires run { IsRun run.now.board.now run.now.design.now run.now.lists.now run.now.direction }
     requires own { IsOf run.now.board.now first.old }
     requires alone { IsAlone first.old.view }
+    requires look { IsLook run.now.design.now run.now.lists.now windows.now marks.now }
     requires idle { AreIdle run.now.lists.now workers.old }
     requires some { 0 < length workers.old.idle.items }
     requires few { length workers.old.idle.items ≤ most_workers }
@@ -133,8 +149,9 @@ pub(crate) fn round<'a, R: Threads + Sync, G: Gate>(
     ensures idle { AreIdle run.now.lists.now workers.new }
     ensures count { length workers.new.idle.items ≡ length workers.old.idle.items }
 {
+    let look = Looked { windows, marks };
     run.board.restart(first);
     send_out(run, workers, first);
-    work_all(rt, run, workers.seated.as_mut_slice(), round);
+    work_all(rt, run, workers.seated.as_mut_slice(), round, &look);
     take_back(run, workers, first);
 }

@@ -15,7 +15,7 @@ ghost use Rattle.chaos_core.specs.Rounds.{AreClosed, AreTurns};
 ghost use Rattle.window_words.specs.Boards.{IsAlone, IsOf};
 ghost use Rattle.chaos_run.specs.Rounds.{AreIdle, IsRoomFor, IsRun, workers_in};
 
-use crate::look::look;
+use crate::look::{look, look_again};
 use crate::round::round;
 use crate::workers::{Run, RunRoom, Workers};
 use chaos_core::{Gate, Settled};
@@ -33,6 +33,7 @@ fn run_rounds<'a, R: Threads + Sync, G: Gate>(
     workers: &mut Workers<'a>,
     first: &mut Pass,
     windows: &mut Windows,
+    marks: &mut [bool],
 ) -> u64
     requires run { IsRun run.now.board.now run.now.design.now run.now.lists.now run.now.direction }
     requires own { IsOf run.now.board.now first.old }
@@ -41,6 +42,7 @@ fn run_rounds<'a, R: Threads + Sync, G: Gate>(
     requires some { 0 < length workers.old.idle.items }
     requires few { length workers.old.idle.items ≤ most_workers }
     requires count { length windows.old ≡ length run.now.design.now.nets }
+    requires marks { length marks.old ≡ length run.now.design.now.nets }
     ensures own { IsOf run.now.board.now first.new }
     ensures alone { IsAlone first.new.view }
     ensures fits { IsFittingStart run.now.direction run.now.design.now windows.new }
@@ -53,13 +55,17 @@ fn run_rounds<'a, R: Threads + Sync, G: Gate>(
     ensures turns { AreTurns run.now.board.now.setting result first.old.view.seen first.new.view.seen }
 {
     let shares = workers.idle.as_slice().len() as u32;
-    let mut done = look(rt, run.board, first, run.design, windows, shares);
+    let mut done = look(
+        rt, run.board, first, run.design, run.lists, windows, marks, shares,
+    );
     let mut rounds: u64 = 0;
     'rounds: while !done {
         prove!(rounds < run.design.bound());
         rounds += 1;
-        round(rt, run, workers, first, rounds);
-        done = look(rt, run.board, first, run.design, windows, shares);
+        round(rt, run, workers, first, rounds, windows, marks);
+        done = look_again(
+            rt, run.board, first, run.design, run.lists, windows, marks, shares,
+        );
     }
     rounds
 }
@@ -95,9 +101,14 @@ pub fn settle_in<'a, R: Threads + Sync, G: Gate>(
     ensures consistent { direction ≡ Narrow → (xs : List Transition) → AreConsistent design.now xs
         → LieWithin (assigned result.windows) xs }
 {
-    let RunRoom { workers, windows } = room;
+    let RunRoom {
+        workers,
+        windows,
+        marks,
+    } = room;
     let mut workers = workers;
     let mut windows = windows;
+    let mut marks = marks;
     let run = Run {
         board,
         design,
@@ -105,7 +116,14 @@ pub fn settle_in<'a, R: Threads + Sync, G: Gate>(
         direction,
         gate,
     };
-    let rounds = run_rounds(rt, &run, &mut workers, first, &mut windows);
+    let rounds = run_rounds(
+        rt,
+        &run,
+        &mut workers,
+        first,
+        &mut windows,
+        marks.as_mut_slice(),
+    );
     Settled { windows, rounds }
 }
 

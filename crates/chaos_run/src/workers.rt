@@ -50,11 +50,12 @@ impl<'a> Workers<'a> {
     }
 }
 
-/// The room of a run: its workers, and windows for the look at its words. It serves a run on one board.
+/// The room of a run: its workers, and windows and marks for the look at its words. It serves a run on one board.
 #[derive(Drop)]
 pub struct RunRoom<'a> {
     pub(crate) workers: Workers<'a>,
     pub(crate) windows: Windows,
+    pub(crate) marks: Vec<bool>,
 }
 
 impl<'a> RunRoom<'a> {
@@ -72,6 +73,11 @@ impl<'a> RunRoom<'a> {
     {
         let workers = Workers::new(alloc, lists, workers)?;
         let windows = quiet(alloc, design)?;
-        Ok(RunRoom { workers, windows })
+        let marks = vec![in alloc; false; design.nets().len()]?;
+        Ok(RunRoom {
+            workers,
+            windows,
+            marks,
+        })
     }
 }

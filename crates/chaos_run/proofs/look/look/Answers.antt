@@ -21,6 +21,24 @@ returns-clause-fits g c =
     let base = kept_fits v.setting v.seen c.load_all.new.windows c.load_all.ensures.kept c.load_all.ensures.numbers c.load_all.ensures.range in
     fits_under a v.setting c.args.design.now a.way c.load_all.new.windows c.requires.own.setting c.requires.design refl base
 
+pub closed_by-requires-clause-look : goal.closed_by-requires-clause-look
+closed_by-requires-clause-look g c = λ _ _.
+    let count = c.requires.count in
+    record {
+      windows = record { count = c.load_all.ensures.count ∙ count; in_range = c.load_all.ensures.range };
+      count = let m = c.unmark.ensures.count in let n = c.load_all.ensures.marks.count in omega (arith, m, n, count);
+      steady = λ net there marked. absurd (c.unmark.ensures.none net marked.own);
+    }
+
+pub returns-clause-look : goal.returns-clause-look
+returns-clause-look g c =
+    let count = c.requires.count in
+    record {
+      windows = record { count = c.load_all.ensures.count ∙ count; in_range = c.load_all.ensures.range };
+      count = let m = c.unmark.ensures.count in let n = c.load_all.ensures.marks.count in omega (arith, m, n, count);
+      steady = λ net there marked. absurd (c.unmark.ensures.none net marked.own);
+    }
+
 pub returns-clause-kept : goal.returns-clause-kept
 returns-clause-kept g c = subst (λ (a : Setting). AreKept a c.args.first.now.view.seen) c.requires.own.setting c.load_all.ensures.kept
 

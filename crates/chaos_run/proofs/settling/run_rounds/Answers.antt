@@ -4,7 +4,7 @@ use Rattle.std.proofs.lemmas.Bool.{both_ways}
 use Rattle.xt_model.specs.declared.direction.Direction.{Direction}
 use Rattle.xt_meaning.specs.Barrier.{IsFittingStart}
 use Rattle.chaos_core.specs.Memories.{AreKept}
-use Rattle.chaos_core.specs.Rounds.{AreClosed, AreTurns}
+use Rattle.chaos_core.specs.Rounds.{AreClosed, AreTurns, HasCarried}
 use Rattle.chaos_core.proofs.NoNets.{some_nets}
 use Rattle.chaos_core.proofs.Settling.{closed_from, closed_extreme, run_nearer}
 use Rattle.window_words.specs.declared.view.View.{View}
@@ -21,6 +21,19 @@ prove-unreachable-requires g c =
     (λ k. both_ways c.rounds.done c.rounds-test.true (inv.closed.1 k)) c.bound.ensures.value in
     omega (arith, few, c.if-prove.true)
 
+pub look_again-done-requires-clause-before : goal.look_again-done-requires-clause-before
+look_again-done-requires-clause-before g c = λ _ _. subst (λ (x : Direction). IsFittingStart x c.args.run.now.design.now c.rounds.windows) (sym c.requires.run.way) c.rounds.invariant.fits
+
+pub look_again-done-requires-clause-carried : goal.look_again-done-requires-clause-carried
+look_again-done-requires-clause-carried g c = λ _ _ rest.
+    let run = c.requires.run in
+    let a = c.args.run.now.board.now.setting in
+    let d = c.args.run.now.design.now in
+    let inv = c.rounds.invariant in
+    let order = run.whole.ordered.0 in
+    let o = run.whole.ordered.1 in
+    subst (λ (words : List ℕ). HasCarried a words c.round.new.first.view.seen) (sym inv.numbers) (turn_carries a d order c.rounds.first c.round.new.first inv.own.setting run.design o (c.round.ensures.ran order o) rest)
+
 pub rounds-smaller : goal.rounds-smaller
 rounds-smaller g c =
     let run = c.requires.run in
@@ -30,12 +43,12 @@ rounds-smaller g c =
     let inv = c.rounds.invariant in
     let words = c.rounds.first.view.seen in
     let open_words : AreClosed d words → ⊥ = λ k. both_ways c.rounds.done c.rounds-test.true (inv.closed.1 k) in
-    let rest = c.look-done-in-rounds.ensures.rested (some_nets a d words run.design inv.kept open_words) in
+    let rest = c.look_again-done.ensures.rested (some_nets a d words run.design inv.kept open_words) in
     let order = run.whole.ordered.0 in
     let o = run.whole.ordered.1 in
     let carry = turn_carries a d order c.rounds.first c.round.new.first inv.own.setting run.design o (c.round.ensures.ran order o) rest in
-    let after = subst (λ (x : Direction). IsFittingStart x d c.look-done-in-rounds.new.windows) run.way c.look-done-in-rounds.ensures.fits in
-    run_nearer a d way c.rounds.windows c.look-done-in-rounds.new.windows words c.round.new.first.view.seen run.design run.way inv.fits after inv.numbers c.look-done-in-rounds.ensures.numbers carry
+    let after = subst (λ (x : Direction). IsFittingStart x d c.look_again-done.new.windows) run.way c.look_again-done.ensures.fits in
+    run_nearer a d way c.rounds.windows c.look_again-done.new.windows words c.round.new.first.view.seen run.design run.way inv.fits after inv.numbers c.look_again-done.ensures.numbers carry
     (λ s. open_words (closed_from d words c.rounds.windows inv.fits.windows.in_range inv.numbers s))
 
 pub rounds-preserved : goal.rounds-preserved
@@ -44,7 +57,7 @@ rounds-preserved g c =
     let a = c.args.run.now.board.now.setting in
     let d = c.args.run.now.design.now in
     let inv = c.rounds.invariant in
-    let look = c.look-done-in-rounds.ensures in
+    let look = c.look_again-done.ensures in
     let begin = c.args.first.now.view in
     let words = c.rounds.first.view.seen in
     let later = c.round.new.first.view.seen in
@@ -63,10 +76,11 @@ rounds-preserved g c =
       alone = subst IsAlone (sym look.view) c.round.ensures.alone;
       idle = c.round.ensures.idle;
       count = c.round.ensures.count ∙ inv.count;
-      fits = subst (λ (x : Direction). IsFittingStart x d c.look-done-in-rounds.new.windows) run.way look.fits;
+      fits = subst (λ (x : Direction). IsFittingStart x d c.look_again-done.new.windows) run.way look.fits;
       numbers = look.numbers ∙ sym same;
+      look = look.look;
       kept = subst (AreKept a) (sym same) look.kept;
-      closed = subst (λ (ws : List ℕ). IsTrue c.look-done-in-rounds.result ↔ AreClosed d ws) (sym same) look.closed;
+      closed = subst (λ (ws : List ℕ). IsTrue c.look_again-done.result ↔ AreClosed d ws) (sym same) look.closed;
       steps = subst (λ (ws : List ℕ). AreTurns a (c.rounds.rounds + 1) begin.seen ws) (sym same) (turn_more a d c.rounds.rounds begin.seen words later run.design inv.steps open_words carry);
       split = λ some. ap (λ (v : View). v.split) look.view ∙ (c.round.ensures.split ∙ inv.count);
       made = omega (arith, published, more);

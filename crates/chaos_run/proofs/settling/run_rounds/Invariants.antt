@@ -3,6 +3,7 @@ use Rattle.std.specs.Prelude.{IsTrue}
 use Rattle.xt_meaning.specs.Barrier.{IsFittingStart}
 use Rattle.xt_meaning.specs.Measure.{room}
 use Rattle.xt_meaning.specs.Words.{numbers_of}
+use Rattle.chaos_core.specs.Looks.{IsLook}
 use Rattle.chaos_core.specs.Memories.{AreKept}
 use Rattle.chaos_core.specs.Rounds.{AreClosed, AreTurns}
 use Rattle.window_words.specs.Boards.{IsAlone, IsOf}
@@ -17,6 +18,7 @@ invariant-rounds g l = record {
   count : length l.workers.idle.items ≡ length l.fn.workers.idle.items;
   fits : IsFittingStart l.run.direction l.run.design.now l.windows;
   numbers : numbers_of l.windows ≡ l.first.view.seen;
+  look : IsLook l.run.design.now l.run.lists.now l.windows l.marks;
   kept : AreKept l.run.board.now.setting l.first.view.seen;
   closed : IsTrue l.done ↔ AreClosed l.run.design.now l.first.view.seen;
   steps : AreTurns l.run.board.now.setting l.rounds l.fn.first.view.seen l.first.view.seen;
