@@ -9,7 +9,7 @@ use crate::parts::DesignParts;
 use crate::row::Row;
 use crate::table::Table;
 use crate::visits::find_levels;
-use std::alloc::{AllocError, Global};
+use std::alloc::Global;
 use std::marker::Model;
 
 /// A design whose arcs make no loop, with the level of each net and the nets in order of level.
@@ -34,8 +34,9 @@ impl Model for Design {
 }
 
 impl Design {
-    ghost use Rattle.std.specs.Prelude.{◌≡◌, ℕ, ◌<◌, ◌^◌, List, length, Some, IfOk, OnOk, IfErr};
+    ghost use Rattle.std.specs.Prelude.{◌≡◌, ℕ, ◌<◌, ◌≤◌, ◌^◌, List, length, Some, IfOk, OnOk, IfErr};
     ghost use Rattle.std.specs.List.{slice_get};
+    ghost use Rattle.xt_model.specs.Limits.{most_couplings};
     ghost use Rattle.xt_model.specs.Miller.{IsMiller};
     ghost use Rattle.xt_model.specs.Parts.{Parts, classical_parts};
     ghost use Rattle.xt_model.specs.Sound.{IsSound, IsSoundNet};
@@ -90,10 +91,12 @@ impl Design {
         })
     }
 
-    /// The parts of the design, and the order of its nets.
-    pub fn into_parts(self) -> (DesignParts, NetOrder)
+    /// The parts of the design, the order of its nets, and how many pairs of nets are coupled.
+    pub fn into_parts(self) -> (DesignParts, NetOrder, u64)
         ensures parts { result.0 ≡ self }
         ensures levels { AreLevels self.nets result.1 }
+        ensures pairs { IsPairCount self.nets result.2 }
+        ensures few { result.2 ≤ most_couplings }
         ensures sound { IsSound self }
     {
         let Design {
@@ -101,31 +104,28 @@ impl Design {
             levels,
             order,
             depth,
-            pairs: _,
+            pairs,
         } = self;
-        (parts, NetOrder::new(levels, order, depth))
+        (parts, NetOrder::new(levels, order, depth), pairs)
     }
 
-    /// The design of these parts, whose arcs are those of the nets that had this order. Only the coupled pairs are
-    /// counted anew.
-    pub fn from_order(
-        alloc: Global,
-        parts: DesignParts,
-        kept: NetOrder,
-    ) -> Result<Design, AllocError>
+    /// The design of these parts, whose arcs are those of the nets that had this order, and of whose nets this many pairs
+    /// are coupled. Nothing is counted or sorted.
+    pub fn from_order(parts: DesignParts, kept: NetOrder, pairs: u64) -> Design
         requires sound { IsSound parts }
         requires levels { AreLevels parts.nets kept }
-        ensures ok { IfOk result (λ d. d ≡ parts) }
+        requires pairs { IsPairCount parts.nets pairs }
+        requires few { pairs ≤ most_couplings }
+        ensures { result ≡ parts }
     {
-        let pairs = coupled_pairs(alloc, parts.nets.as_slice())?.len() as u64;
         let (levels, order, depth) = kept.into_rows();
-        Ok(Design {
+        Design {
             parts,
             levels,
             order,
             depth,
             pairs,
-        })
+        }
     }
 
     /// The same design with its couplings counted by other factors.

@@ -1,4 +1,4 @@
-use Rattle.std.proofs.Common.{rules, ◌∙◌, sym}
+use Rattle.std.proofs.Common.{◌∙◌, sym}
 use Rattle.xt_model.proofs.OrderLaws.{same_order}
 use Rattle.xt_model.proofs.design.Design.from_order.Goals as goal
 
@@ -12,7 +12,7 @@ invariant_of-result c =
       are_levels = kept;
       is_order = same_order _ _ _ _ (sym order.count ∙ kept.count) order.is_order;
       is_depth = order.is_depth;
-      is_pair_count = search rules;
+      is_pair_count = c.requires.pairs;
       most_depth = order.most_depth;
-      most_pairs = search rules;
+      most_pairs = c.requires.few;
     }
