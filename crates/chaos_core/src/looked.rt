@@ -16,8 +16,8 @@ use crate::words::number_in;
 use net_eval::ReadLists;
 use xt_model::{Design, NetId, Pair, Windows};
 
-/// The windows that a look found in words, and a mark for each net. Where a net and all nets of its read list are marked,
-/// the operator gives its windows back.
+/// The windows that a look found in words, and a mark for each net. Where a net and all nets of its read list are
+/// marked, the operator gives its windows back.
 #[derive(Drop)]
 pub struct Looked<'a> {
     pub windows: &'a Windows,

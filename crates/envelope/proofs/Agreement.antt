@@ -25,7 +25,7 @@ not_before ls n m below b =
 
 module _ (d : Parts) (ls order : List ℕ) (s : IsSound d) (levels : AreLevels d.nets ls) (o : IsOrderBy d.nets ls order) where
   -- a net of a lower level than one that had its turn had it before
-  lower_turned : (i n m : ℕ) → IsTurned order i n → slice_index ls m < slice_index ls n → m < length d.nets → IsTurned order i m
+  pub lower_turned : (i n m : ℕ) → IsTurned order i n → slice_index ls m < slice_index ls n → m < length d.nets → IsTurned order i m
   lower_turned i n m t below there =
       let u = all_turned d.nets ls order o m there in
       elim (cases_lt u.place t.place) [

@@ -2,3 +2,4 @@ mod Firsts
 mod Agreement
 pub mod Turns
 pub mod Labels
+mod Anew

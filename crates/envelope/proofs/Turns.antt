@@ -90,7 +90,7 @@ module _ (d : Parts) (order : List ℕ) (v : List Pair) (i : ℕ) (s : IsSound d
   tested_fits n = record { inputs = inputs_fit n (slice_get d.nets n) (s.nets n) }
 
 -- ---- a turn
-widest_of_words : (d : Parts) (v : List Pair) (n : ℕ) (e : Edge) → IsSound d → widest_operator d (quads_of (words_of (assigned v))) n e ≡ widest_operator d (assigned v) n e
+pub widest_of_words : (d : Parts) (v : List Pair) (n : ℕ) (e : Edge) → IsSound d → widest_operator d (quads_of (words_of (assigned v))) n e ≡ widest_operator d (assigned v) n e
 widest_of_words d v n e s = same_inputs d (quads_of (words_of (assigned v))) (assigned v) n e (wired d s) (inputs (slice_get d.nets n)) where
   inputs : (o : Option Net) → IfSome o (λ net. All (λ a. (f : Edge) → quads_of (words_of (assigned v)) a.from.0 f ≡ assigned v a.from.0 f) net.arcs)
   inputs None = tt
@@ -106,7 +106,7 @@ next_is : (d : Parts) (v : List Pair) (n : ℕ) (p : Pair) → IsSound d → IsN
 next_is d v n p s next = by_edge (λ e. quad_at p e ≡ widest_operator d (assigned v) n e) (next.rise ∙ widest_of_words d v n Rise s) (next.fall ∙ widest_of_words d v n Fall s)
 
 -- the same windows have the same tests
-same_tests : (m : MillerNumbers) (w : List Pair) (n : ℕ) (o : Option Net) (p : Pair) → ((e : Edge) → assigned w n e ≡ quad_at p e) → pair_tests m n o p ≡ tests_of m w n o
+pub same_tests : (m : MillerNumbers) (w : List Pair) (n : ℕ) (o : Option Net) (p : Pair) → ((e : Edge) → assigned w n e ≡ quad_at p e) → pair_tests m n o p ≡ tests_of m w n o
 same_tests m w n None p h = refl
 same_tests m w n (Some net) p h = let r = h Rise in let f = h Fall in rw (r, f) refl
 
@@ -114,7 +114,7 @@ other_tests : (m : MillerNumbers) (v w : List Pair) (n : ℕ) (o : Option Net) �
 other_tests m v w n None h = refl
 other_tests m v w n (Some net) h = let r = h Rise in let f = h Fall in rw (r, f) refl
 
-passing : (xs ys : List Test) → xs ≡ ys → AllPass keeps xs → AllPass keeps ys
+pub passing : (xs ys : List Test) → xs ≡ ys → AllPass keeps xs → AllPass keeps ys
 passing xs ys e h = let P : List Test → Type 0 = λ ts. AllPass keeps ts in subst P e h
 
 module _ (d : Parts) (order : List ℕ) (v : List Pair) (i : ℕ) (p : Pair) (s : IsSound d) (o : IsOrder d.nets order) (h : i < length order) (tested : IsTestedPass d order v i)

@@ -5,8 +5,10 @@
 mod fault;
 mod limits;
 mod pass;
+mod renewal;
 mod start;
 
 pub use fault::{EnvelopeFault, What};
 pub use pass::envelope;
+pub use renewal::renewed;
 pub use start::quiet;
