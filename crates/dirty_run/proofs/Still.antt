@@ -3,23 +3,27 @@ use Rattle.std.proofs.Common.{◌≡◌, ℕ, zero, suc, ◌+◌, ◌%◌, ◌�
 use Rattle.std.specs.Prelude.{IsTrue}
 use Rattle.std.proofs.lemmas.Bool.{cases_lt}
 use Rattle.xt_model.specs.declared.edge.Edge.{Edge}
+use Rattle.xt_model.specs.declared.net.NetId.{NetId}
 use Rattle.xt_model.specs.declared.quad.Pair.{Pair}
 use Rattle.xt_model.specs.Quads.{IsBound, IsInRange}
 use Rattle.xt_model.specs.Parts.{Parts}
 use Rattle.xt_model.specs.Assign.{Assignment, assigned, word_number, words_of, quads_of}
 use Rattle.xt_model.specs.Build.{IsRoundBound}
+use Rattle.xt_model.specs.Levels.{IsOrder}
 use Rattle.xt_meaning.specs.Operator.{operator}
-use Rattle.xt_meaning.specs.Barrier.{IsBoundNoFurther, NoFurther, IsBarrier}
-use Rattle.xt_meaning.specs.Words.{number_at, bounds_in, AreNoFurther}
+use Rattle.xt_meaning.specs.Barrier.{IsBoundNoFurther, NoFurther, IsBarrier, IsFittingStart}
+use Rattle.xt_meaning.specs.Words.{number_at, bounds_in, numbers_of, AreNoFurther}
 use Rattle.xt_meaning.proofs.Listed.{listed, length-listed, listed_inside, listed_past, listed_in_range}
 use Rattle.xt_meaning.proofs.Steps.{bound_refl}
 use Rattle.xt_meaning.proofs.Numbers.{windows_by_words, words_of_quads, number_back}
 use Rattle.chaos_core.specs.declared.setting.Setting.{Setting}
 use Rattle.chaos_core.specs.Boards.{nets_of, IsSeen}
 use Rattle.chaos_core.specs.Memories.{AreKept}
-use Rattle.chaos_core.specs.Rounds.{AreClosed, AreTurns, HasCarried}
+use Rattle.net_eval.specs.ReadLists.{AreReadLists}
+use Rattle.chaos_core.specs.Rounds.{AreClosed, AreTurns, HasCarried, Pause, Settles}
 use Rattle.chaos_core.proofs.Sight.{seen_range}
-use Rattle.chaos_core.proofs.Chained.{carried_few, carried_kept, carried_more, outside_quad}
+use Rattle.chaos_core.proofs.Chained.{carried_few, carried_kept, carried_more, outside_quad, rounds_carried}
+use Rattle.chaos_core.proofs.Kept.{start_kept}
 use Rattle.dirty_words.proofs.Closing.{one_bound}
 use Rattle.dirty_run.specs.Visits.{HasMoved}
 use Rattle.dirty_run.specs.Rounds.{AreMarkedTurns}
@@ -92,3 +96,15 @@ turns_few a d (suc rounds) bound begin now own kept turns b =
 -- while each round began at words that were not closed, no more than the bound
 pub turns_fewer : (a : Setting) (d : Parts) (rounds bound : ℕ) (begin now : List ℕ) → a.design ≡ d → AreKept a begin → AreTurns a rounds begin now → IsRoundBound d.nets bound → rounds ≤ bound
 turns_fewer a d rounds bound begin now own kept turns b = carried_few a rounds bound begin now kept turns (subst (λ (x : Parts). IsRoundBound x.nets bound) (sym own) b)
+
+-- ---- a run of one worker alone
+alone_marked : (a : Setting) (rounds : ℕ) (p q : List ℕ) → AreTurns a rounds p q → AreMarkedTurns a rounds p q
+alone_marked a zero p q same = same
+alone_marked a (suc rounds) p q h = (h.0, h.1, h.3)
+
+pub alone_turns : (a : Setting) (lists : List (List NetId)) (order : List ℕ) (windows : List Pair) (rounds : ℕ) → AreReadLists a.design lists → IsOrder a.design.nets order → IsFittingStart a.way a.design a.start
+    → Settles a lists order 1 0 windows rounds → AreMarkedTurns a rounds (numbers_of a.start) (numbers_of windows)
+alone_turns a lists order windows rounds are o start settles =
+    let p : Pause = record { source = 0; words = numbers_of a.start } in
+    let q : Pause = record { source = settles.source; words = numbers_of windows } in
+    alone_marked a rounds p.words q.words (rounds_carried a lists order 1 rounds p q (omega arith) are o (start_kept a are.sound start) settles.path)

@@ -1,4 +1,4 @@
-//! A run by marks on a board of its own.
+//! A run by marks on words of its own.
 
 ghost use Rattle.std.specs.Prelude.{◌≡◌, ℕ, ◌+◌, ◌≤◌, List, IfOk};
 ghost use Rattle.xt_model.specs.declared.direction.Direction.TheVariants.{Narrow};
@@ -14,17 +14,19 @@ ghost use Rattle.net_eval.specs.ReadLists.{AreReadLists};
 ghost use Rattle.dirty_run.specs.Rounds.{AreMarkedTurns};
 
 use crate::settling::settle_dirty;
-use chaos_core::{Gate, Settled};
+use chaos_core::{Gate, Settled, settle_alone};
 use dirty_words::{DirtyBoard, readers};
 use net_eval::ReadLists;
 use std::alloc::Global;
 use std::thread::Threads;
 use xt_model::{Design, Direction, NoMemory, Windows};
 
-/// A run by marks from a fitting start on words of its own, by this many workers in threads of their own, which pass
-/// the gate in each round. The windows are then the least fixpoint in widening and the greatest in narrowing, whatever
-/// the workers, and in narrowing all transitions that explain one another lie within them. The run makes at most one
-/// round more than the design's bound. Fails only for want of memory.
+/// A run from a fitting start on words of its own, by this many workers, in which a net is evaluated again only where
+/// something that it reads moved: several run in threads of their own on a board that they share, by marks; one alone
+/// takes its turns on words in memory. Each passes the gate in each round. The windows are then the least fixpoint in
+/// widening and the greatest in narrowing, whatever the workers, and in narrowing all transitions that explain one
+/// another lie within them. The run makes at most one round more than the design's bound. Fails only for want of
+/// memory.
 pub fn settle_dirty_from<R: Threads + Sync, G: Gate>(
     rt: &R,
     alloc: Global,
@@ -48,6 +50,9 @@ pub fn settle_dirty_from<R: Threads + Sync, G: Gate>(
     ensures consistent { direction ≡ Narrow → IfOk result (λ settled. (xs : List Transition)
         → AreConsistent design.now xs → LieWithin (assigned settled.windows) xs) }
 {
+    if workers == 1 {
+        return settle_alone(alloc, design, lists, direction, start, gate);
+    }
     let readers = readers(alloc, lists)?;
     let (board, mut first) = DirtyBoard::open(alloc, design, lists, direction, start)?;
     settle_dirty(
