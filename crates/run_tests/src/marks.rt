@@ -8,6 +8,7 @@ ghost use Rattle.dirty_words.specs.Boards.{IsFree, IsOf};
 
 use crate::starts::{low, read, settled, top};
 use crate::texts::{CHAIN, CROSS, EMPTY, LOAD_PAIR, ONE};
+use crate::threads::CountGate;
 use chaos_core::OpenGate;
 use design_gen::generate;
 use dirty_run::{settle_dirty, settle_dirty_from};
@@ -18,7 +19,58 @@ use std::test::Fail;
 use std::thread::Threads;
 use xt_model::{Design, Direction, NetId, NoMemory, Windows};
 
-/// The rounds of a run by marks, where it ends in the windows of a run by rounds.
+/// The rounds of a run on a board with marks, and of one by marks on words of its own, each where it ends in the windows
+/// of a run by rounds; of the second also only where each worker passes the gate once in each round.
+type Rounds = [Option<u64>; 2];
+
+/// The rounds of a run on a board with marks, where it ends in these windows.
+fn board_rounds<R: Threads + Sync>(
+    rt: &R,
+    alloc: Global,
+    design: &Design,
+    lists: &ReadLists,
+    way: Direction,
+    start: &Windows,
+    workers: u32,
+    wanted: &Windows,
+) -> Result<Option<u64>, NoMemory>
+    requires start { IsFittingStart way design.now start.now }
+    requires lists { AreReadLists design.now lists.now }
+    requires some { 1 ≤ workers }
+    requires few { workers ≤ 64 }
+{
+    let readers = readers(alloc, lists)?;
+    let (board, mut first) = DirtyBoard::open(alloc, design, lists, way, start)?;
+    let made = settle_dirty(
+        rt, alloc, &board, &mut first, design, lists, &readers, way, workers, &OpenGate,
+    )?;
+    Ok((made.windows.pairs() == wanted.pairs()).then_some(made.rounds))
+}
+
+/// The rounds of a run by marks on words of its own, where it ends in these windows, and each worker passes the gate
+/// once in each of them.
+fn own_rounds<R: Threads + Sync>(
+    rt: &R,
+    alloc: Global,
+    design: &Design,
+    lists: &ReadLists,
+    way: Direction,
+    start: &Windows,
+    workers: u32,
+    wanted: &Windows,
+) -> Result<Option<u64>, NoMemory>
+    requires start { IsFittingStart way design.now start.now }
+    requires lists { AreReadLists design.now lists.now }
+    requires some { 1 ≤ workers }
+    requires few { workers ≤ 64 }
+{
+    let gate = CountGate::new(alloc)?;
+    let made = settle_dirty_from(rt, alloc, design, lists, way, start, workers, &gate)?;
+    let passed = gate.counted(workers as usize, made.rounds, made.rounds);
+    Ok((passed && made.windows.pairs() == wanted.pairs()).then_some(made.rounds))
+}
+
+/// The rounds of both from a start.
 fn rounds_from<R: Threads + Sync>(
     rt: &R,
     alloc: Global,
@@ -27,15 +79,16 @@ fn rounds_from<R: Threads + Sync>(
     way: Direction,
     start: &Windows,
     workers: u32,
-) -> Result<Option<u64>, NoMemory>
+) -> Result<Rounds, NoMemory>
     requires start { IsFittingStart way design.now start.now }
     requires lists { AreReadLists design.now lists.now }
     requires some { 1 ≤ workers }
     requires few { workers ≤ 64 }
 {
-    let made = settle_dirty_from(rt, alloc, design, lists, way, start, workers, &OpenGate)?;
     let wanted = settled(alloc, design, way, start)?;
-    Ok((made.windows.pairs() == wanted.pairs()).then_some(made.rounds))
+    let on_board = board_rounds(rt, alloc, design, lists, way, start, workers, &wanted)?;
+    let on_own = own_rounds(rt, alloc, design, lists, way, start, workers, &wanted)?;
+    Ok([on_board, on_own])
 }
 
 /// The same of two runs, wider and narrower.
@@ -45,7 +98,7 @@ fn both_rounds<R: Threads + Sync>(
     design: &Design,
     top: &Windows,
     workers: u32,
-) -> Result<[Option<u64>; 2], NoMemory>
+) -> Result<[Rounds; 2], NoMemory>
     requires start { IsFittingStart Narrow design.now top.now }
     requires some { 1 ≤ workers }
     requires few { workers ≤ 64 }
@@ -63,7 +116,7 @@ fn rounds_of<R: Threads + Sync>(
     alloc: Global,
     text: &[u8],
     workers: u32,
-) -> Result<[Option<u64>; 2], Fail>
+) -> Result<[Rounds; 2], Fail>
     requires some { 1 ≤ workers }
     requires few { workers ≤ 64 }
 {
@@ -72,12 +125,15 @@ fn rounds_of<R: Threads + Sync>(
     Ok(both_rounds(rt, alloc, &design, &top, workers)?)
 }
 
-/// Designs, workers, and the rounds of a run that widens and of one that narrows.
-const ROUNDS: [(&[u8], u32, [Option<u64>; 2]); 4] = [
-    (EMPTY, 2, [Some(0), Some(0)]),
-    (ONE, 1, [Some(1), Some(1)]),
-    (CROSS, 1, [Some(2), Some(2)]),
-    (LOAD_PAIR, 1, [Some(2), Some(2)]),
+/// Designs, workers, and the rounds of the runs that widen and of those that narrow.
+///
+/// On a board every net is marked at first, and a net that moved is evaluated once more. One worker on words of its own
+/// makes no round from words that are closed, as the envelope of one source is.
+const ROUNDS: [(&[u8], u32, [Rounds; 2]); 4] = [
+    (EMPTY, 2, [[Some(0), Some(0)], [Some(0), Some(0)]]),
+    (ONE, 1, [[Some(1), Some(1)], [Some(1), Some(0)]]),
+    (CROSS, 1, [[Some(2), Some(1)], [Some(2), Some(1)]]),
+    (LOAD_PAIR, 1, [[Some(2), Some(1)], [Some(2), Some(1)]]),
 ];
 
 #[test]

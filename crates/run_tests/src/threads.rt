@@ -20,7 +20,7 @@ use xt_model::{Design, Direction, NoMemory, Pair, Quad, Windows};
 /// A gate that holds nobody, and counts the calls of each worker, with the round of the last; those of all workers
 /// above 64 together.
 #[derive(Drop)]
-struct CountGate {
+pub(crate) struct CountGate {
     calls: Vec<AtomicU64>,
     last: Vec<AtomicU64>,
     strayed: AtomicBool,
@@ -28,7 +28,7 @@ struct CountGate {
 
 impl CountGate {
     /// A gate that nobody has passed.
-    fn new(alloc: Global) -> Result<CountGate, AllocError> {
+    pub(crate) fn new(alloc: Global) -> Result<CountGate, AllocError> {
         Ok(CountGate {
             calls: zeros(alloc)?,
             last: zeros(alloc)?,
@@ -38,7 +38,7 @@ impl CountGate {
 
     /// Whether workers 1 to `workers` passed once in each round of one run or of several, in this order, `calls` times
     /// in all and last in round `last`, and no other did.
-    fn counted(&self, workers: usize, calls: u64, last: u64) -> bool {
+    pub(crate) fn counted(&self, workers: usize, calls: u64, last: u64) -> bool {
         are_first(&self.calls, workers, calls)
             && are_first(&self.last, workers, last)
             && !self.strayed.load(Ordering::SeqCst)
