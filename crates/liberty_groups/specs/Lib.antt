@@ -2,6 +2,7 @@ pub mod Sorts
 pub mod Grammar
 pub mod Values
 pub mod Trees
+pub mod Attributes
 pub mod Building
 pub mod View
 pub mod Library

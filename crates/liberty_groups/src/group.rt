@@ -4,7 +4,7 @@ ghost use Rattle.std.specs.Prelude.{◌≡◌, [], ◌∷◌, ◌++◌, OnOk, ma
 ghost use Rattle.liberty_groups.specs.Trees.{node, no_trees, tree_of, entry_of, with_attribute, with_group};
 ghost use Rattle.liberty_groups.specs.Trees.{head_of, attributes_of, groups_of};
 
-use crate::few::Few;
+use crate::attributes::Attributes;
 use crate::span::Span;
 use crate::values::Values;
 use std::alloc::{AllocError, Global};
@@ -19,14 +19,13 @@ pub struct Attribute {
 }
 
 /// A group: its name, its arguments without the separators, the line of its name, counted from 1, its attributes and
-/// its inner groups, each in the order of the text. A group of which nothing is said, and one inner group, take no room
-/// to spare.
+/// its inner groups, each in the order of the text. A group that is within another takes no room to spare.
 #[derive(Debug, Drop)]
 pub struct Group {
     pub name: Span,
     args: Values,
     pub line: u32,
-    attributes: Few<Attribute>,
+    attributes: Attributes,
     groups: Vec<Group>,
 }
 
@@ -59,7 +58,7 @@ impl Group {
             name: head.name,
             args: head.values,
             line: head.line,
-            attributes: Few::none(),
+            attributes: Attributes::none(),
             groups: Vec::new(alloc),
         }
     }
@@ -112,10 +111,26 @@ impl Group {
         Ok(())
     }
 
-    /// The group with one more inner group.
-    pub fn add_group(&mut self, group: Group) -> Result<(), AllocError>
+    /// Gives back the room to spare of the attributes.
+    fn shrink_attributes(&mut self)
+        ensures { tree_of self.new ≡ tree_of self.old }
+    {
+        self.attributes.shrink();
+    }
+
+    /// Gives back the room to spare of the inner groups.
+    fn shrink_groups(&mut self)
+        ensures { tree_of self.new ≡ tree_of self.old }
+    {
+        self.groups.shrink_to_fit();
+    }
+
+    /// The group with one more inner group, to which nothing is added any more.
+    pub fn add_group(&mut self, mut group: Group) -> Result<(), AllocError>
         ensures { OnOk result (tree_of self.new ≡ with_group (tree_of group) (tree_of self.old)) }
     {
+        group.shrink_attributes();
+        group.shrink_groups();
         push_group(&mut self.groups, group)?;
         Ok(())
     }

@@ -1,9 +1,9 @@
 //! The groups of a Liberty text (Liberty reference manual): a library, its groups within groups, and their attributes.
 #![tactic(auto)]
 
+mod attributes;
 mod building;
 mod context;
-mod few;
 mod forms;
 mod group;
 mod item;
