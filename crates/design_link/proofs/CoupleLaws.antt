@@ -31,7 +31,7 @@ use Rattle.link_rules.specs.Nodes.{text_of, split_last, net_named, pin_net, cut_
 use Rattle.link_rules.specs.Wires.{Capacitor, Wire, coupled, net_at, own_first, capacitor_by, capacitor_of, wire_in, listed_by, listed, wire_of, coupling_of, tap_of, node_at}
 use Rattle.link_rules.specs.Limits.{or_fault, passed, most_load, greatest_load}
 use Rattle.xt_number.specs.Quantities.{IsQuantity}
-use Rattle.link_rules.specs.Sound.{IsSoundCap, IsSoundWire, AreSoundParasitics}
+use Rattle.spef_read.specs.Sound.{IsSoundCap, IsSoundWire, AreSoundParasitics}
 use Rattle.link_rules.specs.Refusals.{node_fault, net_limit}
 use Rattle.link_rules.specs.Bare as bare
 use Rattle.design_link.proofs.Lists.{got, each_find, position_within}

@@ -23,7 +23,7 @@ use Rattle.link_rules.specs.declared.fault.LinkFault.TheVariants as faults
 use Rattle.link_rules.specs.declared.fault.LinkRefusal.{LinkRefusal}
 use Rattle.link_rules.specs.Ends.{NetEnd, end_name}
 use Rattle.link_rules.specs.Nodes.{text_of}
-use Rattle.link_rules.specs.Sound.{IsSoundWire, AreSoundParasitics}
+use Rattle.spef_read.specs.Sound.{IsSoundWire, AreSoundParasitics}
 use Rattle.link_rules.specs.Wires.{Wire, has_resistors, names_on, end_nodes, listed_by, listed, wire_in, wire_of, nodes_of, tree_by, tree_of, couplings_of}
 use Rattle.link_rules.specs.Bare as bare
 use Rattle.xt_model.specs.Limits.{most_nodes}

@@ -14,7 +14,7 @@ use Rattle.spef_read.specs.declared.parasitics.ResText.{ResText}
 use Rattle.spef_read.specs.declared.parasitics.WireText.{WireText}
 use Rattle.spef_read.specs.declared.parasitics.Parasitics.{Parasitics}
 use Rattle.xt_number.specs.Quantities.{IsQuantity}
-use Rattle.link_rules.specs.Sound.{IsThere, IsSoundRes, IsSoundWire, AreSoundParasitics}
+use Rattle.spef_read.specs.Sound.{IsThere, IsSoundRes, IsSoundWire, AreSoundParasitics}
 use Rattle.link_rules.specs.Nodes.{text_of}
 use Rattle.link_rules.specs.Wires.{Capacitor, NamedResistor, own_first, capacitor_by, capacitor_of, named_resistor_of, wire_in}
 use Rattle.link_wires.specs.Wires.{HasNames, HasQuantities}

@@ -4,7 +4,7 @@ ghost use Rattle.std.specs.Prelude.{◌≡◌, ◌<◌, ◌^◌, false, length, 
 ghost use Rattle.std.specs.List.{All, enumerate_from};
 ghost use Rattle.elmore_tree.specs.declared.fault.TreeFault.{TreeFault};
 ghost use Rattle.elmore_tree.specs.Forms.{IsFormOf, IsFaultOf, IsAcceptedTree};
-ghost use Rattle.link_rules.specs.Sound.{AreSoundParasitics};
+ghost use Rattle.spef_read.specs.Sound.{AreSoundParasitics};
 ghost use Rattle.link_rules.specs.Wires.{has_resistors};
 ghost use Rattle.link_wires.specs.WireFaults.{IsThere, IsTreeFault, IsLimit, IsTreeWithin, limit_at};
 ghost use Rattle.link_wires.specs.Within.{IsWireWithin, IsFaultWithin};

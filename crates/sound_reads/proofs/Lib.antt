@@ -1,7 +1,3 @@
-mod SpefTokens
-mod SpefNames
-mod SpefStates
-mod SpefTexts
 mod LibraryUnits
 mod LibraryCells
 pub mod FlatNetlists

@@ -1,5 +1,5 @@
-//! The readers of a library and of parasitics that are linked, and the flat netlist, each with what its value keeps: names
-//! fit, differ and lead somewhere, and quantities keep their ranges.
+//! The reader of a library that is linked, and the flat netlist, each with what its value keeps: names fit and differ,
+//! numbers of tables lead to one, and quantities keep their ranges.
 #![tactic(auto)]
 
 ghost use Rattle.std.specs.Prelude.{◌≤◌, length, IfOk};
@@ -7,14 +7,12 @@ ghost use Rattle.std.specs.List.{All};
 ghost use Rattle.text_forms.specs.Stops.{Gives};
 ghost use Rattle.liberty_cells.specs.Library.{library_meant};
 ghost use Rattle.hier_flatten.specs.Meaning.{FlatMeans, AnswersFlat};
-ghost use Rattle.spef_read.specs.Reading.{parasitics_of};
 ghost use Rattle.sdc_read.specs.Meaning.{IsScale};
-ghost use Rattle.link_rules.specs.Sound.{IsSoundLibrary, AreSoundParasitics};
+ghost use Rattle.link_rules.specs.Sound.{IsSoundLibrary};
 ghost use Rattle.verilog_net.specs.Sound.{IsSoundModule, IsSoundNetlist};
 
 use hier_flatten::FlatFault;
 use liberty_cells::Library;
-use spef_read::Parasitics;
 use std::alloc::Global;
 use verilog_net::{Modules, Netlist};
 use xt_lex::{MOST_BYTES, TextFault};
@@ -38,14 +36,4 @@ pub fn flatten(alloc: Global, modules: &Modules, last_line: u32) -> Result<Netli
     ensures sound { IfOk result IsSoundNetlist }
 {
     hier_flatten::flatten(alloc, modules, last_line)
-}
-
-/// The parasitics of a SPEF text, as `spef_read::read_spef` reads them: names have 1 to 2,049 bytes, each name of a net
-/// or a node is among them, and values are 0 to 2^40 aF or mΩ.
-pub fn read_spef(alloc: Global, bytes: &[u8]) -> Result<Parasitics, TextFault>
-    requires { length bytes.now ≤ MOST_BYTES }
-    ensures value { Gives (λ parasitics. parasitics) result (parasitics_of bytes.now) }
-    ensures sound { IfOk result AreSoundParasitics }
-{
-    spef_read::read_spef(alloc, bytes)
 }

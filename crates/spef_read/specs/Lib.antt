@@ -5,3 +5,4 @@ pub mod Names
 pub mod Meaning
 pub mod Reading
 pub mod View
+pub mod Sound

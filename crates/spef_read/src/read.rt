@@ -1,9 +1,10 @@
 //! From the bytes of a text to its parasitics.
 
-ghost use Rattle.std.specs.Prelude.{◌≡◌, ◌≤◌, length, false};
+ghost use Rattle.std.specs.Prelude.{◌≡◌, ◌≤◌, length, false, IfOk};
 ghost use Rattle.spef_read.specs.Forms.{is_done};
 ghost use Rattle.spef_read.specs.declared.context.Context.TheVariants.{Start};
 ghost use Rattle.spef_read.specs.Reading.{rest_means, text_state, parasitics_of};
+ghost use Rattle.spef_read.specs.Sound.{AreSoundParasitics};
 ghost use Rattle.text_forms.specs.Stops.{Gives, Steps};
 
 use crate::context::Context;
@@ -52,6 +53,20 @@ fn read_all<'a>(
     }
 }
 
+/// What a text means.
+#[tactic(auto, unfolding(crate::specs::Reading::text_state))]
+fn parasitics(alloc: Global, bytes: &[u8]) -> Result<Parasitics, TextFault>
+    requires { length bytes.now ≤ MOST_BYTES }
+    ensures { Gives (λ p. p) result (parasitics_of bytes.now) }
+{
+    if let Some(refused) = tokens_refused(bytes, Rules::Spef, Code::S1, Code::S2) {
+        return Err(TextFault::from(refused));
+    }
+    let mut state = Progress::new(alloc, TextKey::of(bytes));
+    read_all(alloc, &mut Terms::new(bytes, Rules::Spef), &mut state)?;
+    Ok(state.into_parasitics())
+}
+
 /// The parasitics of a SPEF text (IEEE 1481).
 ///
 /// A header is `*SPEF` and a string, and then titles, the flow, the divider, the delimiter, the brackets and the units
@@ -64,15 +79,10 @@ fn read_all<'a>(
 /// or resistance at the first net or at the end of the text; `S5` a number of the name map twice or unknown; `S6` a net
 /// twice; `S7` a section or a list that is not taken. The first refusal counts; one of the tokens themselves comes
 /// before all others. Takes time and memory linear in the bytes.
-#[tactic(auto, unfolding(crate::specs::Reading::text_state))]
 pub fn read_spef(alloc: Global, bytes: &[u8]) -> Result<Parasitics, TextFault>
     requires { length bytes.now ≤ MOST_BYTES }
-    ensures { Gives (λ p. p) result (parasitics_of bytes.now) }
+    ensures value { Gives (λ p. p) result (parasitics_of bytes.now) }
+    ensures sound { IfOk result AreSoundParasitics }
 {
-    if let Some(refused) = tokens_refused(bytes, Rules::Spef, Code::S1, Code::S2) {
-        return Err(TextFault::from(refused));
-    }
-    let mut state = Progress::new(alloc, TextKey::of(bytes));
-    read_all(alloc, &mut Terms::new(bytes, Rules::Spef), &mut state)?;
-    Ok(state.into_parasitics())
+    parasitics(alloc, bytes)
 }

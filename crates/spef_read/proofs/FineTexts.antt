@@ -23,11 +23,11 @@ use Rattle.spef_read.specs.Forms as grammar
 use Rattle.spef_read.specs.Meaning.{State, nothing, means}
 use Rattle.spef_read.specs.Reading.{rest_means, text_state}
 use Rattle.text_forms.proofs.Bytes.{AreGraphic}
-use Rattle.text_forms.proofs.Kept.{FormKeeps, text_keeps, not_refused}
-use Rattle.sound_reads.proofs.SpefTokens.{IsPrintable, words_printable}
-use Rattle.sound_reads.proofs.SpefStates.{IsFine, nothing_fine, separator_leads, pair_leads, brackets_lead, unit_number_leads, unit_leads, units_lead}
-use Rattle.sound_reads.proofs.SpefStates.{pair_number_leads, end_pair_leads, first_leads, cap_node_leads, res_node_leads, net_name_leads, total_leads}
-use Rattle.sound_reads.proofs.SpefStates.{cap_value_leads, res_value_leads, end_net_leads}
+use Rattle.text_forms.proofs.Kept.{FormKeeps, kept, rest_keeps, not_refused}
+use Rattle.spef_read.proofs.PrintableTokens.{IsPrintable, words_printable}
+use Rattle.spef_read.proofs.FineStates.{IsFine, nothing_fine, separator_leads, pair_leads, brackets_lead, unit_number_leads, unit_leads, units_lead}
+use Rattle.spef_read.proofs.FineStates.{pair_number_leads, end_pair_leads, first_leads, cap_node_leads, res_node_leads, net_name_leads, total_leads}
+use Rattle.spef_read.proofs.FineStates.{cap_value_leads, res_value_leads, end_net_leads}
 
 -- there is a name
 abbrev HasNames : State → Type 0
@@ -76,12 +76,9 @@ module _ (context next : Context) where
   two a b item k (t ∷ u ∷ []) fit = k t u fit.2.0 fit.2.1
   two a b item k (t ∷ u ∷ v ∷ ts) fit = absurd fit.2.2
 
-moved : (context : Context) (s s' : State) → ◌≡◌ {A = Result State Code} (Ok s) (Ok s') → Holds context s → Holds context s'
-moved context s s' e h = let same : s ≡ s' = cc in rw same at h
-
 quiet_keeps : (context next : Context) (slots : List Slot) → ((s : State) → InNet context s → InNet next s) → Keeps context (quiet slots next)
 unfolding means
-quiet_keeps context next slots n ts fit s s' h e = moved next s s' e (h.0, n s h.1)
+quiet_keeps context next slots n ts fit s s' h e = kept (Holds next) e (h.0, n s h.1)
 
 refused_keeps : (context : Context) (section : Sort) → Keeps context (refused section)
 unfolding means
@@ -270,17 +267,10 @@ forms_keep contexts.ResValue =
     (one contexts.ResValue contexts.Resistors ValueWord (λ a. grammar.ResValue a) (λ t f p. res_value_keeps contexts.ResValue (λ s i. i) t.text), tt)
 forms_keep contexts.Done = tt
 
-all_by : (context : Context) (fs : List SpefForm) (b : Bool) → (if b then None else Some (forms_in context)) ≡ Some fs → AllOf context fs
-all_by context fs true e = absurd (cc)
-all_by context fs false e = let same : forms_in context ≡ fs = cc in rw same at (forms_keep context)
-
-all_keep : (context : Context) (fs : List SpefForm) → forms context ≡ Some fs → AllOf context fs
-all_keep context fs e = all_by context fs (is_done context) e
-
 -- the state behind a whole text is fine
 pub text_fine : (bytes : List ℕ) (s : State) → text_state bytes ≡ Ok s → IsFine s
 unfolding text_state
 text_fine bytes s e =
     let read = not_refused (tokens_refused Spef S1 S2 bytes) (rest_means contexts.Start (spef_tokens bytes) nothing) s e in
-    let end = text_keeps fits misfits forms means IsPrintable Holds all_keep contexts.Start (spef_tokens bytes) nothing s (words_printable bytes) (nothing_fine, tt) read in
+    let end = rest_keeps fits misfits is_done forms_in means IsPrintable Holds forms_keep contexts.Start (spef_tokens bytes) nothing s (words_printable bytes) (nothing_fine, tt) read in
     end.2.0

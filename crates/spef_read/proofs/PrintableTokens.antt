@@ -5,7 +5,8 @@ use Rattle.std.specs.Char.{is_ascii_graphic}
 use Rattle.std.specs.List.{AllByRecursion, prefix_len}
 use Rattle.std.proofs.lemmas.Bool.{cond_both, not-false, false≢true}
 use Rattle.text_forms.specs.Forms.{Token}
-use Rattle.text_forms.specs.Tokens.{token_by, tokens_to_end}
+use Rattle.text_forms.specs.Tokens.{token_by}
+use Rattle.text_forms.proofs.Kept.{each_token}
 use Rattle.xt_lex.specs.declared.class.Class.TheVariants as classes
 use Rattle.xt_lex.specs.declared.front.Front.{Front}
 use Rattle.xt_lex.specs.declared.token.Kind.{Kind}
@@ -21,7 +22,7 @@ use Rattle.spef_read.specs.declared.sort.Sort.{Sort}
 use Rattle.spef_read.specs.declared.sort.Sort.TheVariants as sorts
 use Rattle.spef_read.specs.Sorts.{sort_by, spef_tokens}
 use Rattle.spef_read.specs.Forms.{is_word}
-use Rattle.text_forms.proofs.Bytes.{AreGraphic, IsGraphic, each-drop, front_passes}
+use Rattle.text_forms.proofs.Bytes.{AreGraphic, IsGraphic, each-drop, each-weaker, front_passes}
 
 -- the bytes of a token that is no string are printable
 abbrev AreFine : Option Kind → List ℕ → Type 0
@@ -102,10 +103,8 @@ sorted_fine kinds.Word t h w = h
 sorted_fine kinds.Mark t h w = h
 sorted_fine kinds.Break t h w = h
 
-all_sorted : (last : ℕ) (ts : List TokenText) → AllByRecursion FineToken ts
-    → AllByRecursion IsPrintable (tokens_to_end sort_by sorts.End false last ts)
-all_sorted last [] each = ((λ w. absurd (false≢true w)), tt)
-all_sorted last (t ∷ ts) each = (sorted_fine t.kind t each.0, all_sorted last ts each.1)
-
 pub words_printable : (bytes : List ℕ) → AllByRecursion IsPrintable (spef_tokens bytes)
-words_printable bytes = all_sorted (last_line bytes) (token_texts Spef bytes) (tokens_fine _ (pieces_fine true 0 0 1 bytes))
+words_printable bytes =
+    let fine = tokens_fine _ (pieces_fine true 0 0 1 bytes) in
+    let each = each-weaker FineToken (λ t. IsPrintable (token_by sort_by sorts.End t.kind t)) (λ t. sorted_fine t.kind t) (token_texts Spef bytes) fine in
+    each_token sort_by sorts.End IsPrintable (last_line bytes) (token_texts Spef bytes) (λ w. absurd (false≢true w)) each
