@@ -1,5 +1,5 @@
 -- What is meant for ports keeps its range.
-use Rattle.std.specs.Prelude.{List, [], ◌∷◌, map, ℤ, pos, Option, Some, None}
+use Rattle.std.specs.Prelude.{[], ◌∷◌, map, ℤ, pos, Option, Some, None}
 use Rattle.std.specs.List.{All, AllByRecursion}
 use Rattle.std.specs.Option.{option_or}
 use Rattle.std.proofs.Common.{arith}
