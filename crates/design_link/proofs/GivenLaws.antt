@@ -15,7 +15,7 @@ use Rattle.sdc_read.specs.declared.ports.PortSet.{PortSet}
 use Rattle.sdc_read.specs.Ports.{port_at, no_sides, IsSize, AreTimes, AreSizes, IsInRange}
 use Rattle.verilog_net.specs.Bits.{Bit}
 use Rattle.link_rules.specs.Given.{span_of, slews_of, window_of, windows_of, clock_at, input_windows, set_windows, quiet_pair, given_by, given_of}
-use Rattle.link_rules.specs.Sound.{IsSoundClock, AreSoundConstraints}
+use Rattle.sdc_read.specs.Sound.{IsSoundClock, AreSoundConstraints}
 
 -- a lesser and a greater number within bounds
 record IsSpan (low high : ℤ) (s : ℤ × ℤ) : Type 0 where

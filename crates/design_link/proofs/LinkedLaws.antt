@@ -25,7 +25,8 @@ use Rattle.verilog_net.specs.Bits.{bits}
 use Rattle.link_rules.specs.Circuit.{sinks_of, circuit_of}
 use Rattle.link_rules.specs.Link.{Links}
 use Rattle.link_rules.specs.Refusals.{unclocked, clock_fault}
-use Rattle.link_rules.specs.Sound.{IsSoundLibrary, AreSoundParasitics, IsSoundClock, AreSoundConstraints}
+use Rattle.link_rules.specs.Sound.{IsSoundLibrary, AreSoundParasitics}
+use Rattle.sdc_read.specs.Sound.{IsSoundClock, AreSoundConstraints}
 use Rattle.verilog_net.specs.Sound.{IsSoundNetlist}
 use Rattle.link_pins.specs.Answers.{IsFound}
 use Rattle.design_link.specs.declared.gathering.Gathered.{Gathered}

@@ -50,7 +50,8 @@ use Rattle.link_rules.specs.Limits.{or_fault, passed, count_fault, size_fault}
 use Rattle.link_rules.specs.Link.{AreForms, HasAcceptedWires}
 use Rattle.link_rules.specs.Pins.{Connected, end_of, inputs_on, outputs_on}
 use Rattle.link_rules.specs.Refusals.{drivers_fault, driver_fault, IsAcceptedWire}
-use Rattle.link_rules.specs.Sound.{IsSoundLibrary, AreSoundParasitics, IsSoundClock, AreSoundConstraints}
+use Rattle.link_rules.specs.Sound.{IsSoundLibrary, AreSoundParasitics}
+use Rattle.sdc_read.specs.Sound.{IsSoundClock, AreSoundConstraints}
 use Rattle.verilog_net.specs.Sound.{IsSoundNetlist}
 use Rattle.link_rules.specs.Wires.{couplings_of, tree_of}
 use Rattle.design_link.proofs.Lists.{each-append, each-weaker, each_at, there, within, numbered_at, length-numbered, mapped_at, length-mapped}

@@ -5,7 +5,8 @@ ghost use Rattle.xt_model.specs.Parts.{classical_parts};
 ghost use Rattle.xt_model.specs.Sound.{IsSound};
 ghost use Rattle.link_rules.specs.Limits.{count_fault};
 ghost use Rattle.link_rules.specs.Link.{Links};
-ghost use Rattle.link_rules.specs.Sound.{IsSoundLibrary, AreSoundParasitics, AreSoundConstraints};
+ghost use Rattle.link_rules.specs.Sound.{IsSoundLibrary, AreSoundParasitics};
+ghost use Rattle.sdc_read.specs.Sound.{AreSoundConstraints};
 ghost use Rattle.verilog_net.specs.Sound.{IsSoundNetlist};
 ghost use Rattle.design_link.specs.Built.{HaveNamesOf, Builds};
 

@@ -1,10 +1,8 @@
--- What reading leaves true of a library, of parasitics and of constraints that are linked: names fit, numbers of tables
+-- What reading leaves true of a library and of parasitics that are linked: names fit, numbers of tables
 -- and names lead somewhere, and quantities keep their ranges.
-use Rattle.std.specs.Prelude.{ℕ, ◌<◌, pos, [], ◌∷◌, length, Option, IfSome}
+use Rattle.std.specs.Prelude.{ℕ, ◌<◌, [], ◌∷◌, length, Option, IfSome}
 use Rattle.std.specs.List.{All}
-use Rattle.xt_model.specs.Limits.{most_period}
 use Rattle.xt_model.specs.Names.{IsName}
-use Rattle.xt_model.specs.Sound.{IsBetween}
 use Rattle.xt_number.specs.Quantities.{IsQuantity}
 use Rattle.liberty_cells.specs.declared.library.Library.{Library}
 use Rattle.liberty_cells.specs.declared.timing.Timing.{Timing}
@@ -14,9 +12,6 @@ use Rattle.spef_read.specs.declared.parasitics.CapText.{CapText}
 use Rattle.spef_read.specs.declared.parasitics.ResText.{ResText}
 use Rattle.spef_read.specs.declared.parasitics.WireText.{WireText}
 use Rattle.spef_read.specs.declared.parasitics.Parasitics.{Parasitics}
-use Rattle.sdc_read.specs.declared.constraints.Clock.{Clock}
-use Rattle.sdc_read.specs.declared.constraints.Constraints.{Constraints}
-use Rattle.sdc_read.specs.Ports.{IsInRange}
 
 -- ---- the library
 
@@ -63,15 +58,3 @@ pub record AreSoundParasitics (p : Parasitics) : Type 0 where
   pub names : All (λ e. IsName e.0) p.names
   pub delimiter : IsName (p.delimiter ∷ [])
   pub wires : All (IsSoundWire p) p.nets
-
--- ---- the constraints
-
--- the clock falls from 0 to 2^40 fs behind its rise
-pub record IsSoundClock (c : Clock) : Type 0 where
-  pub period : IsBetween (pos 1) most_period c.period
-  pub fall : IsQuantity c.fall
-
--- the clock is sound, and what is set for ports keeps its range
-pub record AreSoundConstraints (c : Constraints) : Type 0 where
-  pub clock : IfSome c.clock IsSoundClock
-  pub ports : All IsInRange c.ports

@@ -8,3 +8,4 @@ mod KeptLaws
 mod OriginLaws
 pub mod PortLaws
 pub mod Ranges
+mod Settled

@@ -8,3 +8,4 @@ pub mod Levels
 pub mod Origins
 pub mod Reading
 pub mod View
+pub mod Sound

@@ -1,7 +1,7 @@
 //! Tables of the bits of ports.
 
 ghost use Rattle.std.specs.Prelude.{◌≡◌, ◌<◌, ◌++◌, [], ◌∷◌, length, IfOk, IfSome, OnOk, map};
-ghost use Rattle.std.specs.List.{slice_get};
+ghost use Rattle.std.specs.List.{All, slice_get};
 ghost use Rattle.std.specs.Option.{IsSomeAnd};
 ghost use Rattle.sdc_read.specs.Mentions.{nets_of, told, AllFit};
 ghost use Rattle.sdc_read.specs.Levels.{set_by, known};
@@ -105,7 +105,8 @@ impl PortTable {
         said: Mentions,
     ) -> Result<PortTable, AllocError>
         requires { AllFit (nets_of netlist.now.nets) clock said }
-        ensures { IfOk result (λ t. t ≡ map settled (told (nets_of netlist.now.nets) said)) }
+        ensures value { IfOk result (λ t. t ≡ map settled (told (nets_of netlist.now.nets) said)) }
+        ensures range { IfOk result (All IsInRange) }
     {
         let nets = copied_nets(alloc, netlist)?;
         let levels = Levels::of(alloc, key, &nets, said)?;

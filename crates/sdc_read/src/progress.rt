@@ -8,6 +8,7 @@ ghost use Rattle.sdc_read.specs.Meaning.{or_same, with_units, create_clock, chan
 ghost use Rattle.sdc_read.specs.Meaning.{if_known, or_name, IsScale, IsClock};
 ghost use Rattle.sdc_read.specs.Mentions.{Kept, nets_of, told, state_of, IsKept};
 ghost use Rattle.sdc_read.specs.Ports.{settled};
+ghost use Rattle.sdc_read.specs.Sound.{AreSoundConstraints};
 ghost use Rattle.sdc_read.specs.Objects.{bit_name, knows_clock};
 ghost use Rattle.text_forms.specs.Stops.{Changes};
 
@@ -240,6 +241,7 @@ impl Progress {
         ensures value { IfOk result (λ c. c
             ≡ record { clock = self.clock; ports = map settled (told (nets_of netlist.now) self.said) }) }
         ensures clock { IfOk result (λ c. IfSome c.clock IsClock) }
+        ensures sound { IfOk result AreSoundConstraints }
     {
         let Progress {
             time: _,

@@ -4,6 +4,7 @@ ghost use Rattle.std.specs.Prelude.{◌≤◌, length, IfSome, IfOk, OnOk};
 ghost use Rattle.sdc_words.specs.View.{command_text};
 ghost use Rattle.sdc_read.specs.Meaning.{IsScale, IsClock};
 ghost use Rattle.sdc_read.specs.Mentions.{state_of, IsKept};
+ghost use Rattle.sdc_read.specs.Sound.{AreSoundConstraints};
 ghost use Rattle.sdc_read.specs.Reading.{command_means, commands_mean, constraints_of};
 ghost use Rattle.text_forms.specs.Stops.{Changes, Gives};
 
@@ -83,6 +84,7 @@ pub fn read_sdc(
     requires cap { IsScale cap_scale }
     ensures value { Gives (λ c. c) result (constraints_of bytes.now netlist.now.nets time_scale cap_scale) }
     ensures clock { IfOk result (λ c. IfSome c.clock IsClock) }
+    ensures sound { IfOk result AreSoundConstraints }
 {
     if let Some(refused) = tokens_refused(bytes, Rules::Sdc, Code::C1, Code::C1) {
         return Err(TextFault::from(refused));

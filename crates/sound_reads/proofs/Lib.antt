@@ -6,4 +6,3 @@ mod LibraryUnits
 mod LibraryCells
 pub mod FlatNetlists
 mod Sounds
-mod SdcPorts

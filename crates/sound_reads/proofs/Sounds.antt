@@ -1,6 +1,6 @@
 -- What each text means is sound to be linked.
-use Rattle.std.specs.Prelude.{◌≡◌, refl, ℕ, List, [], ◌∷◌, length, Option, Some, None, IfSome, Result, Ok, Err, IfOk, ℤ}
-use Rattle.std.specs.List.{All, AllByRecursion}
+use Rattle.std.specs.Prelude.{◌≡◌, refl, ℕ, List, [], ◌∷◌, length, Result, Ok, Err, IfOk}
+use Rattle.std.specs.List.{All}
 use Rattle.std.proofs.Common.{arith}
 use Rattle.std.proofs.lemmas.Int.{ints}
 use Rattle.std.proofs.lemmas.List.Elements.{All-from_recursion}
@@ -20,14 +20,8 @@ use Rattle.spef_read.specs.declared.parasitics.WireText.{WireText}
 use Rattle.spef_read.specs.declared.parasitics.Parasitics.{Parasitics}
 use Rattle.spef_read.specs.Meaning.{State}
 use Rattle.spef_read.specs.Reading.{text_state, parasitics_in, parasitics_of}
-use Rattle.sdc_read.specs.declared.constraints.Clock.{Clock}
-use Rattle.sdc_read.specs.declared.constraints.Constraints.{Constraints}
-use Rattle.sdc_read.specs.Meaning.{IsScale, IsClock}
-use Rattle.sdc_read.specs.Ports.{IsInRange}
-use Rattle.sdc_read.specs.Reading.{constraints_of}
-use Rattle.verilog_net.specs.Nets.{Nets}
-use Rattle.sound_reads.proofs.SdcPorts.{ports_in_range}
-use Rattle.link_rules.specs.Sound.{IsSoundTiming, IsSoundPin, IsSoundLibrary, IsSoundCap, IsSoundRes, IsSoundWire, AreSoundParasitics, IsSoundClock, AreSoundConstraints}
+use Rattle.sdc_read.specs.Meaning.{IsScale}
+use Rattle.link_rules.specs.Sound.{IsSoundTiming, IsSoundPin, IsSoundLibrary, IsSoundCap, IsSoundRes, IsSoundWire, AreSoundParasitics}
 use Rattle.text_forms.proofs.Bytes.{each-weaker, name_is}
 use Rattle.sound_reads.proofs.LibraryCells as cells
 use Rattle.sound_reads.proofs.SpefNames.{IsWhole, whole_is_name}
@@ -98,22 +92,6 @@ state_by (Ok s) p f e = let same : parasitics s ≡ p = cc in rw same at (state_
 parasitics_sound : (bytes : List ℕ) (p : Parasitics) → parasitics_of bytes ≡ Ok p → AreSoundParasitics p
 parasitics_sound bytes p e = state_by (text_state bytes) p (λ s at. text_fine bytes s at) e
 
--- ---- the constraints
-clock_by : (o : Option Clock) → IfSome o IsClock → IfSome o IsSoundClock
-clock_by None h = tt
-clock_by (Some c) h =
-    let a = h.period_low in
-    let b = h.period_high in
-    let d = h.fall_low in
-    let e = h.fall_high in
-    record {
-      period = record { least = h.period_low; most = h.period_high };
-      fall = record { least = h.fall_low; most = omega (arith, ints, b, e) };
-    }
-
-constraints_sound : (c : Constraints) → IfSome c.clock IsClock → AllByRecursion IsInRange c.ports → AreSoundConstraints c
-constraints_sound c h k = record { clock = clock_by c.clock h; ports = All-from_recursion IsInRange c.ports k }
-
 -- ---- what the readers answer
 pub library_answer : (r : Result Library TextFault) (bytes : List ℕ) → Gives (λ library. library) r (library_meant bytes) → IfOk r IsSoundLibrary
 library_answer (Ok library) bytes h = library_sound library (cells.library_fine bytes library h)
@@ -127,8 +105,3 @@ scales_answer (Err fault) bytes h = tt
 pub spef_answer : (r : Result Parasitics TextFault) (bytes : List ℕ) → Gives (λ p. p) r (parasitics_of bytes) → IfOk r AreSoundParasitics
 spef_answer (Ok p) bytes h = parasitics_sound bytes p h
 spef_answer (Err fault) bytes h = tt
-
-pub sdc_answer : (r : Result Constraints TextFault) (bytes : List ℕ) (nets : Nets) (time cap : ℤ)
-    → Gives (λ c. c) r (constraints_of bytes nets time cap) → IfOk r (λ c. IfSome c.clock IsClock) → IfOk r AreSoundConstraints
-sdc_answer (Ok c) bytes nets time cap g h = constraints_sound c h (ports_in_range bytes nets time cap c g)
-sdc_answer (Err fault) bytes nets time cap g h = tt

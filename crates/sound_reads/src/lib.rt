@@ -1,5 +1,5 @@
-//! The readers of a library, of parasitics and of constraints that are linked, and the flat netlist, each with what its
-//! value keeps: names fit, differ and lead somewhere, and quantities keep their ranges.
+//! The readers of a library and of parasitics that are linked, and the flat netlist, each with what its value keeps: names
+//! fit, differ and lead somewhere, and quantities keep their ranges.
 #![tactic(auto)]
 
 ghost use Rattle.std.specs.Prelude.{◌≤◌, length, IfOk};
@@ -8,14 +8,12 @@ ghost use Rattle.text_forms.specs.Stops.{Gives};
 ghost use Rattle.liberty_cells.specs.Library.{library_meant};
 ghost use Rattle.hier_flatten.specs.Meaning.{FlatMeans, AnswersFlat};
 ghost use Rattle.spef_read.specs.Reading.{parasitics_of};
-ghost use Rattle.sdc_read.specs.Reading.{constraints_of};
 ghost use Rattle.sdc_read.specs.Meaning.{IsScale};
-ghost use Rattle.link_rules.specs.Sound.{IsSoundLibrary, AreSoundParasitics, AreSoundConstraints};
+ghost use Rattle.link_rules.specs.Sound.{IsSoundLibrary, AreSoundParasitics};
 ghost use Rattle.verilog_net.specs.Sound.{IsSoundModule, IsSoundNetlist};
 
 use hier_flatten::FlatFault;
 use liberty_cells::Library;
-use sdc_read::Constraints;
 use spef_read::Parasitics;
 use std::alloc::Global;
 use verilog_net::{Modules, Netlist};
@@ -50,24 +48,4 @@ pub fn read_spef(alloc: Global, bytes: &[u8]) -> Result<Parasitics, TextFault>
     ensures sound { IfOk result AreSoundParasitics }
 {
     spef_read::read_spef(alloc, bytes)
-}
-
-/// The constraints that an SDC text means for a netlist, as `sdc_read::read_sdc` reads them: a clock's period is 1 to
-/// 2^40 fs, and it falls from 0 to 2^40 fs after its rise; of ports delays are at most 2^40 fs in size, slews and
-/// loads 0 to 2^40 fs and aF.
-pub fn read_sdc(
-    alloc: Global,
-    bytes: &[u8],
-    netlist: &Netlist,
-    time_scale: i32,
-    cap_scale: i32,
-) -> Result<Constraints, TextFault>
-    requires bytes { length bytes.now ≤ MOST_BYTES }
-    requires time { IsScale time_scale }
-    requires cap { IsScale cap_scale }
-    ensures value { Gives (λ constraints. constraints) result
-        (constraints_of bytes.now netlist.now.nets time_scale cap_scale) }
-    ensures sound { IfOk result AreSoundConstraints }
-{
-    sdc_read::read_sdc(alloc, bytes, netlist, time_scale, cap_scale)
 }
