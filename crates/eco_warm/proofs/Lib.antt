@@ -15,3 +15,4 @@ pub mod Made
 pub mod Refused
 pub mod Named
 pub mod OneAnswer
+pub mod Pairs
