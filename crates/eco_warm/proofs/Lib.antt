@@ -16,3 +16,5 @@ pub mod Refused
 pub mod Named
 pub mod OneAnswer
 pub mod Pairs
+pub mod Renewing
+pub mod Arranged
