@@ -83,8 +83,8 @@ pub struct ReplayJob {
     pub miller: Option<Miller>,
 }
 
-/// A linked text and a text of edits, one made after the other: by how many workers, and by which Miller numbers in
-/// place of its own.
+/// A linked text, and a text of edits that are made one after another: by how many workers the design is solved that is
+/// left, and by which Miller numbers in place of its own.
 #[derive(Debug, Drop)]
 pub struct EcoJob {
     pub file: FileName,

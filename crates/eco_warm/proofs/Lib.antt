@@ -15,3 +15,6 @@ pub mod Made
 pub mod Refused
 pub mod Named
 pub mod OneAnswer
+pub mod Pairs
+pub mod Renewing
+pub mod Arranged

@@ -1,6 +1,7 @@
 -- What an edit of the layout makes of a design: capacitance goes from the couplings between two nets to ground, or
 -- comes back.
-use Rattle.std.specs.Prelude.{ℕ, zero, suc, ◌==◌, if◌then◌else◌, ℤ, pos, negsuc, ◌+ℤ◌, ◌-ℤ◌, ◌*ℤ◌, List, [], ◌∷◌, map}
+use Rattle.std.specs.Prelude.{ℕ, zero, suc, ◌-◌, ◌==◌, if◌then◌else◌, ℤ, pos, negsuc, ◌+ℤ◌, ◌-ℤ◌, ◌*ℤ◌}
+use Rattle.std.specs.Prelude.{List, [], ◌∷◌, map}
 use Rattle.std.specs.Int.{int_min, int_div_euclid}
 use Rattle.xt_model.specs.declared.net.Coupling.{Coupling}
 use Rattle.xt_model.specs.declared.net.SinkPin.{SinkPin}
@@ -105,6 +106,12 @@ at_net (suc i) f (n ∷ more) = n ∷ at_net i f more
 -- the couplings of net a to net b are moved, and those of net b to net a
 abbrev pub nets_left : Move → ℕ → ℕ → List Net → List Net
 nets_left m a b nets = at_net b (net_left m a) (at_net a (net_left m b) nets)
+
+-- how many pairs of nets are coupled after a move between two coupled nets, of this many
+abbrev pub pairs_left : Move → ℕ → ℕ
+pairs_left Whole count = count - 1
+pairs_left (ToGround by) count = count
+pairs_left (FromGround by) count = count
 
 -- ---- edits
 

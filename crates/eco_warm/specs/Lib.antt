@@ -1,4 +1,5 @@
 pub mod Edits
+pub mod Laws
 pub mod Possible
 pub mod Reading
 pub mod Starts

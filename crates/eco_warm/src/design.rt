@@ -4,20 +4,20 @@ ghost use Rattle.std.specs.Prelude.{◌≡◌, ◌<◌, ◌≤◌, ◌≤ℤ◌,
 ghost use Rattle.std.specs.List.{slice_get};
 ghost use Rattle.xt_model.specs.Limits.{most_cap, most_couplings};
 ghost use Rattle.xt_model.specs.Sound.{greatest_load};
-ghost use Rattle.eco_warm.specs.Edits.{change_of, edited, first_of, move_of, net_left, second_of};
+ghost use Rattle.eco_warm.specs.Edits.{change_of, edited, first_of, move_of, net_left, pairs_left, second_of};
 ghost use Rattle.eco_warm.specs.Possible.{IsAllowed, IsEditOf, IsImpossible, IsLoadOf, IsMove, IsPossible, IsRefusalOf};
 ghost use Rattle.eco_warm.specs.Starts.{IsAfterEdit};
 
 use crate::copy::copied;
 use crate::edit::{Change, Edit, EditFault, Edited, Move};
 use crate::net::{greatest_load, net_left};
-use std::alloc::{AllocError, Global};
+use std::alloc::Global;
 use xt_model::limits::MOST_CAP;
-use xt_model::{Design, DesignParts, Miller, Net, NetId, NoMemory, Row};
+use xt_model::{Design, DesignParts, Miller, Net, NetId, Row};
 
 impl Edit {
     /// The two nets.
-    fn nets(&self) -> (NetId, NetId)
+    pub fn nets(&self) -> (NetId, NetId)
         ensures first { result.0.0 ≡ first_of self.now }
         ensures second { result.1.0 ≡ second_of self.now }
     {
@@ -108,25 +108,30 @@ pub fn nets_after(alloc: Global, design: &Design, edit: &Edit) -> Result<(Net, N
     Ok((first, second))
 }
 
-/// The design with both nets of an edit as they are after it. Its levels stay as they are; the coupled pairs are
-/// counted anew.
-fn replaced(
-    alloc: Global,
-    design: Design,
-    edit: &Edit,
-    first: Net,
-    second: Net,
-) -> Result<Design, AllocError>
+/// How many pairs of nets are coupled after an edit between two coupled nets, of this many.
+fn pairs_after(moving: Move, pairs: u64) -> u64
+    requires { 0 < pairs }
+    ensures { result ≡ pairs_left moving pairs }
+{
+    match moving {
+        Move::Whole => pairs - 1,
+        _ => pairs,
+    }
+}
+
+/// The design with both nets of an edit as they are after it. Its levels stay as they are, and a shield leaves one pair
+/// of coupled nets fewer.
+fn replaced(design: Design, edit: &Edit, first: Net, second: Net) -> Design
     requires between { IsEditOf design.nets edit.now }
     requires first { IfSome (slice_get design.nets (first_of edit.now))
         (λ old. first ≡ net_left (move_of edit.now) (second_of edit.now) old) }
     requires second { IfSome (slice_get design.nets (second_of edit.now))
         (λ old. second ≡ net_left (move_of edit.now) (first_of edit.now) old) }
     requires allowed { IsAllowed edit.now design.nets }
-    ensures { IfOk result (λ d. d ≡ edited edit.now design) }
+    ensures { result ≡ edited edit.now design }
 {
     let (a, b) = edit.nets();
-    let (parts, order) = design.into_parts();
+    let (parts, order, pairs) = design.into_parts();
     let DesignParts {
         period,
         tables,
@@ -144,31 +149,25 @@ fn replaced(
         checks,
         miller,
     };
-    Design::from_order(alloc, parts, order)
+    Design::from_order(parts, order, pairs_after(edit.moving(), pairs))
 }
 
 /// The design after an edit of which both nets are made already, and how the edit moves its windows. The two nets take
-/// their places, and all else stays in its own. Fails only for want of memory.
-pub fn design_after(
-    alloc: Global,
-    design: Design,
-    edit: &Edit,
-    first: Net,
-    second: Net,
-) -> Result<Edited, NoMemory>
+/// their places, and all else stays in its own.
+pub fn design_after(design: Design, edit: &Edit, first: Net, second: Net) -> Edited
     requires between { IsEditOf design.nets edit.now }
     requires first { IfSome (slice_get design.nets (first_of edit.now))
         (λ old. first ≡ net_left (move_of edit.now) (second_of edit.now) old) }
     requires second { IfSome (slice_get design.nets (second_of edit.now))
         (λ old. second ≡ net_left (move_of edit.now) (first_of edit.now) old) }
     requires allowed { IsAllowed edit.now design.nets }
-    ensures design { IfOk result (λ x. x.design ≡ edited edit.now design) }
-    ensures change { IfOk result (λ x. x.change ≡ change_of design.miller edit.now) }
-    ensures after { IfOk result (λ x. IsAfterEdit design x.design x.change) }
+    ensures design { result.design ≡ edited edit.now design }
+    ensures change { result.change ≡ change_of design.miller edit.now }
+    ensures after { IsAfterEdit design result.design result.change }
 {
     let change = edit.change(design.miller());
-    let design = replaced(alloc, design, edit, first, second)?;
-    Ok(Edited { design, change })
+    let design = replaced(design, edit, first, second);
+    Edited { design, change }
 }
 
 /// `apply`, of a design that is no longer wanted: its two nets are made anew, and all else stays in its place.
@@ -181,7 +180,7 @@ pub fn edit_design(alloc: Global, design: Design, edit: &Edit) -> Result<Edited,
     ensures refusal { IfErr result (IsRefusalOf edit.now design.nets) }
 {
     let (first, second) = nets_after(alloc, &design, edit)?;
-    Ok(design_after(alloc, design, edit, first, second)?)
+    Ok(design_after(design, edit, first, second))
 }
 
 /// The design after an edit, and how the edit moves its windows; or why the design does not allow it: first `E4` of

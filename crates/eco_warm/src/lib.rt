@@ -5,6 +5,7 @@ mod copy;
 mod couplings;
 mod design;
 mod edit;
+mod laws;
 mod names;
 mod net;
 mod portion;
@@ -13,5 +14,6 @@ mod run_starts;
 
 pub use design::{apply, design_after, edit_design, nets_after};
 pub use edit::{Change, Edit, EditFault, Edited, StartWindows};
+pub use laws::{edits_keep_envelopes, edits_order_operators};
 pub use read::read_edit;
 pub use run_starts::{starts, starts_from};

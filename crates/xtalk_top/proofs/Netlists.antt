@@ -1,14 +1,19 @@
 -- The netlist of a text: its modules, and then their flat netlist.
-use Rattle.std.proofs.Common.{◌≡◌, ℕ, List, Option, Result, Ok, Err, ap, refl, sym, ◌∙◌, subst}
+use Rattle.std.proofs.Common.{◌≡◌, ℕ, true, List, [], ◌∷◌, Option, Result, Ok, Err, ap, refl, sym, ◌∙◌, subst}
+use Rattle.std.specs.List.{All}
 use Rattle.xt_model.specs.declared.code.Code.{Code}
 use Rattle.xt_model.specs.declared.fault.LimitKind.{LimitKind}
 use Rattle.xt_lex.specs.Bytes.{last_line}
 use Rattle.text_forms.specs.Forms.{Refusal as Place}
 use Rattle.verilog_net.specs.Reading.{modules_of}
+use Rattle.verilog_net.specs.Sound.{IsSoundModule, IsSoundNetlist}
 use Rattle.verilog_net.specs.declared.netlist.Netlist.{Netlist}
-use Rattle.hier_flatten.specs.Meaning.{Outcome as FlatOutcome}
+use Rattle.hier_flatten.specs.Alone.{is_alone}
+use Rattle.hier_flatten.specs.Meaning.{FlatMeans, Outcome as FlatOutcome}
 use Rattle.hier_flatten.specs.declared.fault.FlatFault.TheVariants as flat
 use Rattle.hier_flatten.proofs.MeaningLaws.{one_outcome}
+use Rattle.sound_reads.proofs.FlatNetlists.{flat_sound}
+use Rattle.flat_laws.proofs.Texts.{alone_is_flat}
 use Rattle.command_line.specs.Words.{Text}
 use Rattle.xtalk_top.specs.Linking.{FlatIn, ModulesIn, NetlistIn}
 use Rattle.xtalk_top.specs.declared.refusal.TextRefusal.{TextRefusal}
@@ -33,6 +38,21 @@ unread_modules bytes line code e = subst (λ m. ModulesIn m (last_line bytes) (E
 pub flat_modules : (bytes : Text) (modules : List Netlist) (r : Result Netlist TextRefusal) → modules_of bytes ≡ Ok modules
     → FlatIn modules (last_line bytes) r → NetlistIn bytes r
 flat_modules bytes modules r e h = subst (λ m. ModulesIn m (last_line bytes) r) (sym e) h
+
+-- a module that is its own flat netlist
+lone_is_flat : (bytes : Text) (modules : List Netlist) (m : Netlist) → modules_of bytes ≡ Ok modules → (modules ≡ m ∷ []) × (is_alone modules ≡ true)
+    → FlatMeans modules (last_line bytes) (Ok m)
+lone_is_flat bytes modules m e (whole, alone) =
+    subst (λ ms. FlatMeans ms (last_line bytes) (Ok m)) (sym whole)
+    (alone_is_flat bytes m (e ∙ ap (λ ms. Ok ms) whole) (subst (λ ms. is_alone ms ≡ true) whole alone))
+
+pub lone_means : (bytes : Text) (modules : List Netlist) (m : Netlist) → modules_of bytes ≡ Ok modules → (modules ≡ m ∷ []) × (is_alone modules ≡ true)
+    → NetlistIn bytes (Ok m)
+lone_means bytes modules m e alone = flat_modules bytes modules (Ok m) e (lone_is_flat bytes modules m e alone)
+
+pub lone_sound : (bytes : Text) (modules : List Netlist) (m : Netlist) → modules_of bytes ≡ Ok modules → (modules ≡ m ∷ []) × (is_alone modules ≡ true)
+    → All IsSoundModule modules → IsSoundNetlist m
+lone_sound bytes modules m e alone sound = flat_sound modules sound (last_line bytes) m (lone_is_flat bytes modules m e alone)
 
 -- ---- a text means one result
 

@@ -7,15 +7,19 @@ use Rattle.xt_model.specs.declared.quad.Pair.{Pair}
 use Rattle.xt_model.specs.Levels.{AreLevelled}
 use Rattle.xt_model.specs.declared.direction.Direction.TheVariants.{Narrow}
 use Rattle.xt_model.specs.Assign.{assigned}
-use Rattle.xt_meaning.specs.Barrier.{IsWithinEnvelope}
+use Rattle.xt_meaning.specs.Barrier.{IsFittingStart, IsWithinEnvelope}
 use Rattle.xt_meaning.specs.Envelope.{IsEnvelope, IsAccepted}
 use Rattle.xt_meaning.specs.Operator.{step}
 use Rattle.run_laws.proofs.Hulls.{within_greatest as consistent_within}
 use Rattle.xt_meaning.specs.Fixpoint.{IsContained, IsFixpoint, IsLeastFixpoint, IsGreatestFixpoint}
+use Rattle.xt_meaning.proofs.Growth.{wired}
+use Rattle.xt_meaning.proofs.Starts.{envelope_fits}
+use Rattle.xt_meaning.proofs.Widest.{envelope_contains}
 use Rattle.xt_meaning.proofs.Extremes.{fixpoint_closed, least_within, within_greatest}
 use Rattle.xt_meaning.proofs.Steps.{contained_narrow}
 use Rattle.envelope.specs.declared.fault.What.{What}
 use Rattle.envelope.proofs.Turns.{none_stopped}
+use Rattle.xtalk_top.specs.Eco.{AreFound, HasEnvelope}
 use Rattle.xtalk_top.specs.Outcome.{AreBounds, KeepsLimits, IsPassed}
 use Rattle.xtalk_top.specs.declared.refusal.PassedLimit.{PassedLimit}
 
@@ -39,3 +43,23 @@ fixpoint_within d top v envelope accepted contains f = record {
   accepted = accepted;
   contained = contains v (contained_narrow (step d v) (assigned v) (fixpoint_closed Narrow d v f));
 }
+
+-- ---- what an envelope that keeps the limits is good for
+pub keeps_within : (d : Parts) (top : List Pair) → HasEnvelope d top → KeepsLimits d
+keeps_within d top h = record { envelope = top; widest = h.envelope.widest; accepted = h.accepted }
+
+pub narrows_from : (d : Parts) (top : List Pair) → IsSound d → AreLevelled d.nets → HasEnvelope d top → IsFittingStart Narrow d top
+narrows_from d top sound levelled h = envelope_fits d levelled.0 top sound levelled.1 h.envelope h.accepted
+
+pub found_within : (d : Parts) (top low high : List Pair) → IsSound d → AreLevelled d.nets → HasEnvelope d top → IsLeastFixpoint d low → IsGreatestFixpoint d high → AreFound d low high
+found_within d top low high sound levelled h least greatest =
+    let within : (v : List Pair) → IsFixpoint d v → IsWithinEnvelope d v =
+    λ v f. fixpoint_within d top v h.envelope h.accepted (λ w fits. envelope_contains d levelled.0 (assigned w) top (wired d sound) levelled.1 h.envelope.widest fits) f in
+    record {
+      keeps = keeps_within d top h;
+      least = least;
+      greatest = greatest;
+      low_within = within low least.fixpoint;
+      high_within = within high greatest.fixpoint;
+      bounds = are_bounds d top low high sound levelled h.envelope least greatest;
+    }

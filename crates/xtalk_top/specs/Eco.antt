@@ -10,6 +10,7 @@ use Rattle.xt_model.specs.declared.net.Net.{Net}
 use Rattle.xt_model.specs.declared.quad.Pair.{Pair}
 use Rattle.xt_model.specs.Parts.{Parts}
 use Rattle.xt_meaning.specs.Barrier.{IsWithinEnvelope}
+use Rattle.xt_meaning.specs.Envelope.{IsAccepted, IsEnvelope}
 use Rattle.xt_meaning.specs.Fixpoint.{IsGreatestFixpoint, IsLeastFixpoint}
 use Rattle.linked_text.specs.Fields.{fields_of}
 use Rattle.report_kind.specs.declared.kind.ReportKind.TheVariants.{All}
@@ -136,6 +137,11 @@ pub record IsAfterLine (d : Parts) (line : Text) (after : Parts) : Type 0 where
   pub made : after ≡ edited edit d
 
 -- ---- a solved design
+
+-- these windows are the envelope of the design, and keep the limits
+pub record HasEnvelope (d : Parts) (top : List Pair) : Type 0 where
+  pub envelope : IsEnvelope d top
+  pub accepted : IsAccepted d top
 
 -- the design keeps its limits; these are its least and its greatest windows; and they lie within its envelope
 pub record AreFound (d : Parts) (low high : List Pair) : Type 0 where

@@ -27,7 +27,7 @@ use crate::input::read_file;
 use crate::refusal::{FileRefusal, PassedLimit, Refusal, Stop, TextRefusal, Unlinked};
 use command_line::{BlockFiles, FileName};
 use design_link::link;
-use hier_flatten::FlatFault;
+use hier_flatten::{FlatFault, lone_module};
 use liberty_cells::Library;
 use link_rules::LinkFault;
 use sdc_read::{Constraints, read_sdc};
@@ -98,6 +98,10 @@ fn flat_netlist(alloc: Global, file: FileName, bytes: &[u8]) -> Result<Netlist, 
         Ok(modules) => modules,
         Err(TextFault::Refused { line, code }) => return Err(refused(file, line, code)),
         Err(TextFault::NoMemory) => return Err(Stop::NoMemory),
+    };
+    let modules = match lone_module(modules) {
+        Ok(netlist) => return Ok(netlist),
+        Err(modules) => modules,
     };
     match flatten(alloc, &modules, last_line(bytes)) {
         Ok(netlist) => Ok(netlist),

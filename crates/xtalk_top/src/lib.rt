@@ -24,8 +24,8 @@ mod top;
 mod warm_run;
 
 pub use command_line::{
-    BlockFiles, Engine, FileName, GenJob, Job, LinkJob, ReplayJob, ReportJob, SolveJob, WordsFault,
-    parse_words,
+    BlockFiles, EcoJob, Engine, FileName, GenJob, Job, LinkJob, ReplayJob, ReportJob, SolveJob,
+    WordsFault, parse_words,
 };
 pub use laws::{calls_agree, one_outcome_is_meant, workers_change_nothing};
 pub use top::{xtalk, xtalk_gated};

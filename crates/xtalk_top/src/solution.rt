@@ -1,6 +1,6 @@
 //! The least and the greatest windows of a design, or the limit that it passes.
 
-ghost use Rattle.std.specs.Prelude.{List, IfOk, IfErr};
+ghost use Rattle.std.specs.Prelude.{◌<◌, List, length, IfOk, IfErr};
 ghost use Rattle.xt_model.specs.declared.direction.Direction.TheVariants.{Narrow};
 ghost use Rattle.xt_model.specs.declared.quad.Pair.{Pair};
 ghost use Rattle.xt_model.specs.Levels.{AreLevelled};
@@ -9,15 +9,17 @@ ghost use Rattle.xt_meaning.specs.Barrier.{IsFittingStart, IsWithinEnvelope};
 ghost use Rattle.xt_meaning.specs.Envelope.{IsAccepted, IsEnvelope};
 ghost use Rattle.xt_meaning.specs.Fixpoint.{IsFixpoint, IsLeastFixpoint, IsGreatestFixpoint};
 ghost use Rattle.envelope.specs.Firsts.{IsFirstPassed};
+ghost use Rattle.envelope.specs.Renewal.{IsEnvelopeBut};
 ghost use Rattle.command_line.specs.Words.{IsWorkerCount};
 ghost use Rattle.xtalk_top.specs.Outcome.{AreBounds, KeepsLimits, SolvedMeans};
 ghost use Rattle.xtalk_top.specs.Call.{IsStop};
+ghost use Rattle.xtalk_top.specs.Eco.{AreFound, HasEnvelope};
 
 use crate::refusal::{DesignRefusal, PassedLimit, Refusal, Stop};
 use crate::runs::{Runs, both_from};
 use chaos_core::Gate;
 use chaos_run::Both;
-use envelope::{EnvelopeFault, What, envelope, quiet};
+use envelope::{EnvelopeFault, What, envelope, quiet, renewed};
 use net_eval::read_lists;
 use std::alloc::Global;
 use std::thread::Threads;
@@ -33,6 +35,29 @@ pub fn envelope_of(alloc: Global, design: &Design) -> Result<Windows, Stop>
     ensures stop { IfErr result (IsStop (SolvedMeans (λ _. ⊥) design.now) (λ _. ⊥)) }
 {
     match envelope(alloc, design) {
+        Ok(top) => Ok(top),
+        Err(EnvelopeFault::Limit { net, what, value }) => Err(passed(
+            alloc, design, net, what, value,
+        )),
+        Err(EnvelopeFault::NoMemory) => Err(Stop::NoMemory),
+    }
+}
+
+/// The envelope of a design, from windows that are its envelope but for two nets and those that read them.
+pub fn envelope_renewed(
+    alloc: Global,
+    design: &Design,
+    old: Windows,
+    first: NetId,
+    second: NetId,
+) -> Result<Windows, Stop>
+    requires first { first.0 < length design.now.nets }
+    requires second { second.0 < length design.now.nets }
+    requires old { IsEnvelopeBut design.now first.0 second.0 old }
+    ensures top { IfOk result (HasEnvelope design.now) }
+    ensures stop { IfErr result (IsStop (SolvedMeans (λ _. ⊥) design.now) (λ _. ⊥)) }
+{
+    match renewed(alloc, design, old, first, second) {
         Ok(top) => Ok(top),
         Err(EnvelopeFault::Limit { net, what, value }) => Err(passed(
             alloc, design, net, what, value,
@@ -74,6 +99,25 @@ fn least_and_greatest<R: Threads + Sync, G: Gate>(
     let lists = read_lists(alloc, design)?;
     let bottom = quiet(alloc, design)?;
     both_from(rt, alloc, gate, design, &lists, &bottom, top, runs)
+}
+
+/// The least and the greatest windows of a design, found from its envelope, which keeps the limits. Fails only for want
+/// of memory.
+pub fn solved_within<R: Threads + Sync, G: Gate>(
+    rt: &R,
+    alloc: Global,
+    gate: &G,
+    design: &Design,
+    top: &Windows,
+    runs: Runs,
+) -> Result<Both, NoMemory>
+    requires sound { IsSound design.now }
+    requires levelled { AreLevelled design.now.nets }
+    requires top { HasEnvelope design.now top.now }
+    requires workers { IsWorkerCount runs.workers }
+    ensures { IfOk result (λ found. AreFound design.now found.low found.high) }
+{
+    least_and_greatest(rt, alloc, gate, design, top, runs)
 }
 
 /// The least and the greatest windows of a design.

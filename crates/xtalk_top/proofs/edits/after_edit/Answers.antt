@@ -1,30 +1,30 @@
-use Rattle.std.proofs.Common.{sym, subst}
 use Rattle.std.proofs.lemmas.Result.{err_from_is_err_and}
-use Rattle.xt_model.specs.Levels.{AreLevelled}
-use Rattle.xt_model.specs.Parts.{Parts}
-use Rattle.xt_model.specs.Sound.{IsSound}
-use Rattle.eco_warm.proofs.Allowed.{edited_levels, edited_sound}
+use Rattle.eco_warm.specs.Edits.{first_of, second_of}
+use Rattle.eco_warm.proofs.Renewing.{renews, still_there}
 use Rattle.xtalk_top.specs.Outcome.{LimitsMean}
 use Rattle.xtalk_top.proofs.EditSteps.{edit_passes, edit_refused}
 use Rattle.xtalk_top.proofs.edits.after_edit.Goals as goal
 
 pub returns-in_err-first-clause-stop : goal.returns-in_err-first-clause-stop
-returns-in_err-first-clause-stop g c =
+returns-in_err-first-clause-stop c =
     let failed = err_from_is_err_and c.from_residual.result c.from_residual.ensures.1 in
     rw failed.1 (rw failed.2 (edit_refused c.args.file.now c.args.number c.args.design c.args.edit.now (λ after o. LimitsMean after ⊥ o) c.in_err-first.field-0.0 c.in_err-first.ensures.stop))
 
-pub solved_after-requires-clause-sound : goal.solved_after-requires-clause-sound
-solved_after-requires-clause-sound g c = λ _ _.
-    subst IsSound (sym c.in-Ok.ensures.design) (edited_sound c.args.design c.args.edit.now c.requires.sound c.requires.between c.in_ok-first.ensures.allowed)
+pub envelope_renewed-requires-clause-first : goal.envelope_renewed-requires-clause-first
+envelope_renewed-requires-clause-first c =
+    still_there c.args.design c.design_after-after.result.design c.args.edit.now c.nets.result.0.0 (first_of c.args.edit.now) c.design_after-after.ensures.design c.nets.ensures.first c.requires.between.first
 
-pub solved_after-requires-clause-levelled : goal.solved_after-requires-clause-levelled
-solved_after-requires-clause-levelled g c = λ _ _.
-    let P : Parts → Type 0 = λ x. AreLevelled x.nets in
-    let l = c.requires.levelled in
-    subst P (sym c.in-Ok.ensures.design) (l.0, edited_levels c.args.design c.args.edit.now l.0 c.requires.sound c.requires.between l.1)
+pub envelope_renewed-requires-clause-second : goal.envelope_renewed-requires-clause-second
+envelope_renewed-requires-clause-second c =
+    still_there c.args.design c.design_after-after.result.design c.args.edit.now c.nets.result.1.0 (second_of c.args.edit.now) c.design_after-after.ensures.design c.nets.ensures.second c.requires.between.second
 
-pub returns-in_err-found-clause-stop : goal.returns-in_err-found-clause-stop
-returns-in_err-found-clause-stop g c =
-    let failed = err_from_is_err_and c.from_residual-in_err-found.result c.from_residual-in_err-found.ensures.1 in
-    rw failed.1 (rw failed.2 (edit_passes c.args.file.now c.args.number c.args.design c.args.edit.now c.in-Ok.after.design c.in_err-found.field-0.0 c.in_ok-first.ensures.allowed c.in-Ok.ensures.design
-    c.in_err-found.ensures.stop))
+pub envelope_renewed-requires-clause-old : goal.envelope_renewed-requires-clause-old
+envelope_renewed-requires-clause-old c =
+    renews c.args.design c.design_after-after.result.design c.args.edit.now c.nets.result.0.0 c.nets.result.1.0 c.args.top c.requires.sound c.requires.between c.design_after-after.ensures.design
+    c.nets.ensures.first c.nets.ensures.second c.requires.top.envelope c.requires.top.accepted
+
+pub returns-in_err-top-clause-stop : goal.returns-in_err-top-clause-stop
+returns-in_err-top-clause-stop c =
+    let failed = err_from_is_err_and c.from_residual-in_err-top.result c.from_residual-in_err-top.ensures.1 in
+    rw failed.1 (rw failed.2 (edit_passes c.args.file.now c.args.number c.args.design c.args.edit.now c.design_after-after.result.design c.in_err-top.field-0.0 c.in_ok-first.ensures.allowed
+    c.design_after-after.ensures.design c.in_err-top.ensures.stop))

@@ -3,19 +3,20 @@ use Rattle.std.proofs.lemmas.Result.{err_from_is_err_and}
 use Rattle.xtalk_top.specs.Eco.{Ends, GoesOn, LinesMean, lines_of}
 use Rattle.xtalk_top.proofs.EditSteps.{after_levelled, after_sound, lines_lead, lines_stop}
 use Rattle.xtalk_top.proofs.Lifts.{lift_stop}
+use Rattle.xtalk_top.proofs.Within.{keeps_within}
 use Rattle.xtalk_top.proofs.edits.after_edits.Goals as goal
 
 pub lines-init : goal.lines-init
-lines-init g c = record {
+lines-init c = record {
   leads = λ o h. h;
   sound = c.requires.sound;
   levelled = c.requires.levelled;
-  found = c.requires.found;
+  top = c.requires.top;
   few = omega arith;
 }
 
 pub returns-in_err-line-clause-stop : goal.returns-in_err-line-clause-stop
-returns-in_err-line-clause-stop g c =
+returns-in_err-line-clause-stop c =
     let failed = err_from_is_err_and c.from_residual.result c.from_residual.ensures.1 in
     let file = c.args.file.now in
     let meant = LinesMean file (lines_of c.lines.rest.now) c.lines.count c.lines.design in
@@ -23,7 +24,7 @@ returns-in_err-line-clause-stop g c =
     c.lines.invariant.leads (λ _ r. r) (c.in_err-line.ensures.stop c.lines.design)))
 
 pub returns-in_err-next-clause-stop : goal.returns-in_err-next-clause-stop
-returns-in_err-next-clause-stop g c =
+returns-in_err-next-clause-stop c =
     let failed = err_from_is_err_and c.from_residual-in_err-next.result c.from_residual-in_err-next.ensures.1 in
     let file = c.args.file.now in
     let lines = lines_of c.lines.rest.now in
@@ -34,10 +35,10 @@ returns-in_err-next-clause-stop g c =
     (lines_stop file lines c.lines.count c.in-Some.line.now (lines_of c.in-Some.more.now) goes c.lines.design c.in_err-next.field-0.0 c.in_err-next.ensures.stop)))
 
 pub lines-smaller : goal.lines-smaller
-lines-smaller g c = rw c.in-Some.is at c.in_ok-line.ensures.shorter
+lines-smaller c = rw c.in-Some.is at c.in_ok-line.ensures.shorter
 
 pub lines-preserved : goal.lines-preserved
-lines-preserved g c =
+lines-preserved c =
     let file = c.args.file.now in
     let lines = lines_of c.lines.rest.now in
     let h = c.lines.invariant in
@@ -48,14 +49,20 @@ lines-preserved g c =
     let few = rw c.in-Some.is at c.in_ok-line.ensures.few in
     record {
       leads = λ o m.
-          h.leads o (lines_lead file lines c.lines.count line (lines_of c.in-Some.more.now) goes c.lines.design next o after c.in_ok-next.ensures.found.keeps m);
+          h.leads o (lines_lead file lines c.lines.count line (lines_of c.in-Some.more.now) goes c.lines.design next o after (keeps_within next c.in_ok-next.next_top c.in_ok-next.ensures.top) m);
       sound = after_sound c.lines.design line next h.sound after;
       levelled = after_levelled c.lines.design line next h.sound h.levelled after;
-      found = c.in_ok-next.ensures.found;
+      top = c.in_ok-next.ensures.top;
       few = omega (arith, few);
     }
 
 pub returns-clause-leads : goal.returns-clause-leads
-returns-clause-leads g c =
+returns-clause-leads c =
     let ends : Ends c.args.file.now (lines_of c.lines.rest.now) c.lines.count = rw c.in_default.is at c.in_ok-line.ensures.means in
     λ o m. c.lines.invariant.leads o (ends c.lines.design o m)
+
+pub returns-clause-sound : goal.returns-clause-sound
+returns-clause-sound c = c.lines.invariant.sound
+
+pub returns-clause-levelled : goal.returns-clause-levelled
+returns-clause-levelled c = c.lines.invariant.levelled

@@ -2,17 +2,17 @@ use Rattle.std.proofs.Common.{◌≤◌, length}
 use Rattle.xt_model.specs.Levels.{AreLevelled}
 use Rattle.xt_model.specs.Sound.{IsSound}
 use Rattle.xtalk_top.specs.Outcome.{Outcome}
-use Rattle.xtalk_top.specs.Eco.{AreFound, LinesMean, lines_of, most_edits}
+use Rattle.xtalk_top.specs.Eco.{HasEnvelope, LinesMean, lines_of, most_edits}
 use Rattle.xtalk_top.proofs.edits.after_edits.Given as goal
 
 abbrev pub invariant-lines : goal.invariant-lines
-invariant-lines g l = record {
+invariant-lines l = record {
   leads : (o : Outcome) → LinesMean l.file (lines_of l.rest) l.count l.design o → LinesMean l.file (lines_of l.text) 0 l.fn.design o;
   sound : IsSound l.design;
   levelled : AreLevelled l.design.nets;
-  found : AreFound l.design l.found.low l.found.high;
+  top : HasEnvelope l.design l.top;
   few : l.count ≤ most_edits;
 }
 
 abbrev pub decreases-lines : goal.decreases-lines
-decreases-lines g l = length l.rest
+decreases-lines l = length l.rest

@@ -1,35 +1,16 @@
 use Rattle.std.proofs.Common.{inr}
 use Rattle.std.proofs.lemmas.Result.{err_from_is_err_and, IfErr-weaker, IfOk-weaker}
 use Rattle.report_kind.specs.declared.kind.ReportKind.TheVariants.{All}
-use Rattle.xtalk_top.specs.Outcome.{DesignMeans, Outcome, prints}
+use Rattle.xtalk_top.specs.Outcome.{DesignMeans, prints}
 use Rattle.xtalk_top.specs.Eco.{EditsMean, LinesMean, lines_of}
 use Rattle.xtalk_top.proofs.EditSteps.{limit_stops}
 use Rattle.xtalk_top.proofs.Lifts.{lift_stop}
 use Rattle.xtalk_top.proofs.edits.report_of_edits.Goals as goal
 
-pub returns-in_err-found-clause-stop : goal.returns-in_err-found-clause-stop
-returns-in_err-found-clause-stop g c =
+pub returns-in_err-top-clause-stop : goal.returns-in_err-top-clause-stop
+returns-in_err-top-clause-stop g c =
     let failed = err_from_is_err_and c.from_residual.result c.from_residual.ensures.1 in
-    rw failed.1 (rw failed.2 (limit_stops c.args.design (LinesMean c.args.file.now (lines_of c.args.text.now) 0 c.args.design) c.in_err-found.field-0.0 c.in_err-found.ensures.stop))
+    rw failed.1 (rw failed.2 (limit_stops c.args.design (LinesMean c.args.file.now (lines_of c.args.text.now) 0 c.args.design) c.in_err-top.field-0.0 c.in_err-top.ensures.stop))
 
-pub after_edits-requires-clause-found : goal.after_edits-requires-clause-found
-after_edits-requires-clause-found g c = λ _ _.
-    let found = c.in_ok-found.ensures in
-    record {
-      keeps = found.within;
-      least = found.least;
-      greatest = found.greatest;
-      low_within = found.low_within;
-      high_within = found.high_within;
-      bounds = found.bounds;
-    }
-
-pub returns-clause-ok : goal.returns-clause-ok
-returns-clause-ok g c =
-    IfOk-weaker c.report_in.result _ _ (λ text h. inr (c.in_ok-found.ensures.within, c.in_ok-design.ensures.leads (prints text.items) h)) c.report_in.ensures.ok
-
-pub returns-clause-stop : goal.returns-clause-stop
-returns-clause-stop g c =
-    let meant = EditsMean c.args.file.now c.args.text.now c.args.design in
-    IfErr-weaker c.report_in.result _ _ (λ s h. lift_stop (DesignMeans All c.in_ok-design.design) meant (λ _. ⊥) (λ _. ⊥) s
-    (λ o m. inr (c.in_ok-found.ensures.within, c.in_ok-design.ensures.leads o m)) (λ _ r. r) h) c.report_in.ensures.stop
+pub after_edits-requires-clause-top : goal.after_edits-requires-clause-top
+after_edits-requires-clause-top g c = record { envelope = c.in_ok-top.ensures.envelope; accepted = c.in_ok-top.ensures.accepted }
