@@ -1,12 +1,11 @@
 -- The state behind a SPEF text is fine.
-use Rattle.std.specs.Prelude.{◌≡◌, ℕ, ◌<◌, ◌≤◌, Bool, true, false, List, [], ◌∷◌, length, Option, Some, None, Result, Ok, if◌then◌else◌}
+use Rattle.std.specs.Prelude.{◌≡◌, ℕ, ◌<◌, ◌≤◌, true, List, [], ◌∷◌, length, Ok}
 use Rattle.std.specs.List.{AllByRecursion}
 use Rattle.std.proofs.Common.{arith}
 use Rattle.std.proofs.lemmas.Bool.{false≢true}
-use Rattle.text_forms.specs.Forms.{Token, Refusal, text_at}
+use Rattle.text_forms.specs.Forms.{Token, text_at}
 use Rattle.text_forms.specs.Refusals.{tokens_refused}
 use Rattle.xt_lex.specs.declared.rules.Rules.TheVariants.{Spef}
-use Rattle.xt_model.specs.declared.code.Code.{Code}
 use Rattle.xt_model.specs.declared.code.Code.TheVariants.{S1, S2}
 use Rattle.spef_read.specs.declared.sort.Sort.{Sort}
 use Rattle.spef_read.specs.declared.sort.Sort.TheVariants as sorts
