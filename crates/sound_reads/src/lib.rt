@@ -1,5 +1,5 @@
-//! The readers of a library and of parasitics that are linked, and the flat netlist, each with what its value keeps: names
-//! fit, differ and lead somewhere, and quantities keep their ranges.
+//! The readers of a library and of parasitics that are linked, and the flat netlist, each with what its value keeps:
+//! names fit, differ and lead somewhere, and quantities keep their ranges.
 #![tactic(auto)]
 
 ghost use Rattle.std.specs.Prelude.{◌≤◌, length, IfOk};
