@@ -19,8 +19,8 @@ pub fn flat_netlists_connect_bits()
 {}
 
 /// A text that one module alone is read from means that module also where several are admitted, and the module is its
-/// own flat netlist. The other way, a text that means one module where several are admitted, with bits alone at its pins,
-/// is read as that module; where no instance is of the module itself, it is the flat netlist of its text.
+/// own flat netlist. The other way, a text that means one module where several are admitted, with bits alone at its
+/// pins, is read as that module; where no instance is of the module itself, it is the flat netlist of its text.
 pub fn one_module_is_itself()
     ensures itself { (bytes : Text) (m : Netlist) → netlist_of_text bytes ≡ Ok m → IsItself bytes m }
     ensures read { (bytes : Text) (m : Netlist) → modules_of bytes ≡ Ok (m ∷ []) → ConnectsBits m

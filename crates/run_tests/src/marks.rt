@@ -19,8 +19,8 @@ use std::test::Fail;
 use std::thread::Threads;
 use xt_model::{Design, Direction, NetId, NoMemory, Windows};
 
-/// The rounds of a run on a board with marks, and of one by marks on words of its own, each where it ends in the windows
-/// of a run by rounds; of the second also only where each worker passes the gate once in each round.
+/// The rounds of a run on a board with marks, and of one by marks on words of its own, each where it ends in the
+/// windows of a run by rounds; of the second also only where each worker passes the gate once in each round.
 type Rounds = [Option<u64>; 2];
 
 /// The rounds of a run on a board with marks, where it ends in these windows.
