@@ -3,9 +3,9 @@
 use crate::block::{LIB, SPEF};
 use crate::call::{calm, outcome};
 use design_link::link;
+use liberty_cells::read_library;
 use link_rules::{LinkFault, LinkRefusal};
 use sdc_read::read_sdc;
-use sound_reads::read_library;
 use spef_read::read_spef;
 use std::alloc::{AllocError, Global};
 use std::test::Fail;

@@ -18,7 +18,7 @@ use Rattle.link_rules.specs.Bare as bare
 use Rattle.link_rules.specs.Limits.{or_fault, passed, count_fault, size_fault}
 use Rattle.link_rules.specs.Link.{Links, HasAcceptedPins, HasAcceptedWires}
 use Rattle.link_rules.specs.Refusals.{instance_fault, driver_fault, IsAcceptedWire}
-use Rattle.link_rules.specs.Sound.{IsSoundLibrary}
+use Rattle.liberty_cells.specs.Sound.{IsSoundLibrary}
 use Rattle.sdc_read.specs.Sound.{AreSoundConstraints}
 use Rattle.verilog_net.specs.Sound.{IsSoundNetlist}
 use Rattle.link_pins.specs.declared.counts.Counts.{Counts}

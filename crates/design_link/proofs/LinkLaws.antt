@@ -23,7 +23,7 @@ use Rattle.link_rules.specs.Link.{Links, HasAcceptedPins, HasAcceptedWires}
 use Rattle.link_rules.specs.Pins.{Connected, inputs_on}
 use Rattle.link_rules.specs.Refusals.{instance_fault, driver_fault}
 use Rattle.xt_number.specs.Quantities.{IsQuantity}
-use Rattle.link_rules.specs.Sound.{IsSoundLibrary}
+use Rattle.liberty_cells.specs.Sound.{IsSoundLibrary}
 use Rattle.sdc_read.specs.Sound.{AreSoundConstraints}
 use Rattle.verilog_net.specs.Sound.{IsSoundNetlist}
 use Rattle.link_pins.specs.Answers.{IsFound}

@@ -25,7 +25,7 @@ use Rattle.verilog_net.specs.Bits.{bits}
 use Rattle.link_rules.specs.Circuit.{sinks_of, circuit_of}
 use Rattle.link_rules.specs.Link.{Links}
 use Rattle.link_rules.specs.Refusals.{unclocked, clock_fault}
-use Rattle.link_rules.specs.Sound.{IsSoundLibrary}
+use Rattle.liberty_cells.specs.Sound.{IsSoundLibrary}
 use Rattle.spef_read.specs.Sound.{AreSoundParasitics}
 use Rattle.sdc_read.specs.Sound.{IsSoundClock, AreSoundConstraints}
 use Rattle.verilog_net.specs.Sound.{IsSoundNetlist}

@@ -35,7 +35,7 @@ use Rattle.link_rules.specs.Pins.{Connected, cell_named, pin_named, is_input, is
 use Rattle.link_rules.specs.Arcs.{both, tables_at, Place, arc_by, arcs_from, edge_pairs, is_input_pin, sink_at, pin_arcs, arcs_of}
 use Rattle.link_rules.specs.Checks.{side_of, flop_check, group_checks, pin_checks, flop_checks, side_check, set_checks, port_checks, port_checks_from}
 use Rattle.text_forms.specs.Names.{IsShortName}
-use Rattle.link_rules.specs.Sound.{IsTableNumber, IsSoundTiming, IsSoundPin, IsSoundLibrary}
+use Rattle.liberty_cells.specs.Sound.{IsTableNumber, IsSoundTiming, IsSoundPin, IsSoundLibrary}
 use Rattle.verilog_net.specs.Sound.{IsSoundInstance, IsSoundNetlist}
 use Rattle.design_link.proofs.Lists.{got, each-append, each_find, find_true, each_filter, each_given, each_joined, each_any, position_within}
 use Rattle.design_link.proofs.GivenLaws.{port_in_range}

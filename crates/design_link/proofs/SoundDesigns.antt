@@ -50,7 +50,7 @@ use Rattle.link_rules.specs.Limits.{or_fault, passed, count_fault, size_fault}
 use Rattle.link_rules.specs.Link.{AreForms, HasAcceptedWires}
 use Rattle.link_rules.specs.Pins.{Connected, end_of, inputs_on, outputs_on}
 use Rattle.link_rules.specs.Refusals.{drivers_fault, driver_fault, IsAcceptedWire}
-use Rattle.link_rules.specs.Sound.{IsSoundLibrary}
+use Rattle.liberty_cells.specs.Sound.{IsSoundLibrary}
 use Rattle.spef_read.specs.Sound.{AreSoundParasitics}
 use Rattle.sdc_read.specs.Sound.{IsSoundClock, AreSoundConstraints}
 use Rattle.verilog_net.specs.Sound.{IsSoundNetlist}

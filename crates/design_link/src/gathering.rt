@@ -3,7 +3,7 @@
 ghost use Rattle.std.specs.Prelude.{◌≡◌, None, IfOk, IfErr, Err};
 ghost use Rattle.link_rules.specs.Limits.{count_fault};
 ghost use Rattle.link_rules.specs.Link.{Links};
-ghost use Rattle.link_rules.specs.Sound.{IsSoundLibrary};
+ghost use Rattle.liberty_cells.specs.Sound.{IsSoundLibrary};
 ghost use Rattle.spef_read.specs.Sound.{AreSoundParasitics};
 ghost use Rattle.sdc_read.specs.Sound.{AreSoundConstraints};
 ghost use Rattle.verilog_net.specs.Sound.{IsSoundNetlist};

@@ -1,2 +1,3 @@
 mod NamesLaws
 mod FirstLaws
+mod SoundCells

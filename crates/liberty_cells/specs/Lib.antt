@@ -5,3 +5,4 @@ pub mod Pins
 pub mod Firsts
 pub mod Cells
 pub mod Library
+pub mod Sound

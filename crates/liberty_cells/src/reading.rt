@@ -1,9 +1,11 @@
 //! From the bytes of a library to its cells and tables.
 
-ghost use Rattle.std.specs.Prelude.{◌≤◌, length};
+ghost use Rattle.std.specs.Prelude.{◌≤◌, length, IfOk};
 ghost use Rattle.liberty_groups.specs.Trees.{tree_of};
 ghost use Rattle.text_forms.specs.Stops.{Gives};
 ghost use Rattle.liberty_cells.specs.Library.{library_in, library_meant};
+ghost use Rattle.liberty_cells.specs.Sound.{IsSoundLibrary};
+ghost use Rattle.xt_number.specs.Quantities.{IsScale};
 
 use crate::cells::cells_of;
 use crate::library::Library;
@@ -16,7 +18,8 @@ use xt_model::Row;
 /// What the groups of a library mean.
 #[tactic(auto, unfolding(crate::specs::Library::library_in))]
 fn library_in(alloc: Global, bytes: &[u8], group: &Group) -> Result<Library, TextFault>
-    ensures { Gives (λ library. library) result (library_in bytes.now (tree_of group.now)) }
+    ensures value { Gives (λ library. library) result (library_in bytes.now (tree_of group.now)) }
+    ensures scales { IfOk result (λ library. IsScale library.time_scale × IsScale library.cap_scale) }
 {
     let scales = units_of(alloc, bytes, group)?;
     let templates = templates_of(alloc, bytes, scales, group)?;
@@ -43,7 +46,9 @@ fn library_in(alloc: Global, bytes: &[u8], group: &Group) -> Result<Library, Tex
 #[tactic(auto, unfolding(crate::specs::Library::library_meant))]
 pub fn read_library(alloc: Global, bytes: &[u8]) -> Result<Library, TextFault>
     requires { length bytes.now ≤ MOST_BYTES }
-    ensures { Gives (λ library. library) result (library_meant bytes.now) }
+    ensures value { Gives (λ library. library) result (library_meant bytes.now) }
+    ensures sound { IfOk result IsSoundLibrary }
+    ensures scales { IfOk result (λ library. IsScale library.time_scale × IsScale library.cap_scale) }
 {
     let group = read_groups(alloc, bytes)?;
     library_in(alloc, bytes, &group)

@@ -4,7 +4,7 @@ ghost use Rattle.std.specs.Prelude.{◌≡◌, ◌≤◌, length, IfOk};
 ghost use Rattle.sdc_read.specs.declared.constraints.Constraints.{Constraints as Given};
 ghost use Rattle.link_rules.specs.Circuit.{circuit_of};
 ghost use Rattle.xt_model.specs.Limits.{most_instances};
-ghost use Rattle.link_rules.specs.Sound.{IsSoundLibrary};
+ghost use Rattle.liberty_cells.specs.Sound.{IsSoundLibrary};
 ghost use Rattle.sdc_read.specs.Sound.{AreSoundConstraints};
 ghost use Rattle.link_pins.specs.Joined.{with_rows, HasPins, IsJoined, Joins, AreCounts};
 

@@ -1,5 +1,4 @@
 pub mod Bits
-pub mod Sound
 pub mod Ends
 pub mod Pins
 pub mod Arcs

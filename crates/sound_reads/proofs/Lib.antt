@@ -1,4 +1,1 @@
-mod LibraryUnits
-mod LibraryCells
 pub mod FlatNetlists
-mod Sounds

@@ -1,5 +1,4 @@
--- What reading leaves true of a library that is linked: numbers of tables lead to one, and capacitances keep their
--- range.
+-- What reading leaves true of a library: numbers of tables lead to one, and capacitances keep their range.
 use Rattle.std.specs.Prelude.{ℕ, ◌<◌, length, Option, IfSome}
 use Rattle.std.specs.List.{All}
 use Rattle.xt_number.specs.Quantities.{IsQuantity}

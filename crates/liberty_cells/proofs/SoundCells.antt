@@ -1,16 +1,16 @@
 -- The tables that the timing groups of a library name are there, and capacitances keep their range.
 use Rattle.std.specs.Prelude.{◌≡◌, refl, ℕ, ◌<◌, ◌≤◌, Bool, true, false, List, [], ◌∷◌, ◌++◌, length, map, codes, ℤ, pos, int_le}
-use Rattle.std.specs.Prelude.{Option, Some, None, IfSome, Result, Ok, Err, if◌then◌else◌}
-use Rattle.std.specs.List.{AllByRecursion}
-use Rattle.std.proofs.Common.{arith, subst}
+use Rattle.std.specs.Prelude.{Option, Some, None, IfSome, Result, Ok, Err, IfOk, if◌then◌else◌}
+use Rattle.std.specs.List.{All, AllByRecursion}
+use Rattle.std.proofs.Common.{arith}
 use Rattle.std.proofs.lemmas.List.{length_push}
+use Rattle.std.proofs.lemmas.List.Elements.{All-from_recursion}
 use Rattle.name_numbers.specs.Names.{Text}
 use Rattle.xt_number.specs.declared.fault.NumberFault.{NumberFault}
 use Rattle.xt_number.specs.Value.{fixed}
 use Rattle.xt_model.specs.declared.code.Code.TheVariants.{L3, L4}
 use Rattle.xt_model.specs.Tables.{TableParts}
 use Rattle.liberty_groups.specs.Trees.{Entry, Tree, head_of, groups_of}
-use Rattle.liberty_groups.specs.Library.{library_of}
 use Rattle.liberty_tables.specs.declared.units.Scales.{Scales}
 use Rattle.xt_model.specs.Results.{◌>>=◌}
 use Rattle.text_forms.specs.Refusals.{Meant, refuse, over}
@@ -18,7 +18,7 @@ use Rattle.liberty_tables.specs.Contents.{text_in}
 use Rattle.liberty_tables.specs.Search.{attribute, contents, only, groups_named, has_group}
 use Rattle.liberty_tables.specs.Templates.{Templates, templates_of, only_name}
 use Rattle.liberty_tables.specs.Tables.{table_of}
-use Rattle.liberty_tables.specs.Units.{AreScales, units_of}
+use Rattle.liberty_tables.specs.Units.{units_of}
 use Rattle.liberty_cells.specs.declared.timing.Timing.{Timing}
 use Rattle.liberty_cells.specs.declared.timing.TableUse.{TableUse}
 use Rattle.liberty_cells.specs.declared.timing.TableUse.TheVariants.{Rise, Fall, RiseSlew, FallSlew}
@@ -30,11 +30,14 @@ use Rattle.liberty_cells.specs.Kinds.{use_named, is_delay_kind, is_read_kind, ro
 use Rattle.liberty_cells.specs.Timings.{Numbered, with_table, related_of, add_use, add_table, does_not_fit, read_tables, empty_timing, stands, timing_of, add_timing, timings_of}
 use Rattle.liberty_cells.specs.Pins.{PinParts, Pins, cap_at, cap_by, cap_of, pin_named, add_pins}
 use Rattle.liberty_cells.specs.Cells.{Cells, new_name, pins_of, add_cell, cells_of}
-use Rattle.liberty_cells.specs.Library.{library_in, library_meant}
+use Rattle.liberty_cells.specs.Library.{library_in}
+use Rattle.liberty_cells.specs.Sound.{IsSoundTiming, IsSoundPin, IsSoundLibrary}
+use Rattle.text_forms.specs.Stops.{Gives}
 use Rattle.text_forms.proofs.Bytes.{each-append, each_push, each-weaker}
+use Rattle.text_forms.proofs.Kept.{kept}
+use Rattle.xt_lex.specs.declared.text_fault.TextFault.{TextFault}
 use Rattle.xt_number.specs.Quantities.{IsQuantity}
 use Rattle.xt_number.proofs.Quantities.{zero_is, quantity_from}
-use Rattle.sound_reads.proofs.LibraryUnits.{units_are}
 
 -- ---- values one after another
 module _ {A B : Type 0} where
@@ -49,11 +52,11 @@ module _ {A B : Type 0} where
 module _ {A S : Type 0} (P : S → Type 0) (f : A → S → Meant S) (keep : (x : A) (s s' : S) → P s → f x s ≡ Ok s' → P s') where
   -- a fact of a state that each item keeps is kept by all of them
   pub over_keeps : (xs : List A) (s s' : S) → P s → over f xs s ≡ Ok s' → P s'
-  over_keeps [] s s' p e = let same : s ≡ s' = cc in rw same at p
+  over_keeps [] s s' p e = kept P e p
   over_keeps (x ∷ xs) s s' p e =
       let b = bound (f x s) (over f xs) s' e in over_keeps xs b.0 s' (keep x s b.0 p b.1) b.2
 
--- ---- what is true of timing groups, pins and cells, among so many tables
+-- ---- what is true of timing groups, pins and cells, among n tables
 abbrev pub IsTable : ℕ → Option ℕ → Type 0
 IsTable n o = IfSome o (λ k. k < n)
 
@@ -114,21 +117,15 @@ module _ (bytes : List ℕ) (scales : Scales) (templates : Templates) where
   -- ---- timing groups
   used_by : (first : ℕ) (delay : Bool) (t : Tree) (o : Option TableUse) (s s' : Numbered) → IsTimed first s
       → add_use bytes delay scales templates t o s ≡ Ok s' → IsTimed first s'
-  used_by first delay t None s s' h e = let same : s ≡ s' = cc in rw same at h
+  used_by first delay t None s s' h e = kept (IsTimed first) e h
   used_by first delay t (Some for) s s' h e =
       let b = bound (table_of bytes delay scales templates t) (λ table. Ok (s.0 ++ table ∷ [], with_table for (length s.0) s.1)) s' e in
-      timed b.0 b.2
-    where
-      timed : (table : TableParts) → ◌≡◌ {A = Meant Numbered} (Ok (s.0 ++ table ∷ [], with_table for (length s.0) s.1)) (Ok s') → IsTimed first s'
-      timed table at =
-          let len = length_push s.0 table in
-          let more = h.more in
-          let same : ◌≡◌ {A = Numbered} (s.0 ++ table ∷ [], with_table for (length s.0) s.1) s' = cc in
-          let all : IsTimed first (s.0 ++ table ∷ [], with_table for (length s.0) s.1) = record {
-            timing = with_one (length s.0) (length (s.0 ++ table ∷ [])) for s.1 (omega (arith, len)) (omega (arith, len)) h.timing;
-            more = omega (arith, len, more);
-          } in
-          rw same at all
+      let len = length_push s.0 b.0 in
+      let more = h.more in
+      kept (IsTimed first) b.2 (record {
+        timing = with_one (length s.0) (length (s.0 ++ b.0 ∷ [])) for s.1 (omega (arith, len)) (omega (arith, len)) h.timing;
+        more = omega (arith, len, more);
+      })
 
   table_keeps : (first : ℕ) (delay : Bool) (t : Tree) (s s' : Numbered) → IsTimed first s → add_table bytes delay scales templates t s ≡ Ok s' → IsTimed first s'
   unfolding add_table
@@ -143,7 +140,7 @@ module _ (bytes : List ℕ) (scales : Scales) (templates : Templates) where
   reading : (first : ℕ) (t : Tree) (b has : Bool) (s s' : Numbered) → IsTimed first s
       → (if b then (if does_not_fit bytes s.1.kind has t then refuse (head_of t).line L4
       else over (add_table bytes (is_delay_kind s.1.kind) scales templates) (groups_of t) s) else Ok s) ≡ Ok s' → IsTimed first s'
-  reading first t false has s s' h e = let same : s ≡ s' = cc in rw same at h
+  reading first t false has s s' h e = kept (IsTimed first) e h
   reading first t true has s s' h e = fitting first t (does_not_fit bytes s.1.kind has t) s s' h e
 
   timing_is : (role : Role) (t : Tree) (tables : List TableParts) (x : Numbered) → timing_of bytes scales templates role t tables ≡ Ok x → IsTimed (length tables) x
@@ -163,13 +160,11 @@ module _ (bytes : List ℕ) (scales : Scales) (templates : Templates) where
       let one = timing_is role t s.0 b.0 b.1 in
       let more = h.more in
       let le = one.more in
-      let same : ◌≡◌ {A = List TableParts × List Timing} (b.0.0, s.1 ++ b.0.1 ∷ []) s' = cc (b.2) in
-      let all : AreTimed first (b.0.0, s.1 ++ b.0.1 ∷ []) = record {
+      kept (AreTimed first) b.2 (record {
         timings = each_push (IsTiming (length b.0.0)) s.1 b.0.1
             (each-weaker (IsTiming (length s.0)) (IsTiming (length b.0.0)) (timing_more (length s.0) (length b.0.0) le) s.1 h.timings) one.timing;
         more = omega (arith, more, le);
-      } in
-      rw same at all
+      })
 
   timings_are : (role : Role) (t : Tree) (tables : List TableParts) (x : List TableParts × List Timing)
       → timings_of bytes scales templates role t tables ≡ Ok x → AreTimed (length tables) x
@@ -182,7 +177,7 @@ module _ (bytes : List ℕ) (scales : Scales) (templates : Templates) where
   low_by : (line : ℕ) (v x : ℤ) (b : Bool) → int_le (pos 0) v ≡ b → (int_le (pos 0) v ≡ true → IsQuantity v)
       → (if b then Ok v else refuse line L3) ≡ Ok x → IsQuantity x
   low_by line v x false low q e = absurd (cc)
-  low_by line v x true low q e = let same : v ≡ x = cc in rw same at (q low)
+  low_by line v x true low q e = kept IsQuantity e (q low)
 
   cap_in : (line : ℕ) (r : Result ℤ NumberFault) (x : ℤ) → ((v : ℤ) → r ≡ Ok v → int_le (pos 0) v ≡ true → IsQuantity v) → cap_at line r ≡ Ok x → IsQuantity x
   cap_in line (Err fault) x q e = absurd (cc)
@@ -193,7 +188,7 @@ module _ (bytes : List ℕ) (scales : Scales) (templates : Templates) where
   cap_one line scale (Some number) x e = cap_in line (fixed number scale) x (λ v at low. quantity_from scale v low number at) e
 
   cap_is : (scale : ℤ) (o : Option Entry) (x : ℤ) → cap_of bytes scale o ≡ Ok x → IsQuantity x
-  cap_is scale None x e = let same : pos 0 ≡ x = cc in subst IsQuantity same zero_is
+  cap_is scale None x e = kept IsQuantity e zero_is
   cap_is scale (Some a) x e = cap_one a.line scale (only (contents bytes a)) x e
 
   named_pins : (n : ℕ) (role : Role) (cap : ℤ) (timings : List Timing) → IsQuantity cap → AllByRecursion (IsTiming n) timings
@@ -214,14 +209,12 @@ module _ (bytes : List ℕ) (scales : Scales) (templates : Templates) where
       let timed = timings_are role t s.0 c.0 c.1 in
       let le = timed.more in
       let more = h.more in
-      let same : ◌≡◌ {A = Pins} (c.0.0, s.1 ++ map (pin_named role b.0 c.0.1) a.0) s' = cc (c.2) in
-      let all : ArePins first (c.0.0, s.1 ++ map (pin_named role b.0 c.0.1) a.0) = record {
+      kept (ArePins first) c.2 (record {
         pins = each-append (IsPin (length c.0.0)) s.1 (map (pin_named role b.0 c.0.1) a.0)
             (each-weaker (IsPin (length s.0)) (IsPin (length c.0.0)) (pin_more (length s.0) (length c.0.0) le) s.1 h.pins)
             (named_pins (length c.0.0) role b.0 c.0.1 cap timed.timings a.0);
         more = omega (arith, le, more);
-      } in
-      rw same at all
+      })
 
   pins_are : (t : Tree) (tables : List TableParts) (x : Pins) → pins_of bytes scales templates t tables ≡ Ok x → ArePins (length tables) x
   unfolding pins_of
@@ -240,12 +233,10 @@ module _ (bytes : List ℕ) (scales : Scales) (templates : Templates) where
       let c = bound (pins_of bytes scales templates t s.0) (λ x. Ok (x.0, s.1 ++ made b.0 x ∷ [])) s' b.2 in
       let pins = pins_are t s.0 c.0 c.1 in
       let le = pins.more in
-      let same : ◌≡◌ {A = Cells} (c.0.0, s.1 ++ made b.0 c.0 ∷ []) s' = cc (c.2) in
-      let all : AreCells (c.0.0, s.1 ++ made b.0 c.0 ∷ []) = record {
+      kept AreCells c.2 (record {
         cells = each_push (IsCell (length c.0.0)) s.1 (made b.0 c.0)
             (each-weaker (IsCell (length s.0)) (IsCell (length c.0.0)) (cell_more (length s.0) (length c.0.0) le) s.1 h.cells) pins.pins;
-      } in
-      rw same at all
+      })
 
   cells_are : (t : Tree) (x : Cells) → cells_of bytes scales templates t ≡ Ok x → AreCells x
   unfolding cells_of
@@ -253,12 +244,32 @@ module _ (bytes : List ℕ) (scales : Scales) (templates : Templates) where
       over_keeps AreCells (add_cell bytes scales templates) cells_keep (groups_named bytes (codes "cell") t) ([], []) x (record { cells = tt }) e
 
 -- ---- the library
-pub record IsFine (library : Library) : Type 0 where
-  pub scales : AreScales (record { time = library.time_scale; cap = library.cap_scale })
-  pub cells : AllByRecursion (IsCell (length library.tables)) library.cells
+abbrev AllCells : Library → Type 0
+AllCells library = AllByRecursion (IsCell (length library.tables)) library.cells
+
+module _ (library : Library) where
+  timing_sound : (t : Timing) → IsTiming (length library.tables) t → IsSoundTiming library t
+  timing_sound t h = record { rise = h.rise; fall = h.fall; rise_slew = h.rise_slew; fall_slew = h.fall_slew }
+
+  pin_sound : (p : PinParts) → IsPin (length library.tables) p → IsSoundPin library p
+  pin_sound p h = record {
+    cap = h.cap;
+    timings = All-from_recursion (IsSoundTiming library) p.timings
+        (each-weaker (IsTiming (length library.tables)) (IsSoundTiming library) timing_sound p.timings h.timings);
+  }
+
+  cell_sound : (c : Cell) → IsCell (length library.tables) c → All (IsSoundPin library) c.pins
+  cell_sound c h =
+      All-from_recursion (IsSoundPin library) c.pins (each-weaker (IsPin (length library.tables)) (IsSoundPin library) pin_sound c.pins h)
+
+  library_sound : AllCells library → IsSoundLibrary library
+  library_sound h = record {
+    pins = All-from_recursion (λ cell. All (IsSoundPin library) cell.pins) library.cells
+        (each-weaker (IsCell (length library.tables)) (λ cell. All (IsSoundPin library) cell.pins) cell_sound library.cells h);
+  }
 
 module _ (bytes : List ℕ) where
-  library_by : (t : Tree) (library : Library) → library_in bytes t ≡ Ok library → IsFine library
+  library_by : (t : Tree) (library : Library) → library_in bytes t ≡ Ok library → AllCells library
   unfolding library_in
   library_by t library e =
       let behind : Scales → Templates → Meant Library = λ scales templates. cells_of bytes scales templates t >>= λ x.
@@ -266,14 +277,9 @@ module _ (bytes : List ℕ) where
       let a = bound (units_of bytes t) (λ scales. templates_of bytes scales t >>= behind scales) library e in
       let b = bound (templates_of bytes a.0 t) (behind a.0) library a.2 in
       let c = bound (cells_of bytes a.0 b.0 t) (λ x. Ok (record { time_scale = a.0.time; cap_scale = a.0.cap; tables = x.0; cells = x.1 })) library b.2 in
-      let cells = cells_are bytes a.0 b.0 t c.0 c.1 in
-      let same : ◌≡◌ {A = Library} (record { time_scale = a.0.time; cap_scale = a.0.cap; tables = c.0.0; cells = c.0.1 }) library = cc (c.2) in
-      let all : IsFine (record { time_scale = a.0.time; cap_scale = a.0.cap; tables = c.0.0; cells = c.0.1 }) =
-      record { scales = units_are bytes t a.0 a.1; cells = cells.cells } in
-      rw same at all
+      kept AllCells c.2 (cells_are bytes a.0 b.0 t c.0 c.1).cells
 
-  -- the library that a text means is fine
-  pub library_fine : (library : Library) → library_meant bytes ≡ Ok library → IsFine library
-  unfolding library_meant
-  library_fine library e =
-      let a = bound (library_of bytes) (λ t. library_in bytes t) library e in library_by a.0 library a.2
+  -- the library that a tree means is sound
+  pub library_answer : (t : Tree) (r : Result Library TextFault) → Gives (λ library. library) r (library_in bytes t) → IfOk r IsSoundLibrary
+  library_answer t (Ok library) h = library_sound library (library_by t library h)
+  library_answer t (Err fault) h = tt
