@@ -14,3 +14,13 @@ returns-in_err-top-clause-stop g c =
 
 pub after_edits-requires-clause-top : goal.after_edits-requires-clause-top
 after_edits-requires-clause-top g c = record { envelope = c.in_ok-top.ensures.envelope; accepted = c.in_ok-top.ensures.accepted }
+
+pub returns-in-Ok-clause-ok : goal.returns-in-Ok-clause-ok
+returns-in-Ok-clause-ok g c =
+    IfOk-weaker c.report_in.result _ _ (λ text h. inr (c.in_ok-top.ensures.kept, c.in_ok-design.ensures.leads (prints text.items) h)) c.report_in.ensures.ok
+
+pub returns-in-Ok-clause-stop : goal.returns-in-Ok-clause-stop
+returns-in-Ok-clause-stop g c =
+    let meant = EditsMean c.args.file.now c.args.text.now c.args.design in
+    IfErr-weaker c.report_in.result _ _ (λ s h. lift_stop (DesignMeans All c.in_ok-design.design) meant (λ _. ⊥) (λ _. ⊥) s
+    (λ o m. inr (c.in_ok-top.ensures.kept, c.in_ok-design.ensures.leads o m)) (λ _ r. r) h) c.report_in.ensures.stop
