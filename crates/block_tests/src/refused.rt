@@ -11,7 +11,7 @@ No such cell | 4 link: K1 u NOPE | (a); input a; NOPE u (.A(a));
 A latch | 4 link: K9 l LAT | (a); input a; LAT l (.D(a));
 An inout pin, though it is open | 4 link: K9 l IO | (a); input a; IO l (.P());
 An unsupported timing group | 4 link: K9 l FALL | ; FALL l ();
-A related pin that is a pin of the cell and no input | 4 link: K9 l BACK | ; BACK l ();
+A related pin that its cell has, but not as an input | 4 link: K9 l BACK | ; BACK l ();
 No such pin, also where it is open | 4 link: K2 u Z | (a); input a; INV u (.A(a), .Z());
 Two output pins drive a net | 4 link: K3 y | (a, y); input a; output y; INV u (.A(a), .Y(y)), v (.A(a), .Y(y));
 An input port and an output pin drive a net | 4 link: K3 a | (a); input a; INV u (.A(a), .Y(a));
