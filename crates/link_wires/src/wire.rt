@@ -45,7 +45,8 @@ fn tree_within(
     requires sinks { HasSinkQuantities pins.now }
     requires unlisted { listed ≡ false → has_resistors (wire_by nodes.now.parasitics parts.now) ≡ false }
     ensures ok { IfOk result (IsTreeWithin listed pins.now nodes.now.list (wire_by nodes.now.parasitics parts.now)) }
-    ensures fault { IfErr result (IsLimit (limit_at listed pins.now nodes.now.list (wire_by nodes.now.parasitics parts.now))) }
+    ensures fault { IfErr result
+        (IsLimit (limit_at listed pins.now nodes.now.list (wire_by nodes.now.parasitics parts.now))) }
 {
     let sinks = pins.sinks.as_slice();
     let charges = charges_of(alloc, nodes, sinks, parts)?;
@@ -83,7 +84,8 @@ fn wire_within(
     requires sinks { HasSinkQuantities pins.now }
     requires unlisted { listed ≡ false → has_resistors (wire_by nodes.now.parasitics parts.now) ≡ false }
     ensures ok { IfOk result (IsWireWithin listed pins.now nodes.now.list (wire_by nodes.now.parasitics parts.now)) }
-    ensures fault { IfErr result (IsFaultWithin listed pins.now nodes.now.list (wire_by nodes.now.parasitics parts.now)) }
+    ensures fault { IfErr result
+        (IsFaultWithin listed pins.now nodes.now.list (wire_by nodes.now.parasitics parts.now)) }
 {
     let tree = tree_within(alloc, pins, listed, nodes, parts)?;
     check_tree(alloc, &pins.name, nodes, &tree)?;
