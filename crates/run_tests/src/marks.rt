@@ -91,14 +91,14 @@ fn rounds_from<R: Threads + Sync>(
     Ok([on_board, on_own])
 }
 
-/// The same of two runs, wider and narrower.
+/// The rounds of both of a run that widens, and of both of one that narrows.
 fn both_rounds<R: Threads + Sync>(
     rt: &R,
     alloc: Global,
     design: &Design,
     top: &Windows,
     workers: u32,
-) -> Result<[Rounds; 2], NoMemory>
+) -> Result<[Option<u64>; 4], NoMemory>
     requires start { IsFittingStart Narrow design.now top.now }
     requires some { 1 ≤ workers }
     requires few { workers ≤ 64 }
@@ -107,7 +107,7 @@ fn both_rounds<R: Threads + Sync>(
     let low = low(alloc, design, top)?;
     let wider = rounds_from(rt, alloc, design, &lists, Direction::Widen, &low, workers)?;
     let narrower = rounds_from(rt, alloc, design, &lists, Direction::Narrow, top, workers)?;
-    Ok([wider, narrower])
+    Ok([wider[0], wider[1], narrower[0], narrower[1]])
 }
 
 /// The same of the design of a text.
@@ -116,7 +116,7 @@ fn rounds_of<R: Threads + Sync>(
     alloc: Global,
     text: &[u8],
     workers: u32,
-) -> Result<[Rounds; 2], Fail>
+) -> Result<[Option<u64>; 4], Fail>
     requires some { 1 ≤ workers }
     requires few { workers ≤ 64 }
 {
@@ -125,15 +125,15 @@ fn rounds_of<R: Threads + Sync>(
     Ok(both_rounds(rt, alloc, &design, &top, workers)?)
 }
 
-/// Designs, workers, and the rounds of the runs that widen and of those that narrow.
+/// Designs, workers, and the rounds on a board and on words of its own of a run that widens, then of one that narrows.
 ///
 /// On a board every net is marked at first, and a net that moved is evaluated once more. One worker on words of its own
 /// makes no round from words that are closed, as the envelope of one source is.
-const ROUNDS: [(&[u8], u32, [Rounds; 2]); 4] = [
-    (EMPTY, 2, [[Some(0), Some(0)], [Some(0), Some(0)]]),
-    (ONE, 1, [[Some(1), Some(1)], [Some(1), Some(0)]]),
-    (CROSS, 1, [[Some(2), Some(1)], [Some(2), Some(1)]]),
-    (LOAD_PAIR, 1, [[Some(2), Some(1)], [Some(2), Some(1)]]),
+const ROUNDS: [(&[u8], u32, [Option<u64>; 4]); 4] = [
+    (EMPTY, 2, [Some(0), Some(0), Some(0), Some(0)]),
+    (ONE, 1, [Some(1), Some(1), Some(1), Some(0)]),
+    (CROSS, 1, [Some(2), Some(1), Some(2), Some(1)]),
+    (LOAD_PAIR, 1, [Some(2), Some(1), Some(2), Some(1)]),
 ];
 
 #[test]
