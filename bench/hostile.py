@@ -172,6 +172,12 @@ def many_nodes(size):
     return block(spef=f"{SPEF}*D_NET y 0\n*CAP\n{nodes}*END\n")
 
 
+def slashes_and_quotes(size):
+    """Words with slashes and quotes, at which no comment and no string begins."""
+    nodes = many(size, lambda i: f'{i + 1} y:a/"/*{i:x} 0\n')
+    return block(spef=f"{SPEF}*D_NET y 0\n*CAP\n{nodes}*END\n")
+
+
 def many_empty_nets(size):
     return block(spef=SPEF + many(size, lambda i: f"*D_NET n{i:x} 0\n*END\n"))
 
@@ -233,8 +239,32 @@ def many_attributes(size):
     return block(lib=LIB + many(size, lambda i: "a:b;") + "}\n")
 
 
+def two_groups_in_each(size):
+    return block(lib=LIB + many(size, lambda i: "g(){g(){}g(){}}") + "}\n")
+
+
+def an_attribute_in_each(size):
+    return block(lib=LIB + many(size, lambda i: "g(){a:b;}" if i % 2 else "g(){a:b c;d:e f;}") + "}\n")
+
+
+def attributes_in_a_chain(size):
+    return block(lib=LIB + many(size, lambda i: "g(){a:b;" * 60 + "}" * 60) + "}\n")
+
+
+def two_values_each(size):
+    return block(lib=LIB + many(size, lambda i: "a:b c;") + "}\n")
+
+
+def many_strings(size):
+    return block(lib=LIB + many(size, lambda i: 'a:"/*";') + "}\n")
+
+
 def many_cells(size):
     return block(lib=LIB + many(size, lambda i: f"cell(c{i:x}){{}}") + "}\n")
+
+
+def cells_with_a_pin(size):
+    return block(lib=LIB + many(size, lambda i: f"cell(c{i:x}){{pin(a){{}}}}") + "}\n")
 
 
 def many_values(size):
@@ -264,10 +294,12 @@ TEXTS = [
     long_cell_name, wide_buses, many_wires, many_pins, one_long_comment,
     modules_that_double, modules_in_modules, modules_in_a_circle, names_along_a_path, modules_beside_modules,
     wide_ports_passed_on,
-    long_mapped_name, long_mapped_couplings, one_name_in_two_ways, many_mapped_names, many_nodes, many_empty_nets,
+    long_mapped_name, long_mapped_couplings, one_name_in_two_ways, many_mapped_names, many_nodes, slashes_and_quotes,
+    many_empty_nets,
     related_names_that_are_no_pins, related_pin_named_often, related_pins_on_no_net, related_pins_of_a_wide_cell,
     outputs_of_one_group,
-    groups_in_groups, groups_side_by_side, many_attributes, many_cells, many_values,
+    groups_in_groups, groups_side_by_side, two_groups_in_each, an_attribute_in_each, attributes_in_a_chain,
+    many_attributes, two_values_each, many_strings, many_cells, cells_with_a_pin, many_values,
     nets_of_nothing, long_names,
 ]  # fmt: skip
 
