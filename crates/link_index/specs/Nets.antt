@@ -27,7 +27,7 @@ pub record HaveWires (pins wires : List (Text × Wire)) : Type 0 where
 
 -- what is kept of the pins of an instance: of many pins a table
 abbrev pub AreWired : List (Text × Wire) → PinWires → Type 0
-AreWired pins w = IfSome w.table (λ t. HaveWires pins t.value)
+AreWired pins w = IfSome w.table (HaveWires pins)
 
 -- what is kept beside a netlist: the first bit of each net, the names of the bits, the numbers of the instances and
 -- the wires of each

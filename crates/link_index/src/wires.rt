@@ -48,7 +48,7 @@ fn first_wire(pins: &[(Name, Wire)], name: &[u8]) -> Option<Wire>
 /// bytes: they are looked through.
 #[derive(Drop)]
 pub struct PinWires<'a> {
-    table: Option<Box<Named<'a, Wire>>>,
+    table: Option<Named<'a, Wire>>,
 }
 
 impl<'a> PinWires<'a> {
@@ -63,7 +63,7 @@ impl<'a> PinWires<'a> {
         if pins.len() <= FEW_PINS {
             return Ok(PinWires { table: None });
         }
-        let table = Box::new(alloc, wires_of(alloc, key, pins)?)?;
+        let table = wires_of(alloc, key, pins)?;
         Ok(PinWires { table: Some(table) })
     }
 

@@ -1,6 +1,7 @@
 mod GroundLaws
 mod ListLaws
 mod NodeLaws
+mod MarkLaws
 mod PlaceLaws
 mod TreeLaws
 mod NeedLaws

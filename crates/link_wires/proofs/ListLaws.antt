@@ -79,7 +79,7 @@ pub all_right : {X : Type 0} (P : X → Type 0) (xs ys : List X) → All P (xs +
 all_right P [] ys all = all
 all_right P (x ∷ xs) ys all = all_right P xs ys (λ i d lt. all (suc i) d (omega (arith, lt)))
 
-all_unmapped : {X Y : Type 0} (P : Y → Type 0) (f : X → Y) (xs : List X) → All P (map f xs) → All (λ x. P (f x)) xs
+pub all_unmapped : {X Y : Type 0} (P : Y → Type 0) (f : X → Y) (xs : List X) → All P (map f xs) → All (λ x. P (f x)) xs
 all_unmapped P f [] all = λ i d lt. absurd (omega (arith, lt))
 all_unmapped P f (x ∷ xs) all =
     All-cons (λ y. P (f y)) x xs (all 0 (f x) (omega arith)) (all_unmapped P f xs (λ i d lt. all (suc i) d (omega (arith, lt))))

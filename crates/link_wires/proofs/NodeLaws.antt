@@ -1,5 +1,5 @@
 -- Nodes by their names.
-use Rattle.std.specs.Prelude.{◌≡◌, refl, ℕ, List, [], ◌∷◌, ◌++◌, length, map, Option, Some, None, position, is_some, option_map, option_to_list, filter_map, flat_map, fold, Bool, true, cond, if◌then◌else◌, unwrap_or}
+use Rattle.std.specs.Prelude.{◌≡◌, refl, ℕ, List, [], ◌∷◌, ◌++◌, length, map, Option, Some, None, position, is_some, option_map, option_to_list, filter_map, flat_map, fold, Bool, true, cond, if◌then◌else◌, unwrap_or, not, ◌==◌, pos}
 use Rattle.std.specs.List.{All, slice_get}
 use Rattle.std.specs.Str.{bytes_eq}
 use Rattle.std.specs.Option.{option_or}
@@ -17,45 +17,14 @@ use Rattle.link_rules.specs.Nodes.{text_of}
 use Rattle.link_rules.specs.Wires.{listed}
 use Rattle.link_index.specs.Cells.{at_place}
 use Rattle.link_index.proofs.FirstLaws.{position_push, number_is, any_is, find_at_place, first_and_rest, rest_of}
-use Rattle.link_wires.specs.Places.{AreNodes, HavePlaces}
-use Rattle.link_rules.specs.Wires.{NamedResistor}
+use Rattle.link_wires.specs.Places.{HavePlaces}
+use Rattle.link_rules.specs.Wires.{Capacitor, NamedResistor, names_on, has_resistors}
+use Rattle.spef_read.specs.declared.parasitics.ResText.{ResText}
+use Rattle.link_wires.specs.declared.parts.CapAt.{CapAt}
+use Rattle.link_wires.specs.declared.parts.WireParts.{WireParts}
+use Rattle.link_wires.specs.Seen.{cap_node, both_nodes, cap_by, resistor_by, wire_by}
+use Rattle.std.proofs.lemmas.List.{length-map}
 use Rattle.link_wires.proofs.ListLaws.{node_name, all_left, all_right}
-
--- one node more
-pub nodes_push : (nodes : List Text) (numbers after : List (Text × ℕ)) (n : Text) (m : ℕ) → AreNodes nodes numbers → IsName n → m ≡ length nodes → m < 4294967295
-    → ((other : Text) → value_of other after ≡ option_or (value_of other numbers) (cond (bytes_eq other n) (Some m) None))
-    → AreNodes (nodes ++ n ∷ []) after
-nodes_push nodes numbers after n m a name count few set = record {
-  names = All-push IsName nodes n a.names name;
-  few = omega (arith, length-append nodes (n ∷ []));
-  each = λ other. set other
-      ∙ ap (λ o. option_or o (cond (bytes_eq other n) (Some m) None)) (a.each other)
-      ∙ ap (λ k. option_or (position (bytes_eq other) nodes) (cond (bytes_eq other n) (Some k) None)) count
-      ∙ sym (position_push (bytes_eq other) nodes n);
-}
-
--- the name of a node
-pub named_at : {K : Type 0} (f : K → Text) (xs : List K) (i : ℕ) (x : K) → All IsName (map f xs) → slice_get xs i ≡ Some x → IsName (f x)
-named_at f xs i x all h =
-    let there : slice_get (map f xs) i ≡ Some (f x) = slice_get-map f xs i ∙ ap (option_map f) h in
-    subst IsName (get_or_from_slice_get (map f xs) i (f x) (f x) there) (all i (f x) (slice_get_within (map f xs) i (f x) there))
-
--- the number of a node
-pub node_number : (nodes : List Text) (numbers : List (Text × ℕ)) (n : Text) (o : Option ℕ) → AreNodes nodes numbers → value_of n numbers ≡ o
-    → unwrap_or o (length nodes) ≡ number_of n nodes
-node_number nodes numbers n o a h =
-    ap (λ x. unwrap_or x (length nodes)) (sym h ∙ a.each n) ∙ number_is (bytes_eq n) nodes
-
--- a node that is there, and one that is not
-pub with_by : (nodes : List Text) (numbers : List (Text × ℕ)) (n : Text) (o : Option ℕ) → AreNodes nodes numbers → value_of n numbers ≡ o
-    → with_name n nodes ≡ (if is_some o then nodes else nodes ++ n ∷ [])
-with_by nodes numbers n o a h =
-    ap (λ (b : Bool). if b then nodes else nodes ++ n ∷ []) (any_is (bytes_eq n) nodes ∙ ap is_some (sym (a.each n) ∙ h))
-
--- a node that is there
-pub with_some : (nodes : List Text) (numbers : List (Text × ℕ)) (n : Text) → AreNodes nodes numbers → is_some (value_of n numbers) ≡ true → with_name n nodes ≡ nodes
-with_some nodes numbers n a h =
-    ap (λ (b : Bool). if b then nodes else nodes ++ n ∷ []) (any_is (bytes_eq n) nodes ∙ ap is_some (sym (a.each n)) ∙ h)
 
 pub some_mapped : {A B : Type 0} (f : A → B) (o : Option A) → is_some (option_map f o) ≡ is_some o
 some_mapped f None = refl
@@ -81,12 +50,25 @@ filter_turn f rest d x old new some is more =
     ∙ ap (λ l. old ++ l) (filter_by f x (rest_of rest) (f x) refl
     ∙ ap (λ z. filter_map f (z ∷ rest_of rest)) is ∙ ap (filter_map f) (sym (first_and_rest rest d some)))
 
+-- the same of a list by what each item is seen as
+pub mapped_turn : {A X Y : Type 0} (g : A → X) (f : X → Option Y) (rest : List A) (d x : A) (old new : List Y) → 1 ≤ length rest → x ≡ get_or rest 0 d
+    → new ≡ old ++ option_to_list (f (g x)) → new ++ filter_map f (map g (rest_of rest)) ≡ old ++ filter_map f (map g rest)
+mapped_turn g f rest d x old new some is more =
+    ap (λ l. l ++ filter_map f (map g (rest_of rest))) more
+    ∙ append_assoc old (option_to_list (f (g x))) (filter_map f (map g (rest_of rest)))
+    ∙ ap (λ l. old ++ l) (filter_by f (g x) (map g (rest_of rest)) (f (g x)) refl
+    ∙ ap (λ z. filter_map f (map g (z ∷ rest_of rest))) is ∙ ap (λ l. filter_map f (map g l)) (sym (first_and_rest rest d some)))
+
+-- what stands for an item past the end
+abbrev pub no_cap : CapAt
+no_cap = record { node = record { number = 0 }; to = None; value = pos 0 }
+
+abbrev pub no_resistor : ResText
+no_resistor = record { a = record { number = 0 }; b = record { number = 0 }; value = pos 0 }
+
 -- names entered one after another
 abbrev pub entering : List Text → Text → List Text
 entering nodes name = with_name name nodes
-
-abbrev pub both_nodes : NamedResistor → List Text
-both_nodes r = r.a ∷ r.b ∷ []
 
 pub fold_turn : {X : Type 0} (f : X → Text) (rest : List X) (d x : X) (nodes after : List Text) → 1 ≤ length rest → x ≡ get_or rest 0 d → after ≡ with_name (f x) nodes
     → fold entering after (map f (rest_of rest)) ≡ fold entering nodes (map f rest)
@@ -95,27 +77,63 @@ fold_turn f rest d x nodes after some is more =
     ∙ ap (λ z. fold entering nodes (map f (z ∷ rest_of rest))) is
     ∙ ap (λ l. fold entering nodes (map f l)) (sym (first_and_rest rest d some))
 
-pub fold_pair : (rest : List NamedResistor) (d x : NamedResistor) (nodes mid after : List Text) → 1 ≤ length rest → x ≡ get_or rest 0 d
-    → mid ≡ with_name x.a nodes → after ≡ with_name x.b mid
-    → fold entering after (flat_map both_nodes (rest_of rest)) ≡ fold entering nodes (flat_map both_nodes rest)
-fold_pair rest d x nodes mid after some is one two =
-    ap (λ n. fold entering n (flat_map both_nodes (rest_of rest))) (two ∙ ap (with_name x.b) one)
-    ∙ ap (λ z. fold entering nodes (flat_map both_nodes (z ∷ rest_of rest))) is
-    ∙ ap (λ l. fold entering nodes (flat_map both_nodes l)) (sym (first_and_rest rest d some))
-
 pub names_rest : {X : Type 0} (f : X → Text) (rest : List X) (d : X) → 1 ≤ length rest → All IsName (map f rest) → All IsName (map f (rest_of rest))
 names_rest f rest d some all =
     all_right IsName (f (get_or rest 0 d) ∷ []) (map f (rest_of rest)) (subst (λ l. All IsName (map f l)) (first_and_rest rest d some) all)
 
-pub pair_rest : (rest : List NamedResistor) (d : NamedResistor) → 1 ≤ length rest → All IsName (flat_map both_nodes rest) → All IsName (flat_map both_nodes (rest_of rest))
-pair_rest rest d some all =
-    all_right IsName (both_nodes (get_or rest 0 d)) (flat_map both_nodes (rest_of rest)) (subst (λ l. All IsName (flat_map both_nodes l)) (first_and_rest rest d some) all)
+-- names of two nodes each
+module _ {X : Type 0} (a b : X → Text) where
+  abbrev pub both : X → List Text
+  both x = a x ∷ b x ∷ []
 
-pub pair_second : (rest : List NamedResistor) (d x : NamedResistor) → 1 ≤ length rest → x ≡ get_or rest 0 d → All IsName (flat_map both_nodes rest) → IsName x.b
-pair_second rest d x some is all =
-    let front : All IsName (both_nodes (get_or rest 0 d)) =
-    all_left IsName (both_nodes (get_or rest 0 d)) (flat_map both_nodes (rest_of rest)) (subst (λ l. All IsName (flat_map both_nodes l)) (first_and_rest rest d some) all) in
-    subst (λ (r : NamedResistor). IsName r.b) (sym is) (front 1 [] (omega arith))
+  pub fold_pair : (rest : List X) (d x : X) (nodes mid after : List Text) → 1 ≤ length rest → x ≡ get_or rest 0 d
+      → mid ≡ with_name (a x) nodes → after ≡ with_name (b x) mid
+      → fold entering after (flat_map both (rest_of rest)) ≡ fold entering nodes (flat_map both rest)
+  fold_pair rest d x nodes mid after some is one two =
+      ap (λ n. fold entering n (flat_map both (rest_of rest))) (two ∙ ap (with_name (b x)) one)
+      ∙ ap (λ z. fold entering nodes (flat_map both (z ∷ rest_of rest))) is
+      ∙ ap (λ l. fold entering nodes (flat_map both l)) (sym (first_and_rest rest d some))
+
+  pair_split : (rest : List X) (d : X) → 1 ≤ length rest → All IsName (flat_map both rest) → All IsName (both (get_or rest 0 d) ++ flat_map both (rest_of rest))
+  pair_split rest d some all = subst (λ l. All IsName (flat_map both l)) (first_and_rest rest d some) all
+
+  pub pair_rest : (rest : List X) (d : X) → 1 ≤ length rest → All IsName (flat_map both rest) → All IsName (flat_map both (rest_of rest))
+  pair_rest rest d some all = all_right IsName (both (get_or rest 0 d)) (flat_map both (rest_of rest)) (pair_split rest d some all)
+
+  pub pair_first : (rest : List X) (d x : X) → 1 ≤ length rest → x ≡ get_or rest 0 d → All IsName (flat_map both rest) → IsName (a x)
+  pair_first rest d x some is all =
+      let front : All IsName (both (get_or rest 0 d)) = all_left IsName (both (get_or rest 0 d)) (flat_map both (rest_of rest)) (pair_split rest d some all) in
+      subst (λ (r : X). IsName (a r)) (sym is) (front 0 [] (omega arith))
+
+  pub pair_second : (rest : List X) (d x : X) → 1 ≤ length rest → x ≡ get_or rest 0 d → All IsName (flat_map both rest) → IsName (b x)
+  pair_second rest d x some is all =
+      let front : All IsName (both (get_or rest 0 d)) = all_left IsName (both (get_or rest 0 d)) (flat_map both (rest_of rest)) (pair_split rest d some all) in
+      subst (λ (r : X). IsName (b r)) (sym is) (front 1 [] (omega arith))
+
+-- the first of some names
+pub first_named : {X : Type 0} (f : X → Text) (rest : List X) (d x : X) → 1 ≤ length rest → x ≡ get_or rest 0 d → All IsName (map f rest) → IsName (f x)
+first_named f rest d x some is all =
+    let front : All IsName (f (get_or rest 0 d) ∷ map f (rest_of rest)) = subst (λ l. All IsName (map f l)) (first_and_rest rest d some) all in
+    subst (λ (r : _). IsName (f r)) (sym is) (front 0 [] (omega arith))
+
+-- the names of a wire that is seen by the numbers of its names
+module _ (p : Parasitics) where
+  caps_seen : (caps : List CapAt) → map (λ (c : Capacitor). c.node) (map (cap_by p) caps) ≡ map (cap_node p) caps
+  caps_seen [] = refl
+  caps_seen (c ∷ caps) = ap (λ l. cap_node p c ∷ l) (caps_seen caps)
+
+  resistors_seen : (rs : List ResText) → flat_map (λ (r : NamedResistor). r.a ∷ r.b ∷ []) (map (resistor_by p) rs) ≡ flat_map (both_nodes p) rs
+  resistors_seen [] = refl
+  resistors_seen (r ∷ rs) = ap (λ l. text_of p r.a ∷ text_of p r.b ∷ l) (resistors_seen rs)
+
+  pub names_seen : (w : WireParts) → names_on (wire_by p w) ≡ map (cap_node p) w.caps.items ++ flat_map (both_nodes p) w.resistors.now
+  names_seen w =
+      ap (λ l. l ++ flat_map (λ (r : NamedResistor). r.a ∷ r.b ∷ []) (map (resistor_by p) w.resistors.now)) (caps_seen w.caps.items)
+      ∙ ap (λ l. map (cap_node p) w.caps.items ++ l) (resistors_seen w.resistors.now)
+
+  -- the number of resistors is the same
+  pub resistors_counted : (w : WireParts) → has_resistors (wire_by p w) ≡ not (length w.resistors.now == 0)
+  resistors_counted w = ap (λ n. not (n == 0)) (length-map w.resistors.now (resistor_by p))
 
 -- ---- wires by the names of nets
 

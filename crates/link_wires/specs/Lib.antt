@@ -1,4 +1,6 @@
 pub mod Places
+pub mod Marks
+pub mod Seen
 pub mod Wires
 pub mod WireFaults
 pub mod Within

@@ -1,9 +1,7 @@
 -- Where names stand: what look-ups by hash keep.
-use Rattle.std.specs.Prelude.{◌≡◌, ℕ, ◌<◌, ◌^◌, List, length, position}
-use Rattle.std.specs.List.{All}
+use Rattle.std.specs.Prelude.{◌≡◌, ℕ, List, position}
 use Rattle.std.specs.Str.{bytes_eq}
 use Rattle.name_numbers.specs.Names.{Text, value_of}
-use Rattle.xt_model.specs.Names.{IsName}
 use Rattle.verilog_net.specs.declared.netlist.Netlist.{Netlist}
 use Rattle.spef_read.specs.declared.parasitics.Parasitics.{Parasitics}
 use Rattle.link_rules.specs.Nodes.{text_of}
@@ -12,12 +10,6 @@ use Rattle.link_rules.specs.Nodes.{text_of}
 pub record Extracted : Type 0 where
   pub netlist : Netlist
   pub parasitics : Parasitics
-
--- nodes by their names, each with the number of the first node of this name
-pub record AreNodes (nodes : List Text) (numbers : List (Text × ℕ)) : Type 0 where
-  pub names : All IsName nodes
-  pub few : length nodes < 2 ^ 32
-  pub each : (name : Text) → value_of name numbers ≡ position (bytes_eq name) nodes
 
 -- each name has the place of the first wire of this name
 pub record HavePlaces (p : Parasitics) (places : List (Text × ℕ)) : Type 0 where

@@ -2,18 +2,20 @@
 
 ghost use Rattle.std.specs.Prelude.{◌≡◌, ◌+◌, ◌*◌, ◌<◌, ◌≤◌, ◌^◌, ◌++◌, length, map, filter_map, true, IfOk, OnOk};
 ghost use Rattle.std.specs.Prelude.{option_to_list};
-ghost use Rattle.name_parts.specs.Parts.{whole};
 ghost use Rattle.elmore_tree.specs.Trees.{tap_sum};
+ghost use Rattle.spef_read.specs.declared.parasitics.Parasitics.{Parasitics};
 ghost use Rattle.verilog_net.specs.Bits.{rising};
+ghost use Rattle.link_rules.specs.Nodes.{text_of};
 ghost use Rattle.link_rules.specs.Wires.{charges_of, sum_at, has_resistors, node_at, sink_node, couplings_of, tap_of};
 ghost use Rattle.link_rules.specs.Wires.{ground_charge, coupling_of};
+ghost use Rattle.link_wires.specs.Seen.{cap_by, wire_by};
 ghost use Rattle.link_wires.specs.Wires.{charge_sum, AreWithin, AreNatural};
 
 use crate::nodes::Nodes;
 use crate::parts::{CapAt, WireParts};
 use elmore_tree::Tap;
 use link_rules::Sink;
-use name_parts::NameParts;
+use spef_read::Name;
 use std::alloc::{AllocError, Global};
 use xt_model::{Coupling, NetId};
 
@@ -21,15 +23,16 @@ use xt_model::{Coupling, NetId};
 pub type Charge = (u32, i64);
 
 /// Whether the nodes of a net are apart; without resistors all are one.
-pub fn are_apart<'a>(wire: &WireParts<'a>) -> bool
-    ensures { result ≡ has_resistors wire.now }
+pub fn are_apart(wire: &WireParts<'_>) -> bool
+    ensures { (p : Parasitics) → result ≡ has_resistors (wire_by p wire.now) }
 {
-    !wire.resistors().is_empty()
+    !wire.resistors.is_empty()
 }
 
 /// The number in the tree of the node of a name.
-pub fn node_at<'a>(nodes: &Nodes<'a>, wire: &WireParts<'a>, node: NameParts<'a>) -> u32
-    ensures { result ≡ node_at nodes.now wire.now (whole node.entry) }
+pub fn node_at(nodes: &Nodes<'_>, wire: &WireParts<'_>, node: Name) -> u32
+    ensures { result ≡ node_at nodes.now.list (wire_by nodes.now.parasitics wire.now)
+        (text_of nodes.now.parasitics node) }
 {
     if are_apart(wire) {
         nodes.number(node)
@@ -39,9 +42,9 @@ pub fn node_at<'a>(nodes: &Nodes<'a>, wire: &WireParts<'a>, node: NameParts<'a>)
 }
 
 /// The number in the tree of the node of a sink.
-pub fn sink_node<'a>(nodes: &Nodes<'a>, wire: &WireParts<'a>, sink: usize) -> u32
-    requires { has_resistors wire.now ≡ true → 1 + sink < length nodes.now }
-    ensures { result ≡ sink_node wire.now sink }
+pub fn sink_node(nodes: &Nodes<'_>, wire: &WireParts<'_>, sink: usize) -> u32
+    requires { has_resistors (wire_by nodes.now.parasitics wire.now) ≡ true → 1 + sink < length nodes.now.list }
+    ensures { result ≡ sink_node (wire_by nodes.now.parasitics wire.now) sink }
 {
     if are_apart(wire) {
         prove!(sink < nodes.len() as usize);
@@ -52,14 +55,16 @@ pub fn sink_node<'a>(nodes: &Nodes<'a>, wire: &WireParts<'a>, sink: usize) -> u3
 }
 
 /// Adds the ground of a capacitor without a coupling.
-fn add_ground<'a>(
+fn add_ground(
     charges: &mut Vec<Charge>,
-    nodes: &Nodes<'a>,
-    wire: &WireParts<'a>,
-    cap: &CapAt<'a>,
+    nodes: &Nodes<'_>,
+    wire: &WireParts<'_>,
+    cap: &CapAt,
 ) -> Result<(), AllocError>
     ensures { OnOk result
-        (charges.new.items ≡ charges.old.items ++ option_to_list (ground_charge nodes.now wire.now cap.now)) }
+        (charges.new.items ≡ charges.old.items
+        ++ option_to_list (ground_charge nodes.now.list (wire_by nodes.now.parasitics wire.now)
+        (cap_by nodes.now.parasitics cap.now))) }
 {
     match cap.to {
         None => {
@@ -72,14 +77,15 @@ fn add_ground<'a>(
 
 /// The capacitances to ground of a net: those of its sinks, then its capacitors without a coupling, and without
 /// capacitors its total at the driver.
-pub fn charges_of<'a>(
+pub fn charges_of(
     alloc: Global,
-    nodes: &Nodes<'a>,
+    nodes: &Nodes<'_>,
     sinks: &[Sink],
-    wire: &WireParts<'a>,
+    wire: &WireParts<'_>,
 ) -> Result<Vec<Charge>, AllocError>
-    requires { has_resistors wire.now ≡ true → length sinks.now < length nodes.now }
-    ensures { IfOk result (λ c. c.items ≡ charges_of nodes.now sinks.now wire.now) }
+    requires { has_resistors (wire_by nodes.now.parasitics wire.now) ≡ true → length sinks.now < length nodes.now.list }
+    ensures { IfOk result
+        (λ c. c.items ≡ charges_of nodes.now.list sinks.now (wire_by nodes.now.parasitics wire.now)) }
 {
     let mut charges = Vec::new(alloc);
     let mut k = 0;
@@ -89,26 +95,28 @@ pub fn charges_of<'a>(
         k += 1;
         left = more;
     }
-    let mut caps = wire.caps();
+    let mut caps = wire.caps.as_slice();
     'caps: while let [cap, more @ ..] = caps {
         add_ground(&mut charges, nodes, wire, cap)?;
         caps = more;
     }
-    if wire.caps().is_empty() {
-        charges.push((0, wire.total()))?;
+    if wire.caps.is_empty() {
+        charges.push((0, wire.total))?;
     }
     Ok(charges)
 }
 
 /// Adds the tap of a capacitor with a coupling.
-fn add_tap<'a>(
+fn add_tap(
     taps: &mut Vec<Tap>,
-    nodes: &Nodes<'a>,
-    wire: &WireParts<'a>,
-    cap: &CapAt<'a>,
+    nodes: &Nodes<'_>,
+    wire: &WireParts<'_>,
+    cap: &CapAt,
 ) -> Result<(), AllocError>
     ensures { OnOk result
-        (taps.new.items ≡ taps.old.items ++ option_to_list (tap_of nodes.now wire.now cap.now)) }
+        (taps.new.items ≡ taps.old.items
+        ++ option_to_list (tap_of nodes.now.list (wire_by nodes.now.parasitics wire.now)
+        (cap_by nodes.now.parasitics cap.now))) }
 {
     match cap.to {
         None => Ok(()),
@@ -124,15 +132,18 @@ fn add_tap<'a>(
 }
 
 /// The taps of the tree, one for each coupling, at the capacitor's own node.
-pub fn taps_of<'a>(
+pub fn taps_of(
     alloc: Global,
-    nodes: &Nodes<'a>,
-    wire: &WireParts<'a>,
+    nodes: &Nodes<'_>,
+    wire: &WireParts<'_>,
 ) -> Result<Vec<Tap>, AllocError>
-    ensures { IfOk result (λ taps. taps.items ≡ filter_map (tap_of nodes.now wire.now) wire.now.caps) }
+    ensures { IfOk result
+        (λ taps. taps.items
+        ≡ filter_map (tap_of nodes.now.list (wire_by nodes.now.parasitics wire.now))
+        (wire_by nodes.now.parasitics wire.now).caps) }
 {
     let mut taps = Vec::new(alloc);
-    let mut caps = wire.caps();
+    let mut caps = wire.caps.as_slice();
     'caps: while let [cap, more @ ..] = caps {
         add_tap(&mut taps, nodes, wire, cap)?;
         caps = more;
@@ -141,8 +152,10 @@ pub fn taps_of<'a>(
 }
 
 /// Adds the coupling of a capacitor that has one.
-fn add_coupling<'a>(couplings: &mut Vec<Coupling>, cap: &CapAt<'a>) -> Result<(), AllocError>
-    ensures { OnOk result (couplings.new.items ≡ couplings.old.items ++ option_to_list (coupling_of cap.now)) }
+fn add_coupling(couplings: &mut Vec<Coupling>, cap: &CapAt) -> Result<(), AllocError>
+    ensures { OnOk result
+        ((p : Parasitics) → couplings.new.items
+        ≡ couplings.old.items ++ option_to_list (coupling_of (cap_by p cap.now))) }
 {
     match cap.to {
         None => Ok(()),
@@ -158,11 +171,11 @@ fn add_coupling<'a>(couplings: &mut Vec<Coupling>, cap: &CapAt<'a>) -> Result<()
 
 /// The couplings of a net, in the order of its taps.
 #[tactic(auto, unfolding(link_rules::specs::Wires::couplings_of))]
-pub fn couplings_of<'a>(alloc: Global, wire: &WireParts<'a>) -> Result<Vec<Coupling>, AllocError>
-    ensures { IfOk result (λ c. c.items ≡ couplings_of wire.now) }
+pub fn couplings_of(alloc: Global, wire: &WireParts<'_>) -> Result<Vec<Coupling>, AllocError>
+    ensures { IfOk result (λ c. (p : Parasitics) → c.items ≡ couplings_of (wire_by p wire.now)) }
 {
     let mut couplings = Vec::new(alloc);
-    let mut caps = wire.caps();
+    let mut caps = wire.caps.as_slice();
     'caps: while let [cap, more @ ..] = caps {
         add_coupling(&mut couplings, cap)?;
         caps = more;

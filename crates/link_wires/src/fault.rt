@@ -58,14 +58,14 @@ pub fn limit_of(
 }
 
 /// The refusal of a net whose tree has a fault.
-pub fn refusal_of<'a>(
+pub fn refusal_of(
     alloc: Global,
     net: &Name,
-    nodes: &Nodes<'a>,
+    nodes: &Nodes<'_>,
     fault: TreeFault,
 ) -> Result<LinkFault, AllocError>
-    requires { IsThere nodes.now fault }
-    ensures { IfOk result (IsLinkFaultOf net.now nodes.now fault) }
+    requires { IsThere nodes.now.list fault }
+    ensures { IfOk result (IsLinkFaultOf net.now nodes.now.list fault) }
 {
     match fault {
         TreeFault::NotTree => Ok(LinkFault::Refused(LinkRefusal::K5 {

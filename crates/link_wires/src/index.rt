@@ -8,7 +8,6 @@ ghost use Rattle.link_wires.specs.Places.{HavePlaces};
 use crate::first::set_first;
 use link_index::NetIndex;
 use link_rules::NetPins;
-use name_numbers::TextKey;
 use name_parts::{ByParts, NameParts};
 use spef_read::{Name, Parasitics, WireText};
 use std::alloc::{AllocError, Global};
@@ -86,14 +85,6 @@ impl<'a> WireIndex<'a> {
         ensures { result.now ≡ self.now.parasitics }
     {
         self.parasitics
-    }
-
-    /// A key that depends on both texts, for tables of nodes.
-    pub fn key(&self) -> TextKey {
-        self.parasitics
-            .names
-            .key()
-            .joined(self.nets.netlist().nets.key())
     }
 
     /// The net of a node, whose name is put together in `room`.

@@ -5,6 +5,7 @@ mod charges;
 mod fault;
 mod first;
 mod index;
+mod marks;
 mod nodes;
 mod parts;
 mod tree;

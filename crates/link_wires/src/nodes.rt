@@ -1,18 +1,22 @@
 //! The nodes of a net in order.
 
-ghost use Rattle.std.specs.Prelude.{◌≡◌, [], ◌∷◌, ◌++◌, ◌<◌, length, fold, IfOk, OnOk};
+ghost use Rattle.std.specs.Prelude.{◌≡◌, [], ◌∷◌, ◌<◌, length, fold, map, flat_map, IfOk, OnOk};
+ghost use Rattle.std.specs.List.{All};
 ghost use Rattle.name_numbers.specs.Names.{number_of, with_name};
 ghost use Rattle.name_parts.specs.Parts.{whole};
 ghost use Rattle.xt_model.specs.Names.{IsName};
 ghost use Rattle.link_rules.specs.Ends.{end_name};
+ghost use Rattle.link_rules.specs.Nodes.{text_of};
 ghost use Rattle.link_rules.specs.Wires.{end_nodes, names_on};
+ghost use Rattle.link_wires.specs.Seen.{cap_node, both_nodes, wire_by};
 ghost use Rattle.link_wires.specs.Wires.{HasNames};
 
-use crate::first::set_first;
-use crate::parts::WireParts;
+use crate::index::text_of;
+use crate::marks::{Mark, mark_ends, marked};
+use crate::parts::{CapAt, WireParts};
 use link_rules::{End, NetPins};
-use name_numbers::TextKey;
-use name_parts::{ByParts, NameParts};
+use name_parts::NameParts;
+use spef_read::{Name as NodeName, Parasitics, ResText};
 use std::alloc::{AllocError, Global};
 use std::marker::Model;
 use xt_model::Name;
@@ -20,91 +24,122 @@ use xt_model::Name;
 /// The greatest number of nodes that are kept.
 const MOST_KEPT: usize = 4_294_967_295;
 
-/// Nodes by their names in the order of their numbers, which contracts see as the list of these. Two ends of a net may
-/// have one name, which then denotes the first of them. A look-up is by hash. With 4,294,967,295 nodes there is no
-/// memory for a further one.
+/// The nodes of a net in the order of their numbers: first its ends, then others by their names in the parasitics.
+/// Contracts see the parasitics and the list of names. Two ends of a net may have one name, which then denotes the
+/// first of them. The nodes of one net after another are kept in the same memory, and no look-up but that of an end is
+/// by hash. With 4,294,967,295 nodes, or as many nets, there is no memory for a further one.
 #[derive(Drop)]
 pub struct Nodes<'a> {
-    names: Vec<NameParts<'a>>,
-    numbers: ByParts<'a, u32>,
+    parasitics: &'a Parasitics,
+    ends: Vec<Name>,
+    others: Vec<NodeName>,
+    marks: Vec<Mark>,
+    turn: u32,
 }
 
 impl<'a> Model for Nodes<'a> {
-    ghost use Rattle.std.specs.Prelude.{ℕ, List, map};
-    ghost use Rattle.name_parts.specs.Parts.{whole};
-    ghost use Rattle.link_wires.specs.Places.{AreNodes};
+    ghost use Rattle.std.specs.Prelude.{◌++◌, map};
+    ghost use Rattle.link_rules.specs.Nodes.{text_of};
+    ghost use Rattle.link_wires.specs.Marks.{NodesOf, AreNodes};
 
-    ghost Value = { List (List ℕ) };
+    ghost Value = { NodesOf };
 
-    ghost view = { λ n. map whole n.names.items };
+    ghost view = { λ n. record {
+      parasitics = n.parasitics.now;
+      list = n.ends.items ++ map (text_of n.parasitics.now) n.others.items;
+    } };
 
-    ghost invariant = { λ n. AreNodes (map whole n.names.items) n.numbers };
+    ghost invariant = { λ n. AreNodes n.parasitics.now (n.ends.items ++ map (text_of n.parasitics.now) n.others.items)
+        n.turn n.marks.items };
 }
 
 impl<'a> Nodes<'a> {
-    ghost use Rattle.std.specs.Prelude.{Some};
+    ghost use Rattle.std.specs.Prelude.{[], Some};
     ghost use Rattle.std.specs.List.{slice_get};
-    ghost use Rattle.name_parts.specs.Parts.{whole};
 
-    /// No node, with the key of the texts that the names come from.
-    pub fn new(alloc: Global, key: TextKey) -> Nodes<'a>
-        ensures { result ≡ [] }
+    /// No node of a net of these parasitics.
+    pub fn new(alloc: Global, parasitics: &'a Parasitics) -> Result<Nodes<'a>, AllocError>
+        ensures { IfOk result (λ n. n ≡ record { parasitics = parasitics.entry.now; list = [] }) }
     {
-        Nodes {
-            names: Vec::new(alloc),
-            numbers: ByParts::new(alloc, key),
+        let none = Mark { turn: 0, number: 0 };
+        let marks = vec![in alloc; none; parasitics.names.len() as usize]?;
+        Ok(Nodes {
+            parasitics,
+            ends: Vec::new(alloc),
+            others: Vec::new(alloc),
+            marks,
+            turn: 1,
+        })
+    }
+
+    /// Forgets the nodes, and takes those of the ends of a further net.
+    pub fn start(&mut self, ends: Vec<Name>) -> Result<(), AllocError>
+        ensures list { OnOk result (self.new.list ≡ ends.items) }
+        ensures same { OnOk result (self.new.parasitics ≡ self.old.parasitics) }
+    {
+        let Some(turn) = self.turn.checked_add(1) else {
+            return Err(AllocError);
+        };
+        if ends.len() > MOST_KEPT {
+            return Err(AllocError);
         }
+        mark_ends(self.parasitics, &mut self.marks, turn, &ends);
+        self.turn = turn;
+        self.others.clear();
+        self.ends = ends;
+        Ok(())
     }
 
     /// How many nodes there are.
     pub fn len(&self) -> u32
-        ensures { result ≡ length self.now }
+        ensures { result ≡ length self.now.list }
     {
-        self.names.len() as u32
+        (self.ends.len() + self.others.len()) as u32
     }
 
     /// The number of the first node of this name, and that of the next node where there is none.
-    pub fn number(&self, name: NameParts<'a>) -> u32
-        ensures { result ≡ number_of (whole name.entry) self.now }
+    pub fn number(&self, name: NodeName) -> u32
+        ensures { result ≡ number_of (text_of self.now.parasitics name) self.now.list }
     {
-        match self.numbers.get(name) {
-            Some(number) => *number,
+        match marked(&self.marks, self.turn, name.number) {
+            Some(number) => number,
             None => self.len(),
         }
     }
 
     /// The name of a node.
-    pub fn name(&self, number: u32) -> NameParts<'a>
-        requires { number < length self.now }
-        ensures value { slice_get self.now number ≡ Some (whole result) }
+    pub fn name(&self, number: u32) -> NameParts<'_>
+        requires { number < length self.now.list }
+        ensures value { slice_get self.now.list number ≡ Some (whole result) }
         ensures sound { IsName (whole result) }
     {
-        self.names[number as usize]
-    }
-
-    /// Adds a node, whether there is one of this name or not.
-    pub fn push(&mut self, name: NameParts<'a>) -> Result<(), AllocError>
-        requires { IsName (whole name) }
-        ensures { OnOk result (self.new ≡ self.old ++ whole name.entry ∷ []) }
-    {
-        let number = self.names.len();
-        if number >= MOST_KEPT {
-            return Err(AllocError);
+        let place = number as usize;
+        if place < self.ends.len() {
+            NameParts::of(self.ends[place].bytes())
+        } else {
+            text_of(self.parasitics, self.others[place - self.ends.len()])
         }
-        self.names.reserve(1)?;
-        set_first(&mut self.numbers, name, number as u32)?;
-        self.names.push_reserved(name);
-        Ok(())
     }
 
     /// Adds the node of this name, where there is none.
-    pub fn enter(&mut self, name: NameParts<'a>) -> Result<(), AllocError>
-        requires { IsName (whole name) }
-        ensures { OnOk result (self.new ≡ with_name (whole name.entry) self.old) }
+    pub fn enter(&mut self, name: NodeName) -> Result<(), AllocError>
+        requires { IsName (text_of self.old.parasitics name) }
+        ensures list { OnOk result
+            (self.new.list ≡ with_name (text_of self.old.parasitics name) self.old.list) }
+        ensures same { OnOk result (self.new.parasitics ≡ self.old.parasitics) }
     {
-        if self.numbers.get(name).is_none() {
-            self.push(name)?;
+        if marked(&self.marks, self.turn, name.number).is_some() {
+            return Ok(());
         }
+        let number = self.len();
+        if number as usize >= MOST_KEPT {
+            return Err(AllocError);
+        }
+        self.others.push(name)?;
+        self.marks[name.number as usize] = Mark {
+            turn: self.turn,
+            number,
+        };
         Ok(())
     }
 }
@@ -125,7 +160,7 @@ pub fn end_nodes(alloc: Global, delimiter: u8, pins: &NetPins) -> Result<Vec<Nam
     requires { IsName (delimiter ∷ []) }
     ensures { IfOk result (λ ends. ends.items ≡ end_nodes delimiter pins.now) }
 {
-    let mut ends = Vec::new(alloc);
+    let mut ends = Vec::with_capacity(alloc, pins.sinks.as_slice().len() + 1)?;
     if let Some(driver) = &pins.driver {
         ends.push(end_node(alloc, delimiter, driver)?)?;
     }
@@ -137,32 +172,51 @@ pub fn end_nodes(alloc: Global, delimiter: u8, pins: &NetPins) -> Result<Vec<Nam
     Ok(ends)
 }
 
-/// The nodes of a net: those of its ends, then the others as they appear in its capacitors and resistors.
-pub fn nodes_of<'a>(
-    alloc: Global,
-    key: TextKey,
-    ends: &'a [Name],
-    wire: &WireParts<'a>,
-) -> Result<Nodes<'a>, AllocError>
-    requires { HasNames wire.now }
-    ensures { IfOk result (λ n. n ≡ fold (λ nodes name. with_name name nodes) ends.entry.now (names_on wire.now)) }
+/// Enters the nodes of capacitors as they appear.
+fn enter_caps(nodes: &mut Nodes<'_>, caps: &[CapAt]) -> Result<(), AllocError>
+    requires { All IsName (map (cap_node nodes.old.parasitics) caps.now) }
+    ensures list { OnOk result (nodes.new.list
+        ≡ fold (λ list name. with_name name list) nodes.old.list (map (cap_node nodes.old.parasitics) caps.now)) }
+    ensures same { OnOk result (nodes.new.parasitics ≡ nodes.old.parasitics) }
 {
-    let mut nodes = Nodes::new(alloc, key);
-    let mut left = ends;
-    'ends: while let [end, more @ ..] = left {
-        nodes.push(NameParts::of(end.bytes()))?;
-        left = more;
-    }
-    let mut caps = wire.caps();
-    'caps: while let [cap, more @ ..] = caps {
+    let mut rest = caps;
+    'caps: while let [cap, more @ ..] = rest {
         nodes.enter(cap.node)?;
-        caps = more;
+        rest = more;
     }
-    let mut resistors = wire.resistors();
-    'resistors: while let [resistor, more @ ..] = resistors {
+    Ok(())
+}
+
+/// Enters the nodes of resistors as they appear.
+fn enter_resistors(nodes: &mut Nodes<'_>, resistors: &[ResText]) -> Result<(), AllocError>
+    requires { All IsName (flat_map (both_nodes nodes.old.parasitics) resistors.now) }
+    ensures list { OnOk result (nodes.new.list
+        ≡ fold (λ list name. with_name name list) nodes.old.list
+        (flat_map (both_nodes nodes.old.parasitics) resistors.now)) }
+    ensures same { OnOk result (nodes.new.parasitics ≡ nodes.old.parasitics) }
+{
+    let mut rest = resistors;
+    'resistors: while let [resistor, more @ ..] = rest {
         nodes.enter(resistor.a)?;
         nodes.enter(resistor.b)?;
-        resistors = more;
+        rest = more;
     }
-    Ok(nodes)
+    Ok(())
+}
+
+/// Takes the nodes of a net: those of its ends, then the others as they appear in its capacitors and resistors.
+pub fn take_nodes(
+    nodes: &mut Nodes<'_>,
+    ends: Vec<Name>,
+    wire: &WireParts<'_>,
+) -> Result<(), AllocError>
+    requires { HasNames (wire_by nodes.old.parasitics wire.now) }
+    ensures list { OnOk result (nodes.new.list
+        ≡ fold (λ list name. with_name name list) ends.items (names_on (wire_by nodes.old.parasitics wire.now))) }
+    ensures same { OnOk result (nodes.new.parasitics ≡ nodes.old.parasitics) }
+{
+    nodes.start(ends)?;
+    enter_caps(nodes, &wire.caps)?;
+    enter_resistors(nodes, wire.resistors)?;
+    Ok(())
 }

@@ -1,62 +1,93 @@
 //! The parts of a wire: its capacitors, each at its own node, and its resistors.
 
-ghost use Rattle.std.specs.Prelude.{◌≡◌, IfOk, option_map};
-ghost use Rattle.link_rules.specs.Wires.{coupled, capacitor_of, named_resistor_of, wire_in};
+ghost use Rattle.std.specs.Prelude.{◌≡◌, IfOk, OnOk, option_map};
+ghost use Rattle.link_rules.specs.Nodes.{text_of, node_net};
+ghost use Rattle.link_rules.specs.Wires.{coupled, capacitor_of, wire_in};
+ghost use Rattle.link_wires.specs.Seen.{cap_by, wire_by};
 
 use crate::index::{WireIndex, text_of};
-use name_parts::NameParts;
-use spef_read::{CapText, ResText, WireText};
+use spef_read::{CapText, Name, ResText, WireText};
 use std::alloc::{AllocError, Global};
 use std::marker::Model;
 
 /// A capacitor of a net: its own node, the net to which it couples, if any, and its value in aF.
-#[derive(Drop)]
-pub struct CapAt<'a> {
-    pub node: NameParts<'a>,
+#[derive(Clone, Copy, Debug, PartialEq, Eq)]
+pub struct CapAt {
+    pub node: Name,
     pub to: Option<u32>,
     pub value: i64,
 }
 
-impl<'a> Model for CapAt<'a> {
-    ghost use Rattle.name_parts.specs.Parts.{whole};
-    ghost use Rattle.link_rules.specs.Wires.{Capacitor};
-
-    ghost Value = { Capacitor };
-
-    ghost view = { λ c. record { node = whole c.node; to = c.to; value = c.value } };
-}
-
-/// A resistor of a net between two nodes, in milliohms.
-#[derive(Drop)]
-pub struct ResAt<'a> {
-    pub a: NameParts<'a>,
-    pub b: NameParts<'a>,
-    pub value: i64,
-}
-
-impl<'a> Model for ResAt<'a> {
-    ghost use Rattle.name_parts.specs.Parts.{whole};
-    ghost use Rattle.link_rules.specs.Wires.{NamedResistor};
-
-    ghost Value = { NamedResistor };
-
-    ghost view = { λ r. record { a = whole r.a; b = whole r.b; value = r.value } };
-}
-
-/// The wire of a net: its total in aF, its capacitors and its resistors.
+/// The wire of a net: its total in aF, its capacitors, and its resistors as the parasitics have them.
 #[derive(Drop)]
 pub struct WireParts<'a> {
-    total: i64,
-    caps: Vec<CapAt<'a>>,
-    resistors: Vec<ResAt<'a>>,
+    pub total: i64,
+    pub caps: Vec<CapAt>,
+    pub resistors: &'a [ResText],
 }
 
-impl<'a> Model for WireParts<'a> {
-    ghost use Rattle.link_rules.specs.Wires.{Wire};
+/// The net of a node, whose name is put together in `room`.
+fn looked_up<'a>(
+    index: &'a WireIndex<'a>,
+    node: Name,
+    room: &mut Vec<u8>,
+) -> Result<Option<u32>, AllocError>
+    ensures { IfOk result
+        (λ net. net ≡ node_net index.entry.now.netlist index.entry.now.parasitics.delimiter
+        (text_of index.entry.now.parasitics node)) }
+{
+    index.node_net(text_of(index.parasitics(), node), room)
+}
 
-    ghost Value = { Wire };
+/// The nets of the nodes of parasitics, each looked up once. Contracts see the index by which they are.
+#[derive(Drop)]
+pub struct NodeNets<'a> {
+    index: &'a WireIndex<'a>,
+    nets: Vec<Option<Option<u32>>>,
+    room: Vec<u8>,
+}
 
-    ghost view = { λ w. record { total = w.total; caps = w.caps.items; resistors = w.resistors.items } };
+impl<'a> Model for NodeNets<'a> {
+    ghost use Rattle.link_wires.specs.Places.{Extracted};
+    ghost use Rattle.link_wires.specs.Seen.{AreNetsOf};
+
+    ghost Value = { Extracted };
+
+    ghost view = { λ n. n.index.now };
+
+    ghost invariant = { λ n. AreNetsOf n.index.now n.nets.items };
+}
+
+impl<'a> NodeNets<'a> {
+    /// No net is looked up by this index.
+    pub fn new(alloc: Global, index: &'a WireIndex<'a>) -> Result<NodeNets<'a>, AllocError>
+        ensures { IfOk result (λ n. n ≡ index.entry.now) }
+    {
+        let nets = vec![in alloc; None; index.parasitics().names.len() as usize]?;
+        Ok(NodeNets {
+            index,
+            nets,
+            room: Vec::new(alloc),
+        })
+    }
+
+    /// The net of a node.
+    pub fn net(&mut self, node: Name) -> Result<Option<u32>, AllocError>
+        ensures value { IfOk result
+            (λ net. net ≡ node_net self.old.netlist self.old.parasitics.delimiter (text_of self.old.parasitics node)) }
+        ensures same { self.new ≡ self.old }
+    {
+        let place = node.number as usize;
+        if place >= self.nets.len() {
+            return looked_up(self.index, node, &mut self.room);
+        }
+        if let Some(net) = self.nets[place] {
+            return Ok(net);
+        }
+        let net = looked_up(self.index, node, &mut self.room)?;
+        self.nets[place] = Some(net);
+        Ok(net)
+    }
 }
 
 /// The net to which a capacitor of a net couples whose other node is on this one: another one that is known.
@@ -69,32 +100,25 @@ fn coupled(net: u32, found: Option<u32>) -> Option<u32>
     }
 }
 
-/// A capacitor of a net. Of two nodes the first that is on the net is its own, and the first where none is. Names are
-/// put together in `room`.
-fn capacitor_of<'a>(
-    index: &WireIndex<'a>,
-    net: u32,
-    cap: CapText,
-    room: &mut Vec<u8>,
-) -> Result<CapAt<'a>, AllocError>
-    ensures { IfOk result (λ c. c ≡ capacitor_of index.now.netlist index.now.parasitics net cap) }
+/// A capacitor of a net. Of two nodes the first that is on the net is its own, and the first where none is.
+fn capacitor_of(nets: &mut NodeNets<'_>, net: u32, cap: CapText) -> Result<CapAt, AllocError>
+    ensures value { IfOk result
+        (λ c. cap_by nets.old.parasitics c ≡ capacitor_of nets.old.netlist nets.old.parasitics net cap) }
+    ensures same { nets.new ≡ nets.old }
 {
-    let parasitics = index.parasitics();
-    let a = text_of(parasitics, cap.a);
     let value = cap.value;
     let Some(b) = cap.b else {
         return Ok(CapAt {
-            node: a,
+            node: cap.a,
             to: None,
             value,
         });
     };
-    let b = text_of(parasitics, b);
-    let net_a = index.node_net(a, room)?;
-    let net_b = index.node_net(b, room)?;
+    let net_a = nets.net(cap.a)?;
+    let net_b = nets.net(b)?;
     if net_a == Some(net) || net_b != Some(net) {
         Ok(CapAt {
-            node: a,
+            node: cap.a,
             to: coupled(net, net_b),
             value,
         })
@@ -107,70 +131,33 @@ fn capacitor_of<'a>(
     }
 }
 
-/// A resistor of a net.
-fn named_resistor_of<'a>(index: &WireIndex<'a>, resistor: ResText) -> ResAt<'a>
-    ensures { result ≡ named_resistor_of index.now.netlist index.now.parasitics resistor }
-{
-    let parasitics = index.parasitics();
-    ResAt {
-        a: text_of(parasitics, resistor.a),
-        b: text_of(parasitics, resistor.b),
-        value: resistor.value,
-    }
-}
-
 impl<'a> WireParts<'a> {
     /// The wire of a net that is listed, or no wire.
     pub fn of_net(
         alloc: Global,
-        index: &WireIndex<'a>,
+        nets: &mut NodeNets<'_>,
         net: u32,
         listed: Option<&'a WireText>,
     ) -> Result<WireParts<'a>, AllocError>
-        ensures { IfOk result (λ w. w ≡ wire_in index.now.netlist index.now.parasitics net
-            (option_map (λ t. t.now) listed.entry)) }
+        ensures value { IfOk result (λ w. wire_by nets.old.parasitics w
+            ≡ wire_in nets.old.netlist nets.old.parasitics net (option_map (λ t. t.now) listed.entry)) }
+        ensures same { OnOk result (nets.new ≡ nets.old) }
     {
-        let mut caps = Vec::new(alloc);
-        let mut resistors = Vec::new(alloc);
         let Some(text) = listed else {
             return Ok(WireParts {
                 total: 0,
-                caps,
-                resistors,
+                caps: Vec::new(alloc),
+                resistors: &[],
             });
         };
-        let mut room = Vec::new(alloc);
+        let mut caps = Vec::with_capacity(alloc, text.caps.as_slice().len())?;
         for cap in text.caps.as_slice() {
-            caps.push(capacitor_of(index, net, *cap, &mut room)?)?;
-        }
-        for resistor in text.resistors.as_slice() {
-            resistors.push(named_resistor_of(index, *resistor))?;
+            caps.push(capacitor_of(nets, net, *cap)?)?;
         }
         Ok(WireParts {
             total: text.total,
             caps,
-            resistors,
+            resistors: text.resistors.as_slice(),
         })
-    }
-
-    /// The total capacitance in aF.
-    pub fn total(&self) -> i64
-        ensures { result ≡ self.now.total }
-    {
-        self.total
-    }
-
-    /// The capacitors.
-    pub fn caps(&self) -> &[CapAt<'a>]
-        ensures { result.now ≡ self.now.caps }
-    {
-        self.caps.as_slice()
-    }
-
-    /// The resistors.
-    pub fn resistors(&self) -> &[ResAt<'a>]
-        ensures { result.now ≡ self.now.resistors }
-    {
-        self.resistors.as_slice()
     }
 }

@@ -7,6 +7,7 @@ ghost use Rattle.elmore_tree.specs.Forms.{IsFormOf, IsFaultOf, IsAcceptedTree};
 ghost use Rattle.spef_read.specs.Sound.{AreSoundParasitics};
 ghost use Rattle.link_rules.specs.Wires.{has_resistors};
 ghost use Rattle.link_wires.specs.WireFaults.{IsThere, IsTreeFault, IsLimit, IsTreeWithin, limit_at};
+ghost use Rattle.link_wires.specs.Seen.{wire_by};
 ghost use Rattle.link_wires.specs.Within.{IsWireWithin, IsFaultWithin};
 ghost use Rattle.link_wires.specs.Wires.{HasQuantities, HasSinkQuantities, IsNumbered};
 ghost use Rattle.link_wires.specs.Wires.{IsWireOf, AreWires, IsNetFault, IsFirstFault};
@@ -14,8 +15,8 @@ ghost use Rattle.link_wires.specs.Wires.{IsWireOf, AreWires, IsNetFault, IsFirst
 use crate::charges::{charges_of, couplings_of, greatest_load, taps_of};
 use crate::fault::{limit_of, refusal_of};
 use crate::index::WireIndex;
-use crate::nodes::{Nodes, end_nodes, nodes_of};
-use crate::parts::WireParts;
+use crate::nodes::{Nodes, end_nodes, take_nodes};
+use crate::parts::{NodeNets, WireParts};
 use crate::tree::tree_of;
 use elmore_tree::{Tree, WireForm, check, coefficients};
 use link_index::NetIndex;
@@ -32,19 +33,20 @@ pub struct NetWire {
 }
 
 /// The tree of a net, or the limit that it passes.
-fn tree_within<'a>(
+fn tree_within(
     alloc: Global,
     pins: &NetPins,
     listed: bool,
-    nodes: &Nodes<'a>,
-    parts: &WireParts<'a>,
+    nodes: &Nodes<'_>,
+    parts: &WireParts<'_>,
 ) -> Result<Tree, LinkFault>
-    requires numbered { IsNumbered nodes.now pins.now.sinks parts.now }
-    requires wire { HasQuantities parts.now }
+    requires numbered { IsNumbered nodes.now.list pins.now.sinks (wire_by nodes.now.parasitics parts.now) }
+    requires wire { HasQuantities (wire_by nodes.now.parasitics parts.now) }
     requires sinks { HasSinkQuantities pins.now }
-    requires unlisted { listed ≡ false → has_resistors parts.now ≡ false }
-    ensures ok { IfOk result (IsTreeWithin listed pins.now nodes.now parts.now) }
-    ensures fault { IfErr result (IsLimit (limit_at listed pins.now nodes.now parts.now)) }
+    requires unlisted { listed ≡ false → has_resistors (wire_by nodes.now.parasitics parts.now) ≡ false }
+    ensures ok { IfOk result (IsTreeWithin listed pins.now nodes.now.list (wire_by nodes.now.parasitics parts.now)) }
+    ensures fault { IfErr result
+        (IsLimit (limit_at listed pins.now nodes.now.list (wire_by nodes.now.parasitics parts.now))) }
 {
     let sinks = pins.sinks.as_slice();
     let charges = charges_of(alloc, nodes, sinks, parts)?;
@@ -58,15 +60,10 @@ fn tree_within<'a>(
 }
 
 /// Refuses a tree of a net that is not one or does not reach all.
-fn check_tree<'a>(
-    alloc: Global,
-    net: &Name,
-    nodes: &Nodes<'a>,
-    tree: &Tree,
-) -> Result<(), LinkFault>
-    requires { (fault : TreeFault) → IsFaultOf tree.now fault → IsThere nodes.now fault }
+fn check_tree(alloc: Global, net: &Name, nodes: &Nodes<'_>, tree: &Tree) -> Result<(), LinkFault>
+    requires { (fault : TreeFault) → IsFaultOf tree.now fault → IsThere nodes.now.list fault }
     ensures ok { OnOk result (IsAcceptedTree tree.now) }
-    ensures fault { IfErr result (IsTreeFault tree.now net.now nodes.now) }
+    ensures fault { IfErr result (IsTreeFault tree.now net.now nodes.now.list) }
 {
     match check(alloc, tree) {
         Ok(()) => Ok(()),
@@ -75,19 +72,20 @@ fn check_tree<'a>(
 }
 
 /// The wire of a net of these nodes.
-fn wire_within<'a>(
+fn wire_within(
     alloc: Global,
     pins: &NetPins,
     listed: bool,
-    nodes: &Nodes<'a>,
-    parts: &WireParts<'a>,
+    nodes: &Nodes<'_>,
+    parts: &WireParts<'_>,
 ) -> Result<NetWire, LinkFault>
-    requires numbered { IsNumbered nodes.now pins.now.sinks parts.now }
-    requires wire { HasQuantities parts.now }
+    requires numbered { IsNumbered nodes.now.list pins.now.sinks (wire_by nodes.now.parasitics parts.now) }
+    requires wire { HasQuantities (wire_by nodes.now.parasitics parts.now) }
     requires sinks { HasSinkQuantities pins.now }
-    requires unlisted { listed ≡ false → has_resistors parts.now ≡ false }
-    ensures ok { IfOk result (IsWireWithin listed pins.now nodes.now parts.now) }
-    ensures fault { IfErr result (IsFaultWithin listed pins.now nodes.now parts.now) }
+    requires unlisted { listed ≡ false → has_resistors (wire_by nodes.now.parasitics parts.now) ≡ false }
+    ensures ok { IfOk result (IsWireWithin listed pins.now nodes.now.list (wire_by nodes.now.parasitics parts.now)) }
+    ensures fault { IfErr result
+        (IsFaultWithin listed pins.now nodes.now.list (wire_by nodes.now.parasitics parts.now)) }
 {
     let tree = tree_within(alloc, pins, listed, nodes, parts)?;
     check_tree(alloc, &pins.name, nodes, &tree)?;
@@ -102,19 +100,25 @@ fn wire_within<'a>(
 fn wire_of<'a>(
     alloc: Global,
     index: &WireIndex<'a>,
+    nets: &mut NodeNets<'_>,
+    nodes: &mut Nodes<'_>,
     net: u32,
     pins: &'a NetPins,
 ) -> Result<NetWire, LinkFault>
     requires parasitics { AreSoundParasitics index.now.parasitics }
     requires sinks { HasSinkQuantities pins.now }
+    requires nets { nets.old ≡ index.now }
+    requires nodes { nodes.old.parasitics ≡ index.now.parasitics }
     ensures ok { IfOk result (IsWireOf index.now.netlist index.now.parasitics (net, pins.entry.now)) }
     ensures fault { IfErr result (IsNetFault index.now.netlist index.now.parasitics (net, pins.entry.now)) }
+    ensures nets { OnOk result (nets.new ≡ index.now) }
+    ensures nodes { OnOk result (nodes.new.parasitics ≡ index.now.parasitics) }
 {
     let listed = index.listed(pins);
-    let parts = WireParts::of_net(alloc, index, net, listed)?;
+    let parts = WireParts::of_net(alloc, nets, net, listed)?;
     let ends = end_nodes(alloc, index.parasitics().delimiter, pins)?;
-    let nodes = nodes_of(alloc, index.key(), &ends, &parts)?;
-    wire_within(alloc, pins, listed.is_some(), &nodes, &parts)
+    take_nodes(nodes, ends, &parts)?;
+    wire_within(alloc, pins, listed.is_some(), &*nodes, &parts)
 }
 
 /// The wires of nets, in their order. The first fault counts: of the first net that has one its count of nodes, where
@@ -136,9 +140,18 @@ pub fn wires<'a>(
         (IsFirstFault index.entry.now parasitics.entry.now (enumerate_from 0 nets.entry.now)) }
 {
     let extracted = WireIndex::new(alloc, index, parasitics)?;
-    let mut wires = Vec::new(alloc);
+    let mut node_nets = NodeNets::new(alloc, &extracted)?;
+    let mut nodes = Nodes::new(alloc, parasitics)?;
+    let mut wires = Vec::with_capacity(alloc, nets.len())?;
     for (net, pins) in nets.iter().enumerate() {
-        wires.push(wire_of(alloc, &extracted, net as u32, pins)?)?;
+        wires.push(wire_of(
+            alloc,
+            &extracted,
+            &mut node_nets,
+            &mut nodes,
+            net as u32,
+            pins,
+        )?)?;
     }
     Ok(wires)
 }

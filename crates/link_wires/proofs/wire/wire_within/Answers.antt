@@ -1,10 +1,11 @@
 use Rattle.std.proofs.Common.{subst}
 use Rattle.elmore_tree.specs.Trees.{IsSoundTree}
 use Rattle.elmore_tree.specs.Forms.{IsFaultOf}
+use Rattle.link_wires.specs.Seen.{wire_by}
 use Rattle.link_wires.proofs.NetLaws.{fault_there}
 use Rattle.link_wires.proofs.wire.wire_within.Goals as goal
 
 pub check_tree-requires : goal.check_tree-requires
 check_tree-requires c = λ fault cause.
     let h = c.in_ok-tree.ensures.ok in
-    fault_there c.args.nodes.now c.args.pins.now.sinks c.args.parts.now (subst IsSoundTree h.tree h.sound) fault (subst (λ t. IsFaultOf t fault) h.tree cause)
+    fault_there c.args.nodes.now.list c.args.pins.now.sinks (wire_by c.args.nodes.now.parasitics c.args.parts.now) (subst IsSoundTree h.tree h.sound) fault (subst (λ t. IsFaultOf t fault) h.tree cause)
