@@ -13,8 +13,6 @@ mod eco;
 #[cfg(test)]
 mod edge;
 #[cfg(test)]
-mod edits;
-#[cfg(test)]
 mod gated;
 #[cfg(test)]
 mod generated;
