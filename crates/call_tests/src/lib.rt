@@ -13,6 +13,8 @@ mod eco;
 #[cfg(test)]
 mod edge;
 #[cfg(test)]
+mod edits;
+#[cfg(test)]
 mod gated;
 #[cfg(test)]
 mod generated;
