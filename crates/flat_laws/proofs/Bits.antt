@@ -17,7 +17,7 @@ use Rattle.hier_flatten.specs.declared.fault.FlatFault.TheVariants as faults
 use Rattle.hier_flatten.specs.Places.{place_in, bit_at}
 use Rattle.hier_flatten.specs.Fits.{range_at, cell_pin_fits, pins_fit, instance_fits, misfit_from, first_of, misfit_in, misfit}
 use Rattle.hier_flatten.specs.Hierarchy.{Hierarchy, ends, cell, inner, IsHierarchy, module_number, top_of}
-use Rattle.hier_flatten.specs.Flat.{Scope, Flat, or_open, bit_of, bit_within, flat_wire, flat_pins, flat_instance, limit_of, unless_passed, scope_below, entered_below, flat_below, top_scope, at_top, built}
+use Rattle.hier_flatten.specs.Flat.{Scope, Flat, Ranges, ranges_of, range_of, counts_of, or_open, bit_of, bit_within, flat_wire, flat_pins, flat_instance, limit_of, unless_passed, scope_below, entered_below, flat_below, top_scope, at_top, built}
 use Rattle.hier_flatten.specs.Names.{has_equal_names, has_long_name}
 use Rattle.hier_flatten.specs.Meaning.{Outcome, named, within_limits, TopMeans, HierarchyMeans, circular, finite, unless_misfit, FlatMeans}
 use Rattle.hier_flatten.proofs.MeaningLaws.{top_has}
@@ -30,13 +30,13 @@ place_bit : (net : ℕ) (o : Option ℕ) → IsOneBit (bit_of net o)
 place_bit net None = tt
 place_bit net (Some bit) = tt
 
-within_bit : (flat : Nets) (place : ℕ) (w : Wire) → IsOneBit (bit_within flat place w)
+within_bit : (flat : Ranges) (place : ℕ) (w : Wire) → IsOneBit (bit_within flat place w)
 within_bit flat place wires.Open = tt
 within_bit flat place wires.Constant = tt
 within_bit flat place (wires.Bit decl bit) = tt
-within_bit flat place (wires.Whole net) = place_bit net (bit_at (range_at net flat) place)
+within_bit flat place (wires.Whole net) = place_bit net (bit_at (range_of net flat) place)
 
-module _ (flat nets : Nets) (meant : List Wire) where
+module _ (flat : Ranges) (nets : Nets) (meant : List Wire) where
   wire_bit : (p : Text × Wire) → cell_pin_fits p ≡ true → IsOneBit (flat_wire flat nets meant p.1)
   wire_bit (name, wires.Open) h = tt
   wire_bit (name, wires.Constant) h = tt
@@ -86,15 +86,15 @@ module _ (modules : List Netlist) where
     below_bits (cell j more) [] s flat new t fit bits e = absurd t
     below_bits (cell j more) (i ∷ is) s flat new t fit bits e =
         let pins : list_all cell_pin_fits i.pins ≡ true = ap (λ o. pins_fit s.nets o i.pins) (sym t.1) ∙ fit.0 in
-        let one : AreBits (flat_instance flat.nets s j) = subst (λ k. AreBits (flat_instance flat.nets s k)) t.0 (pins_bits flat.nets s.nets s.meant i.pins pins) in
-        below_bits more is s (record flat { instances = flat.instances ++ flat_instance flat.nets s j ∷ [] }) new t.2 fit.1
-        (each_push AreBits flat.instances (flat_instance flat.nets s j) bits one) e
+        let one : AreBits (flat_instance (ranges_of flat.nets) s j) = subst (λ k. AreBits (flat_instance (ranges_of flat.nets) s k)) t.0 (pins_bits (ranges_of flat.nets) s.nets s.meant i.pins pins) in
+        below_bits more is s (record flat { instances = flat.instances ++ flat_instance (ranges_of flat.nets) s j ∷ [] }) new t.2 fit.1
+        (each_push AreBits flat.instances (flat_instance (ranges_of flat.nets) s j) bits one) e
     below_bits (inner j m below more) [] s flat new t fit bits e = absurd t
     below_bits (inner j m below more) (i ∷ is) s flat new t fit bits e =
-        let entered = flat_below below (scope_below flat.nets s j m) (entered_below flat s j m) in
-        let parts = bind_parts (unless_passed (limit_of flat) entered) (flat_below more s) new e in
-        let middle = below_bits below m.instances (scope_below flat.nets s j m) (entered_below flat s j m) parts.0 t.2
-        (module_fits (module_number modules i.cell) m t.1) bits (passed_parts (limit_of flat) entered parts.0 parts.1) in
+        let entered = flat_below below (scope_below (ranges_of flat.nets) s j m) (entered_below flat s j m) in
+        let parts = bind_parts (unless_passed (limit_of (counts_of flat)) entered) (flat_below more s) new e in
+        let middle = below_bits below m.instances (scope_below (ranges_of flat.nets) s j m) (entered_below flat s j m) parts.0 t.2
+        (module_fits (module_number modules i.cell) m t.1) bits (passed_parts (limit_of (counts_of flat)) entered parts.0 parts.1) in
         below_bits more is s parts.0 new t.3 fit.1 middle parts.2
 
     built_bits : (top : Netlist) (h : Hierarchy) (flat : Flat) → Fit top.nets top.instances → IsHierarchy modules top.instances h → built top h ≡ Ok flat

@@ -19,7 +19,7 @@ use Rattle.verilog_net.specs.Nets.{Nets}
 use Rattle.hier_flatten.specs.Places.{place_in, bit_at}
 use Rattle.hier_flatten.specs.Fits.{range_at, cell_pin_fits, pins_fit, instance_fits, misfit_from, misfit}
 use Rattle.hier_flatten.specs.Hierarchy.{Hierarchy, ends, cell, IsHierarchy, HasHierarchy, IsFinite, module_of, is_instanced, top_of}
-use Rattle.hier_flatten.specs.Flat.{Flat, or_open, bit_of, bit_within, flat_wire, flat_pins, flat_instance, meant_from, flat_below, top_scope, built}
+use Rattle.hier_flatten.specs.Flat.{Flat, ranges_of, range_of, or_open, bit_of, bit_within, flat_wire, flat_pins, flat_instance, meant_from, flat_below, top_scope, built}
 use Rattle.hier_flatten.specs.Names.{is_repeated, has_equal_names, is_long, has_long_name}
 use Rattle.hier_flatten.specs.Meaning.{FlatMeans}
 use Rattle.hier_flatten.proofs.MeaningLaws.{built_means}
@@ -64,10 +64,16 @@ place_back (Some r) bit is = elim (or_cases (nat_le r.0 bit && nat_le bit r.1) (
 ]
 
 -- ---- connections
-range_of : (nets : Nets) (decl : ℕ) (s : Shape) → slice_get (shapes nets) decl ≡ Some s → range_at decl nets ≡ s.1
-range_of [] decl s e = absurd (cc)
-range_of (net ∷ nets) zero s e = let same : ◌≡◌ {A = Shape} (net.0, net.1.range) s = cc in ap (λ x. x.1) same
-range_of (net ∷ nets) (suc decl) s e = range_of nets decl s e
+range_at_is : (nets : Nets) (decl : ℕ) (s : Shape) → slice_get (shapes nets) decl ≡ Some s → range_at decl nets ≡ s.1
+range_at_is [] decl s e = absurd (cc)
+range_at_is (net ∷ nets) zero s e = let same : ◌≡◌ {A = Shape} (net.0, net.1.range) s = cc in ap (λ x. x.1) same
+range_at_is (net ∷ nets) (suc decl) s e = range_at_is nets decl s e
+
+-- the range among those of all nets
+range_among : (nets : Nets) (decl : ℕ) → range_of decl (ranges_of nets) ≡ range_at decl nets
+range_among [] decl = refl
+range_among (net ∷ nets) zero = refl
+range_among (net ∷ nets) (suc decl) = range_among nets decl
 
 number_of : {X : Type 0} (xs : List X) (i : ℕ) (x : X) → slice_get xs i ≡ Some x → i < length xs
 number_of [] i x e = absurd (cc)
@@ -83,7 +89,7 @@ module _ (nets : Nets) where
   abbrev meant : List Wire
   meant = meant_from 0 (replicate (length nets) wires.Open)
 
-  wire_kept : (w : Wire) → IsConnected (shapes nets) w → flat_wire nets nets meant w ≡ w
+  wire_kept : (w : Wire) → IsConnected (shapes nets) w → flat_wire (ranges_of nets) nets meant w ≡ w
   wire_kept wires.Open h = refl
   wire_kept wires.Constant h = refl
   wire_kept (wires.Whole decl) h = absurd h
@@ -92,13 +98,13 @@ module _ (nets : Nets) where
       let lt = number_of (shapes nets) decl h.shape h.there in
       let there : slice_get meant decl ≡ Some (wires.Whole decl) =
       meant_at (length nets) 0 decl (omega (arith, lt, few)) ∙ ap (λ n. Some (wires.Whole n)) (omega arith) in
-      let range = range_of nets decl h.shape h.there in
+      let range = range_at_is nets decl h.shape h.there in
       let back = place_back (range_at decl nets) bit (subst (λ o. IsBitOf o bit) (sym range) h.within) in
-      ap (λ o. bit_within nets (place_in (range_at decl nets) bit) (or_open o)) there ∙ ap (bit_of decl) back
+      ap (λ o. bit_within (ranges_of nets) (place_in (range_at decl nets) bit) (or_open o)) there ∙ ap (bit_of decl) (ap (λ o. bit_at o (place_in (range_at decl nets) bit)) (range_among nets decl) ∙ back)
 
-  pins_kept : (pins : List (Text × Wire)) → AreConnected (shapes nets) pins → flat_pins nets nets meant pins ≡ pins
+  pins_kept : (pins : List (Text × Wire)) → AreConnected (shapes nets) pins → flat_pins (ranges_of nets) nets meant pins ≡ pins
   pins_kept [] h = refl
-  pins_kept (p ∷ pins) h = ap (λ w. (p.0, w) ∷ flat_pins nets nets meant pins) (wire_kept p.1 h.0) ∙ ap (λ t. p ∷ t) (pins_kept pins h.1)
+  pins_kept (p ∷ pins) h = ap (λ w. (p.0, w) ∷ flat_pins (ranges_of nets) nets meant pins) (wire_kept p.1 h.0) ∙ ap (λ t. p ∷ t) (pins_kept pins h.1)
 
 pin_fits : (ss : List Shape) (p : Text × Wire) → IsConnected ss p.1 → cell_pin_fits p ≡ true
 pin_fits ss (name, wires.Open) h = refl
@@ -165,7 +171,7 @@ module _ (m : Netlist) (alone : is_instanced (m ∷ []) m.«module» ≡ false) 
   abbrev flat_of : List Instance → Flat
   flat_of is = record { nets = m.nets; instances = is; entered = 0 }
 
-  instance_kept : (i : Instance) → AreConnected (shapes m.nets) i.pins → flat_instance m.nets (top_scope m) i ≡ i
+  instance_kept : (i : Instance) → AreConnected (shapes m.nets) i.pins → flat_instance (ranges_of m.nets) (top_scope m) i ≡ i
   instance_kept i h = ap (λ (ps : List (Text × Wire)). record i { pins = ps }) (pins_kept m.nets i.pins h)
 
   build : (is done : List Instance) → HaveConnected (shapes m.nets) is → flat_below (cells is) (top_scope m) (flat_of done) ≡ Ok (flat_of (done ++ is))

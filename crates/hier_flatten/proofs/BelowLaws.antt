@@ -1,18 +1,19 @@
 -- What an instance adds, one net after another.
-use Rattle.std.proofs.Common.{◌≡◌, refl, ℕ, zero, suc, ◌+◌, ◌≤◌, List, [], ◌∷◌, ◌++◌, length, take, map, option_to_list, Option, Some, None, sym, ap, ◌∙◌, arith, if◌then◌else◌}
+use Rattle.std.proofs.Common.{◌≡◌, refl, ℕ, zero, suc, ◌+◌, ◌≤◌, List, [], ◌∷◌, ◌++◌, length, take, map, replicate, option_to_list, get_or, Option, Some, None, sym, ap, ◌∙◌, arith, if◌then◌else◌}
 use Rattle.std.specs.List.{slice_get}
 use Rattle.std.proofs.Math.Numerals.{add-one}
-use Rattle.std.proofs.lemmas.List.{append_assoc}
+use Rattle.std.proofs.lemmas.List.{append_assoc, append-nil}
 use Rattle.name_numbers.specs.Names.{Text}
 use Rattle.verilog_net.specs.declared.netlist.Net.{Net}
 use Rattle.verilog_net.specs.declared.netlist.Wire.{Wire}
 use Rattle.verilog_net.specs.declared.netlist.Wire.TheVariants as wires
 use Rattle.verilog_net.specs.Nets.{Nets, is_directed}
 use Rattle.hier_flatten.specs.Tables.{IsTableOf}
+use Rattle.hier_flatten.proofs.SliceLaws.{rest_of, first_and_rest}
 use Rattle.hier_flatten.specs.Places.{width_of}
 use Rattle.verilog_net.specs.declared.netlist.Instance.{Instance}
 use Rattle.verilog_net.specs.declared.netlist.Netlist.{Netlist}
-use Rattle.hier_flatten.specs.Flat.{Scope, Flat, or_open, flat_wire, wire_of, own_of, own_at, own_nets, meant_by, next_after, meant_from, prefix_below, wires_below, scope_below, entered_below, bits_in}
+use Rattle.hier_flatten.specs.Flat.{Scope, Flat, Ranges, ranges_of, Counts, or_open, flat_wire, wire_of, own_of, own_at, own_nets, meant_by, next_after, meant_from, prefix_below, wires_below, scope_below, entered_below, bits_in}
 
 module _ {X : Type 0} where
   -- one element more
@@ -103,12 +104,28 @@ nets_all prefix nets ws k initial g h e =
     e ∙ ap (λ n. record initial { nets = initial.nets ++ n }) (own_all prefix nets ws k h)
 
 -- ---- the connections of a module's nets
-pub wires_same : (flat nets : Nets) (meant : List Wire) (entries table : List (Text × Wire)) → IsTableOf entries table → (inner : Nets)
+pub wires_same : (flat : Ranges) (nets : Nets) (meant : List Wire) (entries table : List (Text × Wire)) → IsTableOf entries table → (inner : Nets)
     → map (wire_of flat nets meant table) inner ≡ map (wire_of flat nets meant entries) inner
 wires_same flat nets meant entries table of [] = refl
 wires_same flat nets meant entries table of (net ∷ inner) =
     ap (λ o. (if is_directed net.1.role then flat_wire flat nets meant (or_open o) else wires.Open) ∷ map (wire_of flat nets meant table) inner) (of.each net.0)
     ∙ ap (λ t. wire_of flat nets meant entries net ∷ t) (wires_same flat nets meant entries table of inner)
+
+-- ---- instances of cells, one after another
+module _ (made : Instance → Instance) (rest : List Instance) where
+  pub cells_turn : (d i c : Instance) (g new whole : Flat) → 1 ≤ length rest → i ≡ get_or rest 0 d → c ≡ made i
+      → new ≡ record g { instances = g.instances ++ c ∷ [] } → record g { instances = g.instances ++ map made rest } ≡ whole
+      → record new { instances = new.instances ++ map made (rest_of rest) } ≡ whole
+  cells_turn d i c g new whole some is one grown e =
+      ap (λ (x : Flat). record x { instances = x.instances ++ map made (rest_of rest) }) grown
+      ∙ (ap (λ is. record g { instances = is })
+      (append_assoc g.instances (c ∷ []) (map made (rest_of rest))
+      ∙ (ap (λ z. g.instances ++ z ∷ map made (rest_of rest)) one ∙ ap (λ r. g.instances ++ map made r) (sym (first_and_rest rest d i some is))))
+      ∙ e)
+
+  pub cells_end : (g whole : Flat) → rest ≡ [] → record g { instances = g.instances ++ map made rest } ≡ whole → g ≡ whole
+  cells_end g whole none e =
+      ap (λ is. record g { instances = is }) (sym (append-nil g.instances) ∙ ap (λ r. g.instances ++ map made r) (sym none)) ∙ e
 
 -- ---- what nets are
 pub meant_more : (ws : List Wire) (next : ℕ) (wire w : Wire) (next' : ℕ) (more whole : List Wire) → w ≡ meant_by next wire → next' ≡ next_after next wire
@@ -119,25 +136,62 @@ meant_more ws next wire w next' more whole one after e =
     ∙ (ap (λ n. ws ++ meant_by next wire ∷ meant_from n more) after ∙ e))
 
 -- ---- bits
-pub bits_push : (nets : Nets) (net : Text × Net) → bits_in (nets ++ net ∷ []) ≡ bits_in nets + width_of net.1.range
-bits_push [] net = omega arith
-bits_push (n ∷ nets) net = let rest = bits_push nets net in omega (arith, rest)
+pub bits_push : (ranges : Ranges) (range : Option (ℕ × ℕ)) → bits_in (ranges ++ range ∷ []) ≡ bits_in ranges + width_of range
+bits_push [] range = omega arith
+bits_push (r ∷ ranges) range = let rest = bits_push ranges range in omega (arith, rest)
+
+-- ---- what is counted of the nets without a connection
+pub path_free : (p q : Text) (nets : Nets) (ws : List Wire) → ranges_of (own_nets p nets ws) ≡ ranges_of (own_nets q nets ws)
+path_free p q [] ws = refl
+path_free p q (net ∷ nets) [] = refl
+path_free p q (net ∷ nets) (wires.Open ∷ ws) = ap (λ t. net.1.range ∷ t) (path_free p q nets ws)
+path_free p q (net ∷ nets) (wires.Constant ∷ ws) = path_free p q nets ws
+path_free p q (net ∷ nets) (wires.Bit decl bit ∷ ws) = path_free p q nets ws
+path_free p q (net ∷ nets) (wires.Whole decl ∷ ws) = path_free p q nets ws
+
+pub ranges_added : (nets more : Nets) → ranges_of (nets ++ more) ≡ ranges_of nets ++ ranges_of more
+ranges_added nets more = map_append (λ net. net.1.range) nets more
+
+-- each net of the top is one of its own
+pub top_ranges : (nets : Nets) → ranges_of (own_nets [] nets (replicate (length nets) wires.Open)) ≡ ranges_of nets
+top_ranges [] = refl
+top_ranges (net ∷ nets) = ap (λ t. net.1.range ∷ t) (top_ranges nets)
+
+module _ (nets : Nets) (ws : List Wire) (k : ℕ) (initial g : Counts) where
+  pub count_more : (new : Counts) (o : Option (Text × Net)) (w : Option Wire) → o ≡ slice_get nets k → w ≡ slice_get ws k
+      → new ≡ record g { ranges = g.ranges ++ ranges_of (own_at [] o w) }
+      → g ≡ record initial { ranges = initial.ranges ++ ranges_of (own_nets [] (take k nets) (take k ws)) }
+      → new ≡ record initial { ranges = initial.ranges ++ ranges_of (own_nets [] (take (k + 1) nets) (take (k + 1) ws)) }
+  count_more new o w at is more e =
+      let old : Ranges = ranges_of (own_nets [] (take k nets) (take k ws)) in
+      let one : Ranges = ranges_of (own_at [] (slice_get nets k) (slice_get ws k)) in
+      let whole : old ++ one ≡ ranges_of (own_nets [] (take (k + 1) nets) (take (k + 1) ws)) =
+      sym (ap ranges_of (own_more [] nets ws k) ∙ ranges_added (own_nets [] (take k nets) (take k ws)) (own_at [] (slice_get nets k) (slice_get ws k))) in
+      more ∙ (ap (λ (c : Counts). record c { ranges = c.ranges ++ ranges_of (own_at [] o w) }) e
+      ∙ (ap (λ p. record initial { ranges = (initial.ranges ++ old) ++ ranges_of (own_at [] p w) }) at
+      ∙ (ap (λ p. record initial { ranges = (initial.ranges ++ old) ++ ranges_of (own_at [] (slice_get nets k) p) }) is
+      ∙ ap (λ r. record initial { ranges = r }) (append_assoc initial.ranges old one ∙ ap (λ r. initial.ranges ++ r) whole))))
+
+  pub count_all : length nets ≤ k → g ≡ record initial { ranges = initial.ranges ++ ranges_of (own_nets [] (take k nets) (take k ws)) }
+      → g ≡ record initial { ranges = initial.ranges ++ ranges_of (own_nets [] nets ws) }
+  count_all h e = e ∙ ap (λ n. record initial { ranges = initial.ranges ++ ranges_of n }) (own_all [] nets ws k h)
 
 -- ---- an instance of a module is entered
-module _ (flat met : Flat) (s : Scope) (i : Instance) (m : Netlist) (table : List (Text × Wire)) (ws : List Wire) (path : Text)
-    (of : IsTableOf i.pins table) (connected : ws ≡ map (wire_of flat.nets s.nets s.meant table) m.nets) (way : path ≡ prefix_below s.prefix i.name)
-    (one : met ≡ record flat { entered = flat.entered + 1 }) where
-  wires_are : ws ≡ wires_below flat.nets s i m
-  wires_are = connected ∙ wires_same flat.nets s.nets s.meant i.pins table of m.nets
+pub wires_are : (flat : Ranges) (s : Scope) (i : Instance) (m : Netlist) (table : List (Text × Wire)) (ws : List Wire) → IsTableOf i.pins table
+    → ws ≡ map (wire_of flat s.nets s.meant table) m.nets → ws ≡ wires_below flat s i m
+wires_are flat s i m table ws of connected = connected ∙ wires_same flat s.nets s.meant i.pins table of m.nets
 
+pub scope_is : (flat : Ranges) (s : Scope) (i : Instance) (m : Netlist) (ws meant : List Wire) → ws ≡ wires_below flat s i m
+    → meant ≡ meant_from (length flat) ws → record { prefix = prefix_below s.prefix i.name; nets = m.nets; meant = meant } ≡ scope_below flat s i m
+scope_is flat s i m ws meant connected made =
+    ap (λ w. record { prefix = prefix_below s.prefix i.name; nets = m.nets; meant = w }) (made ∙ ap (meant_from (length flat)) connected)
+
+module _ (flat met : Flat) (s : Scope) (i : Instance) (m : Netlist) (ws : List Wire) (path : Text)
+    (connected : ws ≡ wires_below (ranges_of flat.nets) s i m) (way : path ≡ prefix_below s.prefix i.name)
+    (one : met ≡ record flat { entered = flat.entered + 1 }) where
   pub entered_is : (new : Flat) → new ≡ record met { nets = met.nets ++ own_nets path m.nets ws } → new ≡ entered_below flat s i m
   entered_is new added =
       added
       ∙ (ap (λ (f : Flat). record f { nets = f.nets ++ own_nets path m.nets ws }) one
       ∙ (ap (λ p. record flat { nets = flat.nets ++ own_nets p m.nets ws; entered = flat.entered + 1 }) way
-      ∙ ap (λ w. record flat { nets = flat.nets ++ own_nets (prefix_below s.prefix i.name) m.nets w; entered = flat.entered + 1 }) wires_are))
-
-  pub scope_is : (meant : List Wire) → meant ≡ meant_from (length flat.nets) ws
-      → record { prefix = prefix_below s.prefix i.name; nets = m.nets; meant = meant } ≡ scope_below flat.nets s i m
-  scope_is meant made =
-      ap (λ w. record { prefix = prefix_below s.prefix i.name; nets = m.nets; meant = w }) (made ∙ ap (meant_from (length flat.nets)) wires_are)
+      ∙ ap (λ w. record flat { nets = flat.nets ++ own_nets (prefix_below s.prefix i.name) m.nets w; entered = flat.entered + 1 }) connected))

@@ -8,4 +8,6 @@ pub mod BelowLaws
 pub mod GrowingLaws
 pub mod NamesLaws
 pub mod WalkLaws
+pub mod RunLaws
+pub mod CountingLaws
 pub mod MeaningLaws

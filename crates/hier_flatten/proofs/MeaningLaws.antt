@@ -4,12 +4,11 @@ use Rattle.std.specs.List.{AllByRecursion, slice_get, filter}
 use Rattle.xt_model.specs.declared.fault.LimitKind.{LimitKind}
 use Rattle.xt_model.specs.declared.code.Code.TheVariants.{V7, V8, V9}
 use Rattle.verilog_net.specs.declared.netlist.Netlist.{Netlist}
-use Rattle.hier_flatten.specs.declared.fault.FlatFault.{FlatFault}
 use Rattle.hier_flatten.specs.declared.fault.FlatFault.TheVariants as faults
 use Rattle.hier_flatten.specs.Hierarchy.{HasHierarchy, IsFinite, SomeContainsItself, is_instanced, tops, only, top_of}
 use Rattle.hier_flatten.specs.Fits.{misfit}
 use Rattle.hier_flatten.specs.Flat.{Flat, built}
-use Rattle.hier_flatten.specs.Walk.{Builds, Fails}
+use Rattle.hier_flatten.specs.Walk.{Builds}
 use Rattle.hier_flatten.specs.Meaning.{Outcome, TopMeans, HierarchyMeans, circular, finite, unless_misfit, named, within_limits, FlatMeans, AnswersFlat}
 use Rattle.hier_flatten.proofs.FiniteLaws.{one_hierarchy, no_circle}
 
@@ -62,10 +61,8 @@ module _ (modules : List Netlist) (last : ℕ) where
       top_has (λ m. HasHierarchy modules m.instances) modules top (each_by (λ m. HasHierarchy modules m.instances) modules (λ n m there. ends n m there)) one
 
   module _ (top : Netlist) (e : misfit modules ≡ None) (ends : (number : ℕ) → IsFinite modules number) (one : top_of modules ≡ Some top) where
-    pub fails_mean : (fault : FlatFault) → Fails modules top (built top) fault → AnswersFlat (Err fault) (FlatMeans modules last)
-    fails_mean faults.NoMemory h = tt
-    fails_mean (faults.Limit what) h = built_means top (Err what) (Err (faults.Limit what)) e ends one h refl
-    fails_mean (faults.Refused line code) h = absurd h
+    pub limit_means : (what : LimitKind) → Builds modules top (built top) (Err what) → FlatMeans modules last (Err (faults.Limit what))
+    limit_means what h = built_means top (Err what) (Err (faults.Limit what)) e ends one h refl
 
     pub names_mean : (flat : Flat) (r : Outcome) → Builds modules top (built top) (Ok flat) → AnswersFlat r (λ o. o ≡ named last top flat)
         → AnswersFlat r (FlatMeans modules last)

@@ -4,7 +4,7 @@ use Rattle.std.specs.List.{list_any, slice_get, position_or_len}
 use Rattle.std.specs.Prelude.{position}
 use Rattle.std.specs.Str.{bytes_eq}
 use Rattle.std.proofs.lemmas.Bool.{false≢true, lt-ltb}
-use Rattle.std.proofs.lemmas.List.{append_assoc, length-map, map-append}
+use Rattle.std.proofs.lemmas.List.{append_assoc, length-map, length_push, map-append}
 use Rattle.std.proofs.lemmas.List.Folds.{list_any-append, list_any_at}
 use Rattle.std.proofs.lemmas.List.Quantifiers.{position-Some}
 use Rattle.std.proofs.lemmas.Slice.Eq.{bytes_eq-Decides}
@@ -134,6 +134,33 @@ module _ {V : Type 0} where
           → (if b then (e.0, v) ∷ more else e ∷ with_value name v more) ≡ e ∷ (more ++ (name, v) ∷ [])
       by true later h = absurd (false≢true (sym h))
       by false later h = ap (λ t. e ∷ t) (later h)
+
+  -- a name that is there is not a further one
+  kept_length : (name : Text) (v : V) (named : List (Text × V)) → has_name name (map (λ e. e.0) named) ≡ true → length (with_value name v named) ≡ length named
+  kept_length name v [] h = absurd (false≢true h)
+  kept_length name v (e ∷ more) h = by (bytes_eq name e.0) (kept_length name v more) h
+    where
+      by : (b : Bool) → (has_name name (map (λ e. e.0) more) ≡ true → length (with_value name v more) ≡ length more)
+          → (b || has_name name (map (λ e. e.0) more)) ≡ true → length (if b then (e.0, v) ∷ more else e ∷ with_value name v more) ≡ suc (length more)
+      by true later h = refl
+      by false later h = ap suc (later h)
+
+  module _ (name : Text) (v : V) (named new : List (Text × V)) (given : new ≡ with_value name v named) where
+    pub was_there : length new ≡ length named → has_name name (map (λ e. e.0) named) ≡ true
+    was_there same = by (has_name name (map (λ e. e.0) named)) refl
+      where
+        by : (b : Bool) → has_name name (map (λ e. e.0) named) ≡ b → has_name name (map (λ e. e.0) named) ≡ true
+        by true e = e
+        by false e =
+            let longer : length new ≡ length named + 1 = ap length (given ∙ push_new name v named e) ∙ length_push named (name, v) in
+            absurd (omega (arith, longer, same))
+
+    pub was_new : (length new ≡ length named → ⊥) → has_name name (map (λ e. e.0) named) ≡ false
+    was_new differ = by (has_name name (map (λ e. e.0) named)) refl
+      where
+        by : (b : Bool) → has_name name (map (λ e. e.0) named) ≡ b → has_name name (map (λ e. e.0) named) ≡ false
+        by true e = absurd (differ (ap length given ∙ kept_length name v named e))
+        by false e = e
 
   pub is_found : {A : Type 0} (x : Option A) (f : A → ℕ × V) (name : Text) (named : List (Text × V)) (b : Bool) → option_map f x ≡ found name named
       → b ≡ is_some x → has_name name (map (λ e. e.0) named) ≡ b

@@ -1,7 +1,7 @@
 -- One turn of the walk through the hierarchy.
-use Rattle.std.proofs.Common.{◌≡◌, refl, ℕ, zero, suc, ◌+◌, ◌-◌, ◌*◌, ◌<◌, ◌≤◌, List, [], ◌∷◌, ◌++◌, length, take, get_or, Option, Some, None, Result, Ok, Err, sym, ap, ◌∙◌, subst, arith}
-use Rattle.std.proofs.lemmas.List.{take_all, take_at, length-append, length_push}
-use Rattle.std.proofs.Math.Nat.{suc-mul, mul-le-mul_right}
+use Rattle.std.proofs.Common.{◌≡◌, refl, ℕ, zero, suc, ◌+◌, ◌*◌, ◌<◌, ◌≤◌, List, [], ◌∷◌, ◌++◌, length, take, get_or, Option, Some, None, Result, Ok, Err, sym, ap, ◌∙◌, subst, arith}
+use Rattle.std.proofs.lemmas.List.{take_all, take_at, length-append}
+use Rattle.std.proofs.Math.Nat.{suc-mul}
 use Rattle.std.specs.List.{slice_get}
 use Rattle.name_numbers.specs.Names.{Text}
 use Rattle.xt_model.specs.Limits.{most_instances}
@@ -11,14 +11,13 @@ use Rattle.xt_model.specs.declared.fault.LimitKind.{LimitKind}
 use Rattle.verilog_net.specs.declared.netlist.Instance.{Instance}
 use Rattle.verilog_net.specs.declared.netlist.Netlist.{Netlist}
 use Rattle.hier_flatten.specs.declared.below.Frame.{Frame}
-use Rattle.hier_flatten.specs.declared.fault.FlatFault.{FlatFault}
-use Rattle.hier_flatten.specs.declared.fault.FlatFault.TheVariants as faults
 use Rattle.hier_flatten.specs.Hierarchy.{Hierarchy, ends, cell, inner, IsHierarchy, HasHierarchy, module_number, module_of}
 use Rattle.hier_flatten.specs.Search.{most_in}
-use Rattle.hier_flatten.specs.Flat.{Scope, Flat, flat_below, flat_instance, prefix_below, scope_below, entered_below, limit_of, unless_passed, top_scope, at_top, built}
-use Rattle.hier_flatten.specs.Walk.{scope_of, IsEntered, AreNested, AreHierarchies, rest_flat, Comes, Passes, room_in, work, Builds, Fails}
+use Rattle.hier_flatten.specs.Flat.{Scope, Flat, ranges_of, Counts, counts_of, flat_below, prefix_below, scope_below, entered_below, limit_of, unless_passed, top_scope, at_top, built}
+use Rattle.hier_flatten.specs.Walk.{scope_of, IsEntered, AreNested, AreHierarchies, rest_flat, Comes, Passes, Ends, room_in, work, Builds, Decides}
 use Rattle.hier_flatten.proofs.SliceLaws.{rest_of, first_and_rest}
 use Rattle.hier_flatten.proofs.SearchLaws.{most_at}
+use Rattle.hier_flatten.proofs.FiniteLaws.{one_hierarchy}
 use Rattle.hier_flatten.proofs.GrowingLaws.{within}
 
 abbrev Built : Type 0
@@ -44,12 +43,12 @@ module _ (modules : List Netlist) where
   none_below (cell j more) t = absurd t
   none_below (inner j m below more) t = absurd t
 
-  record IsCell (i : Instance) (is : List Instance) (h : Hierarchy) : Type 0 where
-    more : Hierarchy
-    whole : h ≡ cell i more
-    rest : IsHierarchy modules is more
+  pub record IsCell (i : Instance) (is : List Instance) (h : Hierarchy) : Type 0 where
+    pub more : Hierarchy
+    pub whole : h ≡ cell i more
+    pub rest : IsHierarchy modules is more
 
-  cell_is : (i : Instance) (is : List Instance) (h : Hierarchy) → module_of modules i.cell ≡ None → IsHierarchy modules (i ∷ is) h → IsCell i is h
+  pub cell_is : (i : Instance) (is : List Instance) (h : Hierarchy) → module_of modules i.cell ≡ None → IsHierarchy modules (i ∷ is) h → IsCell i is h
   cell_is i is ends none t = absurd t
   cell_is i is (cell j more) none t = record { more = more; whole = ap (λ k. cell k more) (sym t.0); rest = t.2 }
   cell_is i is (inner j m below more) none t = absurd (cc (sym none ∙ t.1))
@@ -114,28 +113,9 @@ module _ (modules : List Netlist) (f : Frame) (fs : List Frame) (path : Text) (f
           let is : h ≡ ends = none_below modules h (subst (λ t. IsHierarchy modules t h) none a.0) in
           (hs, a.1, ap (λ k. flat_below k (scope_of path f) flat >>= rest_flat hs fs path) is)
 
-  -- an instance of a cell
-  pub celled : (g : Frame) (i c : Instance) → f.rest.now ≡ i ∷ g.rest.now → module_of modules i.cell ≡ None
-      → scope_of path g ≡ scope_of path f → c ≡ flat_instance flat.nets (scope_of path f) i
-      → Comes modules (f ∷ fs) path flat (g ∷ fs) path (record flat { instances = flat.instances ++ c ∷ [] })
-  celled g i c rest none scope made = record { each = turn }
-    where
-      turn : (hs : List Hierarchy) → AreHierarchies modules (f ∷ fs) hs
-          → (hs' : List Hierarchy) × AreHierarchies modules (g ∷ fs) hs'
-          × (rest_flat hs (f ∷ fs) path flat ≡ rest_flat hs' (g ∷ fs) path (record flat { instances = flat.instances ++ c ∷ [] }))
-      turn [] a = absurd a
-      turn (h ∷ hs) a =
-          let is = cell_is modules i g.rest.now h none (subst (λ t. IsHierarchy modules t h) rest a.0) in (
-            is.more ∷ hs,
-            (is.rest, a.1),
-            ap (λ k. flat_below k (scope_of path f) flat >>= rest_flat hs fs path) is.whole
-                ∙ (ap (λ d. flat_below is.more (scope_of path f) (record flat { instances = flat.instances ++ d ∷ [] }) >>= rest_flat hs fs path) (sym made)
-                ∙ ap (λ s. flat_below is.more s (record flat { instances = flat.instances ++ c ∷ [] }) >>= rest_flat hs fs path) (sym scope)),
-          )
-
   module _ (g b : Frame) (i : Instance) (m : Netlist) (rest : f.rest.now ≡ i ∷ g.rest.now) (e : module_of modules i.cell ≡ Some m)
-      (same : g.path ≡ f.path) (nets : g.nets.now ≡ f.nets.now) (meant : g.meant.items ≡ f.meant.items) (limit : limit_of flat ≡ None)
-      (len : length path ≡ f.path) (nested : AreNested f.path fs) (made : IsEntered flat.nets (scope_of path f) i m b) where
+      (same : g.path ≡ f.path) (nets : g.nets.now ≡ f.nets.now) (meant : g.meant.items ≡ f.meant.items) (limit : limit_of (counts_of flat) ≡ None)
+      (len : length path ≡ f.path) (nested : AreNested f.path fs) (made : IsEntered (ranges_of flat.nets) (scope_of path f) i m b) where
     abbrev s : Scope
     s = scope_of path f
 
@@ -148,7 +128,7 @@ module _ (modules : List Netlist) (f : Frame) (fs : List Frame) (path : Text) (f
     back_path : take f.path below_path ≡ take f.path path
     back_path = take_at path (i.name ++ 47 ∷ []) f.path len ∙ sym (whole_path path f.path len)
 
-    inside_scope : scope_of below_path b ≡ scope_below flat.nets s i m
+    inside_scope : scope_of below_path b ≡ scope_below (ranges_of flat.nets) s i m
     inside_scope =
         let n : length below_path ≡ b.path = ap (λ p. length (prefix_below p i.name)) (sym prefix_is) ∙ sym made.path in
         ap (λ p. record { prefix = p; nets = b.nets.now; meant = b.meant.items })
@@ -172,7 +152,7 @@ module _ (modules : List Netlist) (f : Frame) (fs : List Frame) (path : Text) (f
         turn [] a = absurd a
         turn (h ∷ hs) a =
             let inside = inner_is modules i m g.rest.now h e (subst (λ t. IsHierarchy modules t h) rest a.0) in
-            let at = flat_below inside.below (scope_below flat.nets s i m) (entered_below flat s i m) in (
+            let at = flat_below inside.below (scope_below (ranges_of flat.nets) s i m) (entered_below flat s i m) in (
               inside.below ∷ inside.more ∷ hs,
               (subst (λ t. IsHierarchy modules t inside.below) (sym made.rest) inside.inside, (inside.rest, a.1)),
               ap (λ k. flat_below k s flat >>= rest_flat hs fs path) inside.whole
@@ -198,33 +178,22 @@ taken hs f fs path flat nested =
     same_path f.path path (take f.path path) hs (f ∷ fs) flat (sym (take_short f.path f.path path (omega arith))) (omega arith, nested)
 
 -- ---- how much is left
-module _ (modules : List Netlist) (flat : Flat) (f : Frame) (fs : List Frame) where
-  pub less_ended : work modules flat fs < work modules flat (f ∷ fs)
+module _ (modules : List Netlist) (counts : Counts) (f : Frame) (fs : List Frame) where
+  pub less_ended : work modules counts fs < work modules counts (f ∷ fs)
   unfolding work
   less_ended = omega arith
-
-  pub less_celled : (g : Frame) (i c : Instance) → f.rest.now ≡ i ∷ g.rest.now
-      → work modules (record flat { instances = flat.instances ++ c ∷ [] }) (g ∷ fs) < work modules flat (f ∷ fs)
-  unfolding work
-  less_celled g i c rest =
-      let more : length (flat.instances ++ c ∷ []) ≡ length flat.instances + 1 = length_push flat.instances c in
-      let n : length f.rest.now ≡ length g.rest.now + 1 = ap length rest ∙ omega arith in
-      let room : room_in (record flat { instances = flat.instances ++ c ∷ [] }) ≤ room_in flat = omega (arith, more) in
-      let product = mul-le-mul_right (most_in modules) room in
-      omega (arith, product, n)
 
   module_at : (name : Text) (m : Netlist) (o : Option ℕ) → options.◌>>=◌ o (slice_get modules) ≡ Some m → length m.instances + 2 ≤ most_in modules
   module_at name m None e = absurd (cc)
   module_at name m (Some k) e = most_at modules k m e
 
-  pub less_entered : (g b : Frame) (i : Instance) (m : Netlist) (nets : List _) → f.rest.now ≡ i ∷ g.rest.now → b.rest.now ≡ m.instances
-      → module_of modules i.cell ≡ Some m → length flat.instances + flat.entered + 1 ≤ most_instances
-      → work modules (record flat { nets = nets; entered = flat.entered + 1 }) (b ∷ g ∷ fs) < work modules flat (f ∷ fs)
+  pub less_entered : (g b : Frame) (i : Instance) (m : Netlist) (new : Counts) → f.rest.now ≡ i ∷ g.rest.now → b.rest.now ≡ m.instances
+      → module_of modules i.cell ≡ Some m → new.met ≡ counts.met + 1 → counts.met + 1 ≤ most_instances
+      → work modules new (b ∷ g ∷ fs) < work modules counts (f ∷ fs)
   unfolding work
-  less_entered g b i m nets rest inside e limit =
-      let flat' : Flat = record flat { nets = nets; entered = flat.entered + 1 } in
-      let room : room_in flat ≡ suc (room_in flat') = omega (arith, limit) in
-      let product : room_in flat * most_in modules ≡ room_in flat' * most_in modules + most_in modules = ap (λ n. n * most_in modules) room ∙ suc-mul (room_in flat') (most_in modules) in
+  less_entered g b i m new rest inside e more limit =
+      let room : room_in counts ≡ suc (room_in new) = omega (arith, limit, more) in
+      let product : room_in counts * most_in modules ≡ room_in new * most_in modules + most_in modules = ap (λ n. n * most_in modules) room ∙ suc-mul (room_in new) (most_in modules) in
       let most = module_at i.cell m (module_number modules i.cell) e in
       let n : length f.rest.now ≡ length g.rest.now + 1 = ap length rest ∙ omega arith in
       let k : length b.rest.now ≡ length m.instances = ap length inside in
@@ -242,11 +211,9 @@ carried modules top f fs new path path' flat flat' nested (hs, a, (h, is, e)) co
     let t = comes.each hs a in
     (t.0, t.1, (h, is, e ∙ (taken hs f fs path flat nested ∙ t.2)))
 
-pub failed : (modules : List Netlist) (top : Netlist) (f : Frame) (fs : List Frame) (path : Text) (flat : Flat) (fault : FlatFault) → AreNested f.path fs
-    → Walks modules top (f ∷ fs) path flat → Passes modules (f ∷ fs) (take f.path path) flat fault → Fails modules top (built top) fault
-failed modules top f fs path flat faults.NoMemory nested w beyond = tt
-failed modules top f fs path flat (faults.Limit what) nested (hs, a, (h, is, e)) beyond = (h, is, e ∙ (taken hs f fs path flat nested ∙ beyond hs a))
-failed modules top f fs path flat (faults.Refused line code) nested w beyond = absurd beyond
+pub failed : (modules : List Netlist) (top : Netlist) (f : Frame) (fs : List Frame) (path : Text) (flat : Flat) (what : LimitKind) → AreNested f.path fs
+    → Walks modules top (f ∷ fs) path flat → Passes modules (f ∷ fs) (take f.path path) flat what → Builds modules top (built top) (Err what)
+failed modules top f fs path flat what nested (hs, a, (h, is, e)) beyond = (h, is, e ∙ (taken hs f fs path flat nested ∙ beyond hs a))
 
 pub walked : (modules : List Netlist) (top : Netlist) (path : Text) (flat : Flat) → Walks modules top [] path flat → Builds modules top (built top) (Ok flat)
 walked modules top path flat ([], a, b) = b
@@ -268,33 +235,18 @@ module _ (modules : List Netlist) (f : Frame) (fs : List Frame) (path : Text) (f
   first : f.rest.now ≡ i ∷ g.rest.now
   first = first_and_rest f.rest.now d i some is ∙ ap (λ r. i ∷ r) (sym rest)
 
-  same_scope : scope_of path g ≡ scope_of path f
-  same_scope =
-      ap (λ n. record { prefix = take n path; nets = g.nets.now; meant = g.meant.items }) same
-      ∙ (ap (λ n. record { prefix = take f.path path; nets = n; meant = g.meant.items }) nets
-      ∙ ap (λ w. record { prefix = take f.path path; nets = f.nets.now; meant = w }) meant)
-
-  pub cell_turn : (c : Instance) (new : List Frame) (path' : Text) (flat' : Flat) → module_of modules i.cell ≡ None
-      → c ≡ flat_instance flat.nets (scope_of path f) i → new ≡ g ∷ fs → path' ≡ path → flat' ≡ record flat { instances = flat.instances ++ c ∷ [] }
-      → Comes modules (f ∷ fs) path flat new path' flat' × (work modules flat' new < work modules flat (f ∷ fs))
-  cell_turn c new path' flat' none made pushed kept grown =
-      let end : Flat = record flat { instances = flat.instances ++ c ∷ [] } in
-      let comes : Comes modules (f ∷ fs) path flat (g ∷ fs) path end = celled modules f fs path flat g i c first none same_scope made in
-      let less : work modules end (g ∷ fs) < work modules flat (f ∷ fs) = less_celled modules flat f fs g i c first in
-      rw (pushed, kept, grown) (comes, less)
-
-  pub enter_turn : (b : Frame) (m : Netlist) (one new : List Frame) (path' : Text) (flat' : Flat) → module_of modules i.cell ≡ Some m → limit_of flat ≡ None
-      → length path ≡ f.path → AreNested f.path fs → IsEntered flat.nets (scope_of path f) i m b → one ≡ g ∷ fs → new ≡ b ∷ one
+  pub enter_turn : (b : Frame) (m : Netlist) (one new : List Frame) (path' : Text) (flat' : Flat) → module_of modules i.cell ≡ Some m → limit_of (counts_of flat) ≡ None
+      → length path ≡ f.path → AreNested f.path fs → IsEntered (ranges_of flat.nets) (scope_of path f) i m b → one ≡ g ∷ fs → new ≡ b ∷ one
       → path' ≡ prefix_below path i.name → flat' ≡ entered_below flat (scope_of path f) i m
-      → Comes modules (f ∷ fs) path flat new path' flat' × AreNested (length path') new × (work modules flat' new < work modules flat (f ∷ fs))
+      → Comes modules (f ∷ fs) path flat new path' flat' × AreNested (length path') new × (work modules (counts_of flat') new < work modules (counts_of flat) (f ∷ fs))
   enter_turn b m one new path' flat' e limit len nested made pushed then_pushed way grown =
       let end : Flat = entered_below flat (scope_of path f) i m in
       let comes : Comes modules (f ∷ fs) path flat (b ∷ g ∷ fs) (prefix_below path i.name) end =
       entered modules f fs path flat g b i m first e same nets meant limit len nested made in
       let order : AreNested (length (prefix_below path i.name)) (b ∷ g ∷ fs) =
       entered_nested modules f fs path flat g b i m first e same nets meant limit len nested made in
-      let less : work modules end (b ∷ g ∷ fs) < work modules flat (f ∷ fs) =
-      less_entered modules flat f fs g b i m end.nets first made.rest e (within flat limit) in
+      let less : work modules (counts_of end) (b ∷ g ∷ fs) < work modules (counts_of flat) (f ∷ fs) =
+      less_entered modules (counts_of flat) f fs g b i m (counts_of end) first made.rest e (omega arith) (within (counts_of flat) limit) in
       let all : new ≡ b ∷ g ∷ fs = then_pushed ∙ ap (λ t. b ∷ t) pushed in
       rw (all, way, grown) (comes, order, less)
 
@@ -316,10 +268,55 @@ walk_carried modules top f stack fs new path cut path' flat flat' popped shorter
     carried modules top f fs new path path' flat flat' order.1 (subst (λ s. Walks modules top s path flat) popped walks)
     (subst (λ p. Comes modules (f ∷ fs) p flat new path' flat') shorter comes)
 
-pub walk_failed : (modules : List Netlist) (top : Netlist) (f : Frame) (stack fs : List Frame) (path cut : Text) (flat : Flat) (fault : FlatFault)
+pub walk_failed : (modules : List Netlist) (top : Netlist) (f : Frame) (stack fs : List Frame) (path cut : Text) (flat : Flat) (what : LimitKind)
     → stack ≡ f ∷ fs → cut ≡ take f.path path → AreNested (length path) stack → Walks modules top stack path flat
-    → Passes modules (f ∷ fs) cut flat fault → Fails modules top (built top) fault
-walk_failed modules top f stack fs path cut flat fault popped shorter nested walks beyond =
+    → Passes modules (f ∷ fs) cut flat what → Builds modules top (built top) (Err what)
+walk_failed modules top f stack fs path cut flat what popped shorter nested walks beyond =
     let order : AreNested (length path) (f ∷ fs) = subst (AreNested (length path)) popped nested in
-    failed modules top f fs path flat fault order.1 (subst (λ s. Walks modules top s path flat) popped walks)
-    (subst (λ p. Passes modules (f ∷ fs) p flat fault) shorter beyond)
+    failed modules top f fs path flat what order.1 (subst (λ s. Walks modules top s path flat) popped walks)
+    (subst (λ p. Passes modules (f ∷ fs) p flat what) shorter beyond)
+
+-- ---- a top that passes no limit
+pub walk_ends : (modules : List Netlist) (top : Netlist) (f : Frame) (stack fs : List Frame) (path cut : Text) (flat : Flat)
+    → stack ≡ f ∷ fs → cut ≡ take f.path path → AreNested (length path) stack → Walks modules top stack path flat
+    → Decides modules top (built top) None → Ends modules (f ∷ fs) cut flat
+walk_ends modules top f stack fs path cut flat popped shorter nested walks (whole, (k, also, comes)) =
+    let order : AreNested (length path) (f ∷ fs) = subst (AreNested (length path)) popped nested in
+    let w : Walks modules top (f ∷ fs) path flat = subst (λ s. Walks modules top s path flat) popped walks in
+    let same : built top w.2.0 ≡ built top k = ap (built top) (one_hierarchy modules top.instances w.2.0 k w.2.1 also) in
+    record {
+      hs = w.0;
+      below = w.1;
+      whole = whole;
+      comes = ap (λ p. rest_flat w.0 (f ∷ fs) p flat) shorter ∙ (sym (taken w.0 f fs path flat order.1) ∙ (sym w.2.2 ∙ (same ∙ comes)));
+    }
+
+-- where the limits are passed no more, an instance of a module passes none
+module _ (modules : List Netlist) (f : Frame) (fs : List Frame) (path : Text) (flat : Flat) (i : Instance) (m : Netlist) (is : List Instance)
+    (rest : f.rest.now ≡ i ∷ is) (e : module_of modules i.cell ≡ Some m) where
+  passes_none : (o : Option LimitKind) (r : Built) (k l : Flat → Built) (whole : Flat) → ((unless_passed o r >>= k) >>= l) ≡ Ok whole → o ≡ None
+  passes_none None r k l whole e = refl
+  passes_none (Some what) r k l whole e = absurd (cc)
+
+  no_limit_by : (hs : List Hierarchy) → AreHierarchies modules (f ∷ fs) hs → (whole : Flat) → rest_flat hs (f ∷ fs) path flat ≡ Ok whole
+      → limit_of (counts_of flat) ≡ None
+  no_limit_by [] a whole comes = absurd a
+  no_limit_by (h ∷ hs) a whole comes =
+      let inside = inner_is modules i m is h e (subst (λ t. IsHierarchy modules t h) rest a.0) in
+      let s = scope_of path f in
+      passes_none (limit_of (counts_of flat)) (flat_below inside.below (scope_below (ranges_of flat.nets) s i m) (entered_below flat s i m))
+      (flat_below inside.more s) (rest_flat hs fs path) whole
+      (sym (ap (λ k. flat_below k s flat >>= rest_flat hs fs path) inside.whole) ∙ comes)
+
+  pub no_limit : Ends modules (f ∷ fs) path flat → limit_of (counts_of flat) ≡ None
+  no_limit e = no_limit_by e.hs e.below e.whole e.comes
+
+  -- and where it passes one, so does all that is left
+  pub passes : (what : LimitKind) → limit_of (counts_of flat) ≡ Some what → Passes modules (f ∷ fs) path flat what
+  passes what limit [] a = absurd a
+  passes what limit (h ∷ hs) a =
+      let inside = inner_is modules i m is h e (subst (λ t. IsHierarchy modules t h) rest a.0) in
+      let s = scope_of path f in
+      let at = flat_below inside.below (scope_below (ranges_of flat.nets) s i m) (entered_below flat s i m) in
+      ap (λ k. flat_below k s flat >>= rest_flat hs fs path) inside.whole
+      ∙ ap (λ l. (unless_passed l at >>= flat_below inside.more s) >>= rest_flat hs fs path) limit

@@ -32,6 +32,20 @@ pub record Flat : Type 0 where
   pub instances : List Instance
   pub entered : ℕ
 
+abbrev pub Ranges : Type 0
+Ranges = List (Option (ℕ × ℕ))
+
+abbrev pub ranges_of : Nets → Ranges
+ranges_of nets = map (λ net. net.1.range) nets
+
+-- the range of a flat net by its number
+abbrev pub range_or_none : Option (Option (ℕ × ℕ)) → Option (ℕ × ℕ)
+range_or_none None = None
+range_or_none (Some range) = range
+
+abbrev pub range_of : ℕ → Ranges → Option (ℕ × ℕ)
+range_of net flat = range_or_none (slice_get flat net)
+
 -- ---- connections
 
 abbrev pub or_open : Option Wire → Wire
@@ -43,24 +57,24 @@ abbrev pub bit_of : ℕ → Option ℕ → Wire
 bit_of net None = wires.Open
 bit_of net (Some bit) = wires.Bit net bit
 
--- the bit at a place of what a net is in the flat netlist
-abbrev pub bit_within : Nets → ℕ → Wire → Wire
-bit_within flat place (wires.Whole net) = bit_of net (bit_at (range_at net flat) place)
+-- the bit at a place of what a net is in the flat netlist, whose nets have these ranges
+abbrev pub bit_within : Ranges → ℕ → Wire → Wire
+bit_within flat place (wires.Whole net) = bit_of net (bit_at (range_of net flat) place)
 bit_within flat place wire = wire
 
 -- what something is connected to in the flat netlist, by what it is connected to in a module with these nets
-abbrev pub flat_wire : Nets → Nets → List Wire → Wire → Wire
+abbrev pub flat_wire : Ranges → Nets → List Wire → Wire → Wire
 flat_wire flat nets meant wires.Open = wires.Open
 flat_wire flat nets meant wires.Constant = wires.Constant
 flat_wire flat nets meant (wires.Bit decl bit) =
     bit_within flat (place_in (range_at decl nets) bit) (or_open (slice_get meant decl))
 flat_wire flat nets meant (wires.Whole decl) = or_open (slice_get meant decl)
 
-abbrev pub flat_pins : Nets → Nets → List Wire → List (Text × Wire) → List (Text × Wire)
+abbrev pub flat_pins : Ranges → Nets → List Wire → List (Text × Wire) → List (Text × Wire)
 flat_pins flat nets meant pins = map (λ p. (p.0, flat_wire flat nets meant p.1)) pins
 
 -- an instance of a cell
-abbrev pub flat_instance : Nets → Scope → Instance → Instance
+abbrev pub flat_instance : Ranges → Scope → Instance → Instance
 flat_instance flat s i = record {
   cell = i.cell;
   name = s.prefix ++ i.name;
@@ -71,7 +85,7 @@ flat_instance flat s i = record {
 -- ---- an instance of a module
 
 -- what a net of the module is connected to outside, by the pins of the instance
-abbrev pub wire_of : Nets → Nets → List Wire → List (Text × Wire) → Text × Net → Wire
+abbrev pub wire_of : Ranges → Nets → List Wire → List (Text × Wire) → Text × Net → Wire
 wire_of flat nets meant pins net =
     if is_directed net.1.role then flat_wire flat nets meant (or_open (value_of net.0 pins)) else wires.Open
 
@@ -104,11 +118,11 @@ abbrev pub prefix_below : Text → Text → Text
 prefix_below prefix name = prefix ++ (name ++ 47 ∷ [])
 
 -- what the nets of the instance's module are connected to outside
-abbrev pub wires_below : Nets → Scope → Instance → Netlist → List Wire
+abbrev pub wires_below : Ranges → Scope → Instance → Netlist → List Wire
 wires_below flat s i m = map (wire_of flat s.nets s.meant i.pins) m.nets
 
 -- the module at this instance
-abbrev pub scope_below : Nets → Scope → Instance → Netlist → Scope
+abbrev pub scope_below : Ranges → Scope → Instance → Netlist → Scope
 scope_below flat s i m = record {
   prefix = prefix_below s.prefix i.name;
   nets = m.nets;
@@ -118,22 +132,30 @@ scope_below flat s i m = record {
 -- its own nets go last
 abbrev pub entered_below : Flat → Scope → Instance → Netlist → Flat
 entered_below flat s i m = record flat {
-  nets = flat.nets ++ own_nets (prefix_below s.prefix i.name) m.nets (wires_below flat.nets s i m);
+  nets = flat.nets ++ own_nets (prefix_below s.prefix i.name) m.nets (wires_below (ranges_of flat.nets) s i m);
   entered = flat.entered + 1;
 }
 
 -- ---- limits
 
--- how many bits the nets have
-abbrev pub bits_in : Nets → ℕ
+-- how many bits nets of these ranges have
+abbrev pub bits_in : Ranges → ℕ
 bits_in [] = 0
-bits_in (net ∷ more) = width_of net.1.range + bits_in more
+bits_in (range ∷ more) = width_of range + bits_in more
+
+-- what limits are asked of: the ranges of the flat nets, and how many instances of cells and of modules were met
+pub record Counts : Type 0 where
+  pub ranges : Ranges
+  pub met : ℕ
+
+abbrev pub counts_of : Flat → Counts
+counts_of flat = record { ranges = ranges_of flat.nets; met = length flat.instances + flat.entered }
 
 -- the limit that is passed where a further instance of a module is met: it is counted, its nets are not yet
-unfoldable pub limit_of : Flat → Option LimitKind
-limit_of flat =
-    if nat_lt most_instances (length flat.instances + flat.entered + 1) then Some limits.Instances
-    else if nat_lt most_nets (bits_in flat.nets) then Some limits.Nets
+unfoldable pub limit_of : Counts → Option LimitKind
+limit_of counts =
+    if nat_lt most_instances (counts.met + 1) then Some limits.Instances
+    else if nat_lt most_nets (bits_in counts.ranges) then Some limits.Nets
     else None
 
 -- what comes of an instance of a module, unless it passes a limit
@@ -147,9 +169,10 @@ unless_passed None more = more
 abbrev pub flat_below : Hierarchy → Scope → Flat → Result Flat LimitKind
 flat_below ends s flat = Ok flat
 flat_below (cell i more) s flat =
-    flat_below more s (record flat { instances = flat.instances ++ flat_instance flat.nets s i ∷ [] })
+    flat_below more s (record flat { instances = flat.instances ++ flat_instance (ranges_of flat.nets) s i ∷ [] })
 flat_below (inner i m below more) s flat =
-    unless_passed (limit_of flat) (flat_below below (scope_below flat.nets s i m) (entered_below flat s i m))
+    unless_passed (limit_of (counts_of flat))
+    (flat_below below (scope_below (ranges_of flat.nets) s i m) (entered_below flat s i m))
     >>= flat_below more s
 
 -- each net of the top is a net of its own
@@ -167,13 +190,12 @@ at_top top = record { nets = top.nets; instances = []; entered = 0 }
 unfoldable pub built : Netlist → Hierarchy → Result Flat LimitKind
 built top h = flat_below h (top_scope top) (at_top top)
 
--- ---- what the code counts beside the flat netlist
+-- ---- what the code counts
 
-pub record IsCounted (nets : Nets) (met count : ℕ) : Type 0 where
-  pub bits : count ≡ bits_in nets
-  pub few : length nets < 2 ^ 32
-  pub most : count ≤ length nets * 2 ^ 32
-  pub entered : met ≤ most_instances
+pub record IsCounted (ranges : Ranges) (bits : ℕ) : Type 0 where
+  pub count : bits ≡ bits_in ranges
+  pub few : length ranges < 2 ^ 32
+  pub most : bits ≤ length ranges * 2 ^ 32
 
 -- the net of a number, where it has no connection
 abbrev pub own_at : Text → Option (Text × Net) → Option Wire → Nets

@@ -20,6 +20,15 @@ module_number modules name = value_of name (numbered 0 modules)
 abbrev pub module_of : List Netlist → Text → Option Netlist
 module_of modules name = module_number modules name >>= slice_get modules
 
+abbrev pub cells_by : Option ℕ → ℕ → ℕ
+cells_by None more = suc more
+cells_by (Some number) more = 0
+
+-- how many of these instances, each of a cell, come before the first one of a module
+abbrev pub cells_before : List Netlist → List Instance → ℕ
+cells_before modules [] = 0
+cells_before modules (i ∷ is) = cells_by (module_number modules i.cell) (cells_before modules is)
+
 -- ---- what is below instances
 
 -- instances with what is below them: a cell's and those after it; a module's, what is below it, and those after it

@@ -1,5 +1,6 @@
 -- The walk through the hierarchy: modules at paths whose instances are being added, the innermost first.
-use Rattle.std.specs.Prelude.{◌≡◌, ℕ, ◌+◌, ◌-◌, ◌*◌, ◌≤◌, List, [], ◌∷◌, length, take, Result, Ok, Err}
+use Rattle.std.specs.Prelude.{◌≡◌, ℕ, ◌+◌, ◌-◌, ◌*◌, ◌<◌, ◌≤◌, ◌^◌, List, [], ◌∷◌, length, take}
+use Rattle.std.specs.Prelude.{Option, Some, None, Result, Ok, Err}
 use Rattle.name_numbers.specs.Names.{Text}
 use Rattle.xt_model.specs.Limits.{most_instances}
 use Rattle.xt_model.specs.Results.{◌>>=◌}
@@ -8,20 +9,22 @@ use Rattle.verilog_net.specs.declared.netlist.Instance.{Instance}
 use Rattle.verilog_net.specs.declared.netlist.Netlist.{Netlist}
 use Rattle.verilog_net.specs.Nets.{Nets}
 use Rattle.hier_flatten.specs.declared.below.Frame.{Frame}
-use Rattle.hier_flatten.specs.declared.fault.FlatFault.{FlatFault}
-use Rattle.hier_flatten.specs.declared.fault.FlatFault.TheVariants as faults
 use Rattle.hier_flatten.specs.Hierarchy.{Hierarchy, IsHierarchy}
 use Rattle.hier_flatten.specs.Search.{most_in}
-use Rattle.hier_flatten.specs.Flat.{Scope, Flat, flat_below, prefix_below, scope_below}
+use Rattle.hier_flatten.specs.Flat.{Scope, Flat, Ranges, ranges_of, Counts, counts_of}
+use Rattle.hier_flatten.specs.Flat.{flat_below, prefix_below, scope_below}
+
+-- the module of a frame, whose names have this before them
+abbrev pub scope_at : Text → Frame → Scope
+scope_at prefix f = record { prefix = prefix; nets = f.nets.now; meant = f.meant.items }
 
 -- the module of a frame at its path
 abbrev pub scope_of : Text → Frame → Scope
-scope_of path f = record { prefix = take f.path path; nets = f.nets.now; meant = f.meant.items }
+scope_of path f = scope_at (take f.path path) f
 
 -- the frame of a module at an instance
-pub record IsEntered (flat : Nets) (s : Scope) (i : Instance) (m : Netlist) (f : Frame) : Type 0 where
-  pub scope : record { prefix = prefix_below s.prefix i.name; nets = f.nets.now; meant = f.meant.items }
-      ≡ scope_below flat s i m
+pub record IsEntered (flat : Ranges) (s : Scope) (i : Instance) (m : Netlist) (f : Frame) : Type 0 where
+  pub scope : scope_at (prefix_below s.prefix i.name) f ≡ scope_below flat s i m
   pub rest : f.rest.now ≡ m.instances
   pub path : f.path ≡ length (prefix_below s.prefix i.name)
 
@@ -49,22 +52,47 @@ pub record Comes (modules : List Netlist) (old : List Frame) (path : Text) (flat
       × (rest_flat hs old path flat ≡ rest_flat hs' new path' flat')
 
 -- what is left passes a limit
-abbrev pub Passes : List Netlist → List Frame → Text → Flat → FlatFault → Type 0
-Passes modules fs path flat faults.NoMemory = Unit {0}
-Passes modules fs path flat (faults.Limit what) =
+abbrev pub Passes : List Netlist → List Frame → Text → Flat → LimitKind → Type 0
+Passes modules fs path flat what =
     (hs : List Hierarchy) → AreHierarchies modules fs hs → rest_flat hs fs path flat ≡ Err what
-Passes modules fs path flat (faults.Refused line code) = ⊥
+
+-- what is left comes to an end and passes none
+pub record Ends (modules : List Netlist) (fs : List Frame) (path : Text) (flat : Flat) : Type 0 where
+  pub hs : List Hierarchy
+  pub below : AreHierarchies modules fs hs
+  pub whole : Flat
+  pub comes : rest_flat hs fs path flat ≡ Ok whole
+
+-- ---- counting
+
+-- what is left, of a flat netlist so far of which this is counted
+pub record IsCountedSo (modules : List Netlist) (old : List Frame) (path : Text) (flat : Flat) (new : List Frame)
+    (counts : Counts) : Type 0 where
+  pub path' : Text
+  pub flat' : Flat
+  pub counted : counts_of flat' ≡ counts
+  pub nested : AreNested (length path') new
+  pub comes : Comes modules old path flat new path' flat'
+
+-- the innermost of what is left was counted on: it passes a limit, or comes to the same as before; whatever the path
+-- and the flat netlist are of which this is counted
+abbrev pub CountedOn : List Netlist → Frame → List Frame → Counts → List Frame → Counts → Option LimitKind → Type 0
+CountedOn modules f fs counts new counts' None =
+    (path : Text) (flat : Flat) → counts_of flat ≡ counts → length path ≡ f.path → AreNested f.path fs
+    → IsCountedSo modules (f ∷ fs) path flat new counts'
+CountedOn modules f fs counts new counts' (Some what) =
+    (path : Text) (flat : Flat) → counts_of flat ≡ counts → Passes modules (f ∷ fs) path flat what
 
 -- ---- how much is left to add
 abbrev pub left_in : List Frame → ℕ
 left_in [] = 0
 left_in (f ∷ more) = length f.rest.now + 1 + left_in more
 
-abbrev pub room_in : Flat → ℕ
-room_in flat = most_instances + 1 - (length flat.instances + flat.entered)
+abbrev pub room_in : Counts → ℕ
+room_in counts = most_instances + 1 - counts.met
 
-unfoldable pub work : List Netlist → Flat → List Frame → ℕ
-work modules flat fs = room_in flat * most_in modules + left_in fs
+unfoldable pub work : List Netlist → Counts → List Frame → ℕ
+work modules counts fs = room_in counts * most_in modules + left_in fs
 
 -- ---- the whole walk
 
@@ -72,8 +100,13 @@ work modules flat fs = room_in flat * most_in modules + left_in fs
 abbrev pub Builds : List Netlist → Netlist → (Hierarchy → Result Flat LimitKind) → Result Flat LimitKind → Type 0
 Builds modules top built r = (h : Hierarchy) × IsHierarchy modules top.instances h × (built h ≡ r)
 
--- why there is none
-abbrev pub Fails : List Netlist → Netlist → (Hierarchy → Result Flat LimitKind) → FlatFault → Type 0
-Fails modules top built faults.NoMemory = Unit {0}
-Fails modules top built (faults.Limit what) = Builds modules top built (Err what)
-Fails modules top built (faults.Refused line code) = ⊥
+-- the limit that it passes, or that it passes none
+abbrev pub Decides : List Netlist → Netlist → (Hierarchy → Result Flat LimitKind) → Option LimitKind → Type 0
+Decides modules top built None = (flat : Flat) × Builds modules top built (Ok flat)
+Decides modules top built (Some what) = Builds modules top built (Err what)
+
+-- what is kept beside the flat netlist as it is built
+pub record IsGrown (nets : Nets) (ranges : Ranges) (met : ℕ) : Type 0 where
+  pub kept : ranges ≡ ranges_of nets
+  pub few : length nets < 2 ^ 32
+  pub entered : met ≤ most_instances

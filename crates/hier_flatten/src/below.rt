@@ -1,11 +1,12 @@
 //! What an instance adds to the flat netlist.
 
-ghost use Rattle.std.specs.Prelude.{◌≡◌, ◌++◌, [], length, option_map, option_to_list, None};
-ghost use Rattle.std.specs.Prelude.{IfOk, OnOk};
+ghost use Rattle.std.specs.Prelude.{◌≡◌, ◌<◌, ◌+◌, ◌^◌, ℕ, List, ◌++◌, [], length, map, replicate};
+ghost use Rattle.std.specs.Prelude.{option_map, option_to_list, None, IfOk, OnOk};
 ghost use Rattle.std.specs.List.{slice_get};
-ghost use Rattle.hier_flatten.specs.Flat.{own_at, own_nets, meant_from, prefix_below, flat_instance};
-ghost use Rattle.hier_flatten.specs.Flat.{limit_of, entered_below, at_top, top_scope};
-ghost use Rattle.hier_flatten.specs.Walk.{scope_of, IsEntered};
+ghost use Rattle.verilog_net.specs.declared.netlist.Wire.TheVariants.{Open};
+ghost use Rattle.hier_flatten.specs.Flat.{own_at, own_nets, meant_from, prefix_below, flat_instance, wires_below};
+ghost use Rattle.hier_flatten.specs.Flat.{counts_of, limit_of, ranges_of, entered_below, at_top, top_scope};
+ghost use Rattle.hier_flatten.specs.Walk.{scope_at, scope_of, IsEntered};
 
 use crate::growing::Growing;
 use crate::wires::{flat_pins, pins_by_name, wires_of};
@@ -37,7 +38,7 @@ fn name_below(alloc: Global, path: &mut Vec<u8>, name: &[u8]) -> Result<Name, Al
 }
 
 /// An instance of a cell below a path.
-pub fn cell_below(
+fn cell_below(
     alloc: Global,
     growing: &Growing,
     path: &mut Vec<u8>,
@@ -46,14 +47,14 @@ pub fn cell_below(
 ) -> Result<Instance, AllocError>
     requires { length path.old.items ≡ frame.now.path }
     ensures flat { let scope = scope_of path.old.items frame.now in
-        IfOk result (λ i. i ≡ flat_instance growing.now.nets scope instance.now) }
+        IfOk result (λ i. i ≡ flat_instance (ranges_of growing.now.nets) scope instance.now) }
     ensures kept { OnOk result (path.new.items ≡ path.old.items) }
 {
     let cell = instance.cell.shared()?;
     let name = name_below(alloc, path, instance.name.bytes())?;
     let pins = flat_pins(
         alloc,
-        growing.nets(),
+        growing.ranges(),
         frame.nets,
         frame.meant.as_slice(),
         instance.pins.as_slice(),
@@ -64,6 +65,31 @@ pub fn cell_below(
         line: instance.line,
         pins: Row::from_vec(pins),
     })
+}
+
+/// Adds instances of cells below a path.
+pub fn add_cells(
+    alloc: Global,
+    growing: &mut Growing,
+    path: &mut Vec<u8>,
+    frame: &Frame,
+    cells: &[Instance],
+) -> Result<(), AllocError>
+    requires { length path.old.items ≡ frame.now.path }
+    ensures cells { let made = flat_instance (ranges_of growing.old.nets) (scope_of path.old.items frame.now) in
+        OnOk result (growing.new ≡ record growing.old {
+          instances = growing.old.instances ++ map made cells.now;
+        }) }
+    ensures kept { OnOk result (path.new.items ≡ path.old.items) }
+{
+    let mut rest = cells;
+    'cells: while let [instance, more @ ..] = rest {
+        let cell = cell_below(alloc, growing, path, frame, instance)?;
+        growing.count_name(cell.name.bytes().len())?;
+        growing.add_instance(cell)?;
+        rest = more;
+    }
+    Ok(())
 }
 
 /// What nets are in the flat netlist, by what they are connected to: those without a connection are numbered on from
@@ -91,7 +117,7 @@ fn meant_of(alloc: Global, next: u32, wires: &[Wire]) -> Result<Vec<Wire>, Alloc
 }
 
 /// What the net of this number is connected to.
-fn wire_at(wires: &[Wire], number: u32) -> Option<Wire>
+pub fn wire_at(wires: &[Wire], number: u32) -> Option<Wire>
     ensures { result ≡ slice_get wires.now number }
 {
     wires.get(number as usize).copied()
@@ -150,6 +176,59 @@ fn add_nets(
     Ok(())
 }
 
+/// How long a path is below an instance of this name.
+fn deeper(path: usize, name: &[u8]) -> Result<usize, AllocError>
+    ensures { IfOk result (λ n. n ≡ path + (length name.now + 1)) }
+{
+    match path.checked_add(name.len() + 1) {
+        Some(longer) => Ok(longer),
+        None => Err(AllocError),
+    }
+}
+
+/// How many flat nets there are, by their ranges.
+fn count_of(flat: &[Option<(u32, u32)>]) -> u32
+    requires { length flat.now < 2 ^ 32 }
+    ensures { result ≡ length flat.now }
+{
+    flat.len() as u32
+}
+
+/// The module at an instance, and what its nets are connected to outside. The nets that are flat so far have the
+/// ranges `flat`.
+pub fn frame_below<'a>(
+    alloc: Global,
+    flat: &[Option<(u32, u32)>],
+    frame: &Frame<'a>,
+    instance: &'a Instance,
+    inner: &'a Netlist,
+) -> Result<(Frame<'a>, Vec<Wire>), AllocError>
+    requires { length flat.now < 2 ^ 32 }
+    ensures wires { IfOk result (λ r. (prefix : List ℕ) → r.1.items
+        ≡ wires_below flat.now (scope_at prefix frame.now) instance.entry.now inner.entry.now) }
+    ensures frame { IfOk result (λ r. (prefix : List ℕ) → length prefix ≡ frame.now.path
+        → IsEntered flat.now (scope_at prefix frame.now) instance.entry.now inner.entry.now r.0) }
+{
+    let path = deeper(frame.path, instance.name.bytes())?;
+    let pins = pins_by_name(alloc, frame.nets.key(), instance.pins.as_slice())?;
+    let wires = wires_of(
+        alloc,
+        flat,
+        frame.nets,
+        frame.meant.as_slice(),
+        &pins,
+        &inner.nets,
+    )?;
+    let meant = meant_of(alloc, count_of(flat), wires.as_slice())?;
+    let below = Frame {
+        nets: &inner.nets,
+        rest: inner.instances.as_slice(),
+        path,
+        meant,
+    };
+    Ok((below, wires))
+}
+
 /// The module at an instance that is met; its own nets are added, and the path leads to it.
 pub fn enter<'a>(
     alloc: Global,
@@ -160,33 +239,19 @@ pub fn enter<'a>(
     inner: &'a Netlist,
 ) -> Result<Frame<'a>, AllocError>
     requires path { length path.old.items ≡ frame.now.path }
-    requires limit { limit_of growing.old ≡ None }
+    requires limit { limit_of (counts_of growing.old) ≡ None }
     ensures path { OnOk result (path.new.items ≡ prefix_below path.old.items instance.entry.now.name) }
     ensures growing { OnOk result (growing.new
         ≡ entered_below growing.old (scope_of path.old.items frame.now) instance.entry.now inner.entry.now) }
-    ensures frame { IfOk result (λ f. IsEntered growing.old.nets (scope_of path.old.items frame.now)
+    ensures frame { IfOk result (λ f. IsEntered (ranges_of growing.old.nets) (scope_of path.old.items frame.now)
         instance.entry.now inner.entry.now f) }
 {
     growing.enter();
-    let pins = pins_by_name(alloc, frame.nets.key(), instance.pins.as_slice())?;
-    let wires = wires_of(
-        alloc,
-        growing.nets(),
-        frame.nets,
-        frame.meant.as_slice(),
-        &pins,
-        &inner.nets,
-    )?;
+    let (below, wires) = frame_below(alloc, growing.ranges(), frame, instance, inner)?;
     path.extend_from_slice(instance.name.bytes())?;
     path.push(b'/')?;
-    let meant = meant_of(alloc, growing.count(), wires.as_slice())?;
     add_nets(alloc, growing, path, &inner.nets, wires.as_slice())?;
-    Ok(Frame {
-        nets: &inner.nets,
-        rest: inner.instances.as_slice(),
-        path: path.len(),
-        meant,
-    })
+    Ok(below)
 }
 
 /// Adds a net of the top.
@@ -216,7 +281,24 @@ fn add_top(alloc: Global, growing: &mut Growing, nets: &NameTable<Net>) -> Resul
     Ok(())
 }
 
-/// The top, each of whose nets is a net of its own.
+/// The top, each of whose nets is a net of its own, and what they are connected to: nothing.
+pub fn top_frame<'a>(alloc: Global, top: &'a Netlist) -> Result<(Frame<'a>, Vec<Wire>), AllocError>
+    ensures frame { IfOk result (λ r. (scope_of [] r.0 ≡ top_scope top.entry.now)
+        × (r.0.rest.now ≡ top.entry.now.instances) × (r.0.path ≡ 0)) }
+    ensures wires { IfOk result (λ r. r.1.items ≡ replicate (length top.entry.now.nets) Open) }
+{
+    let unconnected = vec![in alloc; Wire::Open; top.nets.len() as usize]?;
+    let meant = meant_of(alloc, 0, unconnected.as_slice())?;
+    let frame = Frame {
+        nets: &top.nets,
+        rest: top.instances.as_slice(),
+        path: 0,
+        meant,
+    };
+    Ok((frame, unconnected))
+}
+
+/// The top; its nets are added.
 pub fn enter_top<'a>(
     alloc: Global,
     growing: &mut Growing,
@@ -227,13 +309,7 @@ pub fn enter_top<'a>(
     ensures frame { IfOk result (λ f. (scope_of [] f ≡ top_scope top.entry.now) × (f.rest.now ≡ top.entry.now.instances)
         × (f.path ≡ 0)) }
 {
-    let unconnected = vec![in alloc; Wire::Open; top.nets.len() as usize]?;
-    let meant = meant_of(alloc, 0, unconnected.as_slice())?;
+    let (frame, _) = top_frame(alloc, top)?;
     add_top(alloc, growing, &top.nets)?;
-    Ok(Frame {
-        nets: &top.nets,
-        rest: top.instances.as_slice(),
-        path: 0,
-        meant,
-    })
+    Ok(frame)
 }

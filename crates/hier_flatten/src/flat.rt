@@ -4,6 +4,7 @@ ghost use Rattle.hier_flatten.specs.Meaning.{FlatMeans, AnswersFlat};
 
 use crate::build::build;
 use crate::circle::contains_itself;
+use crate::counting::passed_limit;
 use crate::fault::FlatFault;
 use crate::fits::misfit;
 use crate::index::Index;
@@ -26,8 +27,9 @@ use xt_model::Code;
 /// contains itself at some depth; `V9`, at the last line, modules of which not exactly one is instanced by none; the
 /// limits of instances and nets, which are 262,144 of each (nets by bits), as each instance of a module is met; `V5`,
 /// at the last line, two nets, two bits or two instances with one name; `V1`, at the last line, a name of more than
-/// 1,024 bytes. Takes time linear in the modules and in the flat netlist, where an instance of a module counts with
-/// the declarations of the module and its own pins, and memory linear in the same.
+/// 1,024 bytes. Limits are decided before anything is built. Takes time linear in the modules and in the flat netlist,
+/// where an instance of a module counts with the declarations of the module and its own pins, and memory linear in the
+/// same.
 #[tactic(auto, unfolding(crate::specs::Meaning::FlatMeans))]
 pub fn flatten(alloc: Global, modules: &Modules, last_line: u32) -> Result<Netlist, FlatFault>
     ensures { AnswersFlat result (FlatMeans modules.now.list last_line) }
@@ -51,6 +53,9 @@ pub fn flatten(alloc: Global, modules: &Modules, last_line: u32) -> Result<Netli
             code: Code::V9,
         });
     };
+    if let Some(what) = passed_limit(alloc, &index, top)? {
+        return Err(FlatFault::Limit { what });
+    }
     let flat = build(alloc, &index, top)?;
     with_names(alloc, top, flat, last_line)
 }

@@ -1,14 +1,12 @@
 //! The flat netlist as far as it is built.
 
-ghost use Rattle.std.specs.Prelude.{◌≡◌, ◌++◌, ◌+◌, ◌∷◌, [], length, OnOk, None};
-ghost use Rattle.hier_flatten.specs.Flat.{limit_of};
+ghost use Rattle.std.specs.Prelude.{◌≡◌, ◌<◌, ◌^◌, ◌++◌, ◌+◌, ◌∷◌, [], length, OnOk, None};
+ghost use Rattle.hier_flatten.specs.Flat.{counts_of, limit_of, ranges_of};
 
-use crate::places::width_of;
 use std::alloc::{AllocError, Global};
 use std::marker::Model;
 use verilog_net::{Instance, Name, Net};
-use xt_model::LimitKind;
-use xt_model::limits::{MOST_INSTANCES, MOST_NETS, MOST_TEXT_NAME};
+use xt_model::limits::MOST_TEXT_NAME;
 
 /// The greatest number of nets that a netlist has names for.
 const MOST_NAMES: usize = 4_294_967_295;
@@ -16,20 +14,21 @@ const MOST_NAMES: usize = 4_294_967_295;
 /// How many bytes all names may have together once one of them is too long: four times those of the longest text.
 const MOST_WRITTEN: u64 = 1 << 30;
 
-/// The flat nets and instances so far. `entered` is how many instances of modules were met, `bits` how many bits the
-/// nets have, `written` how many bytes the names have, and `has_long` whether one of them is too long.
+/// The flat nets and instances so far. `ranges` has the ranges of the nets, `entered` is how many instances of modules
+/// were met, `written` how many bytes the names have, and `has_long` whether one of them is too long.
 #[derive(Drop)]
 pub struct Growing {
     nets: Vec<(Name, Net)>,
     instances: Vec<Instance>,
+    ranges: Vec<Option<(u32, u32)>>,
     entered: u32,
-    bits: u64,
     written: u64,
     has_long: bool,
 }
 
 impl Model for Growing {
-    ghost use Rattle.hier_flatten.specs.Flat.{Flat, IsCounted};
+    ghost use Rattle.hier_flatten.specs.Flat.{Flat};
+    ghost use Rattle.hier_flatten.specs.Walk.{IsGrown};
 
     ghost Value = { Flat };
 
@@ -39,7 +38,7 @@ impl Model for Growing {
       entered = g.entered;
     } };
 
-    ghost invariant = { λ g. IsCounted g.nets.items g.entered g.bits };
+    ghost invariant = { λ g. IsGrown g.nets.items g.ranges.items g.entered };
 }
 
 impl Growing {
@@ -50,25 +49,19 @@ impl Growing {
         Growing {
             nets: Vec::new(alloc),
             instances: Vec::new(alloc),
+            ranges: Vec::new(alloc),
             entered: 0,
-            bits: 0,
             written: 0,
             has_long: false,
         }
     }
 
-    /// The nets.
-    pub fn nets(&self) -> &[(Name, Net)]
-        ensures { result.now ≡ self.now.nets }
+    /// The ranges of the nets.
+    pub fn ranges(&self) -> &[Option<(u32, u32)>]
+        ensures ranges { result.now ≡ ranges_of self.now.nets }
+        ensures few { length result.now < 2 ^ 32 }
     {
-        self.nets.as_slice()
-    }
-
-    /// How many nets there are.
-    pub fn count(&self) -> u32
-        ensures { result ≡ length self.now.nets }
-    {
-        self.nets.len() as u32
+        self.ranges.as_slice()
     }
 
     /// Counts the bytes of a further name. A netlist with a name that is too long is refused in the end, so its names
@@ -91,8 +84,11 @@ impl Growing {
         if self.nets.len() >= MOST_NAMES {
             return Err(AllocError);
         }
-        self.nets.push((name, net))?;
-        self.bits += width_of(net.range);
+        self.ranges.push(net.range)?;
+        if self.nets.push((name, net)).is_err() {
+            let _ = self.ranges.pop();
+            return Err(AllocError);
+        }
         Ok(())
     }
 
@@ -104,23 +100,9 @@ impl Growing {
         Ok(())
     }
 
-    /// The limit that is passed where a further instance of a module is met.
-    #[tactic(auto, unfolding(crate::specs::Flat::limit_of))]
-    pub fn limit(&self) -> Option<LimitKind>
-        ensures { result ≡ limit_of self.now }
-    {
-        if self.instances.len() as u64 + self.entered as u64 >= MOST_INSTANCES as u64 {
-            return Some(LimitKind::Instances);
-        }
-        if self.bits > MOST_NETS as u64 {
-            return Some(LimitKind::Nets);
-        }
-        None
-    }
-
     /// Counts a further instance of a module.
     pub fn enter(&mut self)
-        requires { limit_of self.old ≡ None }
+        requires { limit_of (counts_of self.old) ≡ None }
         ensures { self.new ≡ record self.old { entered = self.old.entered + 1 } }
     {
         self.entered += 1;

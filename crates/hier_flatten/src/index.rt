@@ -1,8 +1,8 @@
 //! Modules by their names.
 
-ghost use Rattle.std.specs.Prelude.{◌≡◌, ◌<◌, [], length, option_map, IfOk, IfSome, OnOk};
+ghost use Rattle.std.specs.Prelude.{◌≡◌, ◌<◌, ◌≤◌, [], length, option_map, IfOk, IfSome, OnOk};
 ghost use Rattle.std.specs.List.{slice_get};
-ghost use Rattle.hier_flatten.specs.Hierarchy.{numbered, module_number, module_of};
+ghost use Rattle.hier_flatten.specs.Hierarchy.{numbered, module_number, module_of, cells_before};
 ghost use Rattle.hier_flatten.specs.Tables.{IsTableOf};
 
 use crate::tables::put_first;
@@ -94,6 +94,23 @@ impl<'a> Index<'a> {
     {
         let number = self.number(name)?;
         self.modules.get(number)
+    }
+
+    /// How many of these instances, each of a cell, come before the first one of a module.
+    pub fn cells_before(&self, instances: &'a [Instance]) -> usize
+        ensures count { result ≡ cells_before self.now instances.entry.now }
+        ensures within { result ≤ length instances.entry.now }
+    {
+        let mut count: usize = 0;
+        let mut rest = instances;
+        'instances: while let [instance, more @ ..] = rest {
+            if self.number(instance.cell.bytes()).is_some() {
+                return count;
+            }
+            count += 1;
+            rest = more;
+        }
+        count
     }
 
     /// The instances of the module of this number.

@@ -5,6 +5,7 @@ mod alone;
 mod below;
 mod build;
 mod circle;
+mod counting;
 mod fault;
 mod fits;
 mod flat;
@@ -14,6 +15,7 @@ mod names;
 mod places;
 mod stack;
 mod tables;
+mod tally;
 mod tops;
 mod wires;
 

@@ -26,10 +26,11 @@ fn table_of(
     let mut rest = nets;
     'nets: while let [entry, more @ ..] = rest {
         let (name, net) = entry;
-        if table.find(name.bytes()).is_some() {
+        let count = table.len();
+        table.set(alloc, name.bytes(), *net)?;
+        if table.len() == count {
             return Ok(None);
         }
-        table.set(alloc, name.bytes(), *net)?;
         rest = more;
     }
     Ok(Some(table))

@@ -3,8 +3,7 @@
 ghost use Rattle.std.specs.Prelude.{◌≡◌, ◌++◌, map, option_map, option_to_list, IfOk, OnOk};
 ghost use Rattle.std.specs.List.{slice_get};
 ghost use Rattle.hier_flatten.specs.Tables.{IsTableOf};
-ghost use Rattle.hier_flatten.specs.Fits.{range_at};
-ghost use Rattle.hier_flatten.specs.Flat.{or_open, bit_within, flat_wire, flat_pins, wire_of};
+ghost use Rattle.hier_flatten.specs.Flat.{or_open, range_of, bit_within, flat_wire, flat_pins, wire_of};
 
 use crate::places::{bit_at, place_in, range_at};
 use crate::tables::put_first;
@@ -22,18 +21,18 @@ fn meant_at(meant: &[Wire], decl: u32) -> Wire
     }
 }
 
-/// The range of the flat net of this number.
-fn flat_range(flat: &[(Name, Net)], decl: u32) -> Option<(u32, u32)>
-    ensures { result ≡ range_at decl flat.now }
+/// The range of the flat net of this number, by those of all.
+fn flat_range(flat: &[Option<(u32, u32)>], decl: u32) -> Option<(u32, u32)>
+    ensures { result ≡ range_of decl flat.now }
 {
     match flat.get(decl as usize) {
-        Some((_, net)) => net.range,
+        Some(range) => *range,
         None => None,
     }
 }
 
-/// The bit at a place of what a net is in the flat netlist.
-fn bit_within(flat: &[(Name, Net)], place: u32, wire: Wire) -> Wire
+/// The bit at a place of what a net is in the flat netlist, whose nets have these ranges.
+fn bit_within(flat: &[Option<(u32, u32)>], place: u32, wire: Wire) -> Wire
     ensures { result ≡ bit_within flat.now place wire }
 {
     let Wire::Whole { decl } = wire else {
@@ -46,7 +45,12 @@ fn bit_within(flat: &[(Name, Net)], place: u32, wire: Wire) -> Wire
 }
 
 /// What something is connected to in the flat netlist, by what it is connected to in a module with these nets.
-pub fn flat_wire(flat: &[(Name, Net)], nets: &NameTable<Net>, meant: &[Wire], wire: Wire) -> Wire
+pub fn flat_wire(
+    flat: &[Option<(u32, u32)>],
+    nets: &NameTable<Net>,
+    meant: &[Wire],
+    wire: Wire,
+) -> Wire
     ensures { result ≡ flat_wire flat.now nets.now meant.now wire }
 {
     match wire {
@@ -66,7 +70,7 @@ pub fn flat_wire(flat: &[(Name, Net)], nets: &NameTable<Net>, meant: &[Wire], wi
 /// The pins of an instance with what they are connected to in the flat netlist.
 pub fn flat_pins(
     alloc: Global,
-    flat: &[(Name, Net)],
+    flat: &[Option<(u32, u32)>],
     nets: &NameTable<Net>,
     meant: &[Wire],
     pins: &[(Name, Wire)],
@@ -104,7 +108,7 @@ pub fn pins_by_name<'a>(
 
 /// What a net of a module is connected to outside, by the pins of the module's instance.
 fn wire_of<'a>(
-    flat: &[(Name, Net)],
+    flat: &[Option<(u32, u32)>],
     nets: &NameTable<Net>,
     meant: &[Wire],
     pins: &Named<'a, Wire>,
@@ -124,7 +128,7 @@ fn wire_of<'a>(
 
 /// Appends what a net of a module is connected to outside.
 fn push_wire<'a>(
-    flat: &[(Name, Net)],
+    flat: &[Option<(u32, u32)>],
     nets: &NameTable<Net>,
     meant: &[Wire],
     pins: &Named<'a, Wire>,
@@ -144,7 +148,7 @@ fn push_wire<'a>(
 /// What the nets of a module are connected to outside, one after another.
 pub fn wires_of<'a>(
     alloc: Global,
-    flat: &[(Name, Net)],
+    flat: &[Option<(u32, u32)>],
     nets: &NameTable<Net>,
     meant: &[Wire],
     pins: &Named<'a, Wire>,

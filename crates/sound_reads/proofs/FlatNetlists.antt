@@ -1,5 +1,5 @@
 -- A flat netlist of sound modules is sound to be linked.
-use Rattle.std.specs.Prelude.{◌≡◌, refl, ℕ, ◌+◌, ◌<◌, ◌≤◌, ◌||◌, ◌&&◌, Bool, true, false, not, List, [], ◌∷◌, ◌++◌, length, map}
+use Rattle.std.specs.Prelude.{◌≡◌, refl, ℕ, ◌<◌, ◌≤◌, ◌||◌, ◌&&◌, Bool, true, false, List, [], ◌∷◌, ◌++◌, length, map}
 use Rattle.std.specs.Prelude.{Option, Some, None, IfSome, Result, Ok, Err, IfOk, if◌then◌else◌}
 use Rattle.std.specs.List.{All, AllByRecursion, list_any, slice_get}
 use Rattle.std.specs.Str.{bytes_eq}
@@ -23,7 +23,7 @@ use Rattle.xt_model.specs.declared.code.Code.TheVariants.{V1, V5}
 use Rattle.hier_flatten.specs.declared.fault.FlatFault.TheVariants as faults
 use Rattle.hier_flatten.specs.Hierarchy.{Hierarchy, ends, cell, inner, IsHierarchy, module_number, top_of}
 use Rattle.hier_flatten.specs.Fits.{misfit}
-use Rattle.hier_flatten.specs.Flat.{Scope, Flat, flat_instance, flat_pins, own_of, own_nets, prefix_below, wires_below, scope_below, entered_below, limit_of, unless_passed, flat_below, top_scope, at_top, built}
+use Rattle.hier_flatten.specs.Flat.{Scope, Flat, Ranges, ranges_of, counts_of, flat_instance, flat_pins, own_of, own_nets, prefix_below, wires_below, scope_below, entered_below, limit_of, unless_passed, flat_below, top_scope, at_top, built}
 use Rattle.hier_flatten.specs.Names.{is_repeated, is_some_bit, is_scalar, has_bit_name, has_equal_names, is_long, has_long_name}
 use Rattle.hier_flatten.specs.Meaning.{Outcome, named, within_limits, TopMeans, HierarchyMeans, circular, finite, unless_misfit, FlatMeans, AnswersFlat}
 use Rattle.hier_flatten.proofs.MeaningLaws.{top_has}
@@ -97,12 +97,12 @@ own_good prefix (net ∷ nets) (w ∷ ws) p h =
     one (wires.Bit decl bit) = tt
     one (wires.Whole decl) = tt
 
-pins_good : (flat nets : Nets) (meant : List Wire) (pins : List (Text × Wire)) → AllByRecursion (λ p. IsShortName p.0) pins
+pins_good : (flat : Ranges) (nets : Nets) (meant : List Wire) (pins : List (Text × Wire)) → AllByRecursion (λ p. IsShortName p.0) pins
     → AllByRecursion (λ p. IsShortName p.0) (flat_pins flat nets meant pins)
 pins_good flat nets meant [] h = tt
 pins_good flat nets meant (p ∷ pins) h = (h.0, pins_good flat nets meant pins h.1)
 
-instance_good : (flat : Nets) (s : Scope) (i : Instance) → AllByRecursion IsPlain s.prefix → IsSoundInstance i → IsGoodInstance (flat_instance flat s i)
+instance_good : (flat : Ranges) (s : Scope) (i : Instance) → AllByRecursion IsPlain s.prefix → IsSoundInstance i → IsGoodInstance (flat_instance flat s i)
 instance_good flat s i p h = record {
   cell = h.cell;
   name = printed_below s.prefix i.name p (printed i.name h.name);
@@ -129,23 +129,23 @@ module _ (modules : List Netlist) (sound : All IsSoundModule modules) where
   below_good ends (i ∷ is) s flat new t all p good e = absurd t
   below_good (cell j more) [] s flat new t all p good e = absurd t
   below_good (cell j more) (i ∷ is) s flat new t all p good e =
-      let one : IsGoodInstance (flat_instance flat.nets s j) = subst (λ k. IsGoodInstance (flat_instance flat.nets s k)) t.0 (instance_good flat.nets s i p all.0) in
-      below_good more is s (record flat { instances = flat.instances ++ flat_instance flat.nets s j ∷ [] }) new t.2 all.1 p
-      (record { nets = good.nets; instances = each_push IsGoodInstance flat.instances (flat_instance flat.nets s j) good.instances one }) e
+      let one : IsGoodInstance (flat_instance (ranges_of flat.nets) s j) = subst (λ k. IsGoodInstance (flat_instance (ranges_of flat.nets) s k)) t.0 (instance_good (ranges_of flat.nets) s i p all.0) in
+      below_good more is s (record flat { instances = flat.instances ++ flat_instance (ranges_of flat.nets) s j ∷ [] }) new t.2 all.1 p
+      (record { nets = good.nets; instances = each_push IsGoodInstance flat.instances (flat_instance (ranges_of flat.nets) s j) good.instances one }) e
   below_good (inner j m below more) [] s flat new t all p good e = absurd t
   below_good (inner j m below more) (i ∷ is) s flat new t all p good e =
       let inside = module_sound (module_number modules i.cell) m t.1 in
       let name : IsPrinted j.name = subst (λ k. IsPrinted k.name) t.0 (printed i.name all.0.name) in
       let way = prefix_printed s.prefix j.name p name in
-      let parts = bind_parts (unless_passed (limit_of flat) (flat_below below (scope_below flat.nets s j m) (entered_below flat s j m))) (flat_below more s) new e in
-      let added = own_good (prefix_below s.prefix j.name) m.nets (wires_below flat.nets s j m) way (good_nets m inside) in
+      let parts = bind_parts (unless_passed (limit_of (counts_of flat)) (flat_below below (scope_below (ranges_of flat.nets) s j m) (entered_below flat s j m))) (flat_below more s) new e in
+      let added = own_good (prefix_below s.prefix j.name) m.nets (wires_below (ranges_of flat.nets) s j m) way (good_nets m inside) in
       let entered : IsGood (entered_below flat s j m) = record {
-        nets = each-append IsGoodNet flat.nets (own_nets (prefix_below s.prefix j.name) m.nets (wires_below flat.nets s j m)) good.nets added;
+        nets = each-append IsGoodNet flat.nets (own_nets (prefix_below s.prefix j.name) m.nets (wires_below (ranges_of flat.nets) s j m)) good.nets added;
         instances = good.instances;
       } in
-      let middle = below_good below m.instances (scope_below flat.nets s j m) (entered_below flat s j m) parts.0 t.2
+      let middle = below_good below m.instances (scope_below (ranges_of flat.nets) s j m) (entered_below flat s j m) parts.0 t.2
       (recursion_from_All IsSoundInstance m.instances inside.instances) way entered
-      (passed_parts (limit_of flat) (flat_below below (scope_below flat.nets s j m) (entered_below flat s j m)) parts.0 parts.1) in
+      (passed_parts (limit_of (counts_of flat)) (flat_below below (scope_below (ranges_of flat.nets) s j m) (entered_below flat s j m)) parts.0 parts.1) in
       below_good more is s parts.0 new t.3 all.1 p middle parts.2
 
   built_good : (top : Netlist) (h : Hierarchy) (flat : Flat) → IsSoundModule top → IsHierarchy modules top.instances h → built top h ≡ Ok flat → IsGood flat

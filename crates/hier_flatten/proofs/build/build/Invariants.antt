@@ -1,4 +1,5 @@
 use Rattle.std.proofs.Common.{length}
+use Rattle.hier_flatten.specs.Flat.{counts_of}
 use Rattle.hier_flatten.specs.Walk.{AreNested, work}
 use Rattle.hier_flatten.proofs.WalkLaws.{Walks}
 use Rattle.hier_flatten.proofs.build.build.Given as goal
@@ -10,4 +11,4 @@ invariant-frames l = record {
 }
 
 abbrev pub decreases-frames : goal.decreases-frames
-decreases-frames l = work l.index l.growing l.stack
+decreases-frames l = work l.index (counts_of l.growing) l.stack

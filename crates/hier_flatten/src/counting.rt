@@ -1,0 +1,102 @@
+//! Whether the flat netlist passes a limit, before anything of it is built.
+
+ghost use Rattle.std.specs.Prelude.{◌≡◌, ◌<◌, ◌++◌, ◌∷◌, [], option_map, IfOk, OnOk};
+ghost use Rattle.hier_flatten.specs.Hierarchy.{HasHierarchy};
+ghost use Rattle.hier_flatten.specs.Flat.{built, own_at, own_nets, ranges_of};
+ghost use Rattle.hier_flatten.specs.Walk.{CountedOn, Decides, work};
+
+use crate::below::{Frame, frame_below, top_frame, wire_at};
+use crate::index::Index;
+use crate::stack::Stack;
+use crate::tally::Tally;
+use name_numbers::NameTable;
+use std::alloc::{AllocError, Global};
+use verilog_net::{Net, Netlist, Wire};
+use xt_model::LimitKind;
+
+/// Counts a net of a module, if it has no connection.
+fn count_own(
+    tally: &mut Tally,
+    net: Option<(&[u8], &Net)>,
+    wire: Option<Wire>,
+) -> Result<(), AllocError>
+    ensures { OnOk result (tally.new ≡ record tally.old {
+      ranges = tally.old.ranges ++ ranges_of (own_at [] (option_map (λ e. (e.0.now, e.1.now)) net.entry) wire);
+    }) }
+{
+    if let (Some((_, net)), Some(Wire::Open)) = (net, wire) {
+        tally.add_net(net.range)?;
+    }
+    Ok(())
+}
+
+/// Counts the nets of a module that have no connection.
+fn count_nets(tally: &mut Tally, nets: &NameTable<Net>, wires: &[Wire]) -> Result<(), AllocError>
+    ensures { OnOk result (tally.new ≡ record tally.old {
+      ranges = tally.old.ranges ++ ranges_of (own_nets [] nets.now wires.now);
+    }) }
+{
+    for number in 0..nets.len() {
+        count_own(tally, nets.get(number), wire_at(wires, number))?;
+    }
+    Ok(())
+}
+
+/// Counts the instances of a module at a path, which was taken from the stack, up to the first one of a module, and the
+/// nets of its own that this one has. Answers the limit that is passed.
+fn step<'a>(
+    alloc: Global,
+    index: &Index<'a>,
+    tally: &mut Tally,
+    stack: &mut Stack<Frame<'a>>,
+    frame: Frame<'a>,
+) -> Result<Option<LimitKind>, AllocError>
+    ensures goes { IfOk result (CountedOn index.now frame.entry stack.old tally.old stack.new tally.new) }
+    ensures less { OnOk result
+        (work index.now tally.new stack.new < work index.now tally.old (frame.entry ∷ stack.old)) }
+{
+    let count = index.cells_before(frame.rest);
+    tally.meet(count)?;
+    let (_, rest) = frame.rest.split_at(count);
+    let [instance, more @ ..] = rest else {
+        return Ok(None);
+    };
+    let Some(module) = index.find(instance.cell.bytes()) else {
+        return Ok(None);
+    };
+    if let Some(what) = tally.limit() {
+        return Ok(Some(what));
+    }
+    let (below, wires) = frame_below(alloc, tally.ranges(), &frame, instance, module)?;
+    tally.meet(1)?;
+    count_nets(tally, &module.nets, wires.as_slice())?;
+    stack.push(Frame {
+        rest: more,
+        ..frame
+    })?;
+    stack.push(below)?;
+    Ok(None)
+}
+
+/// The limit that the flat netlist of the top passes.
+pub fn passed_limit<'a>(
+    alloc: Global,
+    index: &Index<'a>,
+    top: &'a Netlist,
+) -> Result<Option<LimitKind>, AllocError>
+    requires { HasHierarchy index.now top.now.instances }
+    ensures { IfOk result (Decides index.now top.entry.now (built top.entry.now)) }
+{
+    let mut tally = Tally::new(alloc);
+    let mut stack = Stack::new(alloc);
+    let (frame, wires) = top_frame(alloc, top)?;
+    count_nets(&mut tally, &top.nets, wires.as_slice())?;
+    stack.push(frame)?;
+    'frames: while let Some(frame) = stack.pop() {
+        let passed = step(alloc, index, &mut tally, &mut stack, frame)?;
+        if passed.is_some() {
+            return Ok(passed);
+        }
+    }
+    Ok(None)
+}
