@@ -27,6 +27,18 @@ filled_at (z ∷ xs) n x y zero ge h = absurd (omega (arith, ge))
 filled_at (z ∷ xs) n x y (suc k) ge h = filled_at xs n x y k (omega (arith, ge)) h
 
 -- ---- groups of pins
+same_at : (pins : List PinParts) (place : ℕ) (p q : PinParts) → slice_get pins place ≡ Some p → slice_get pins place ≡ Some q → p ≡ q
+same_at [] place p q a b = absurd (cc)
+same_at (x ∷ pins) zero p q a b = let k : x ≡ p = cc in let l : x ≡ q = cc in sym k ∙ l
+same_at (x ∷ pins) (suc place) p q a b = same_at pins place p q a b
+
+-- a pin is alike itself
+pub own_first : (pins : List PinParts) (place : ℕ) → IsFirst pins place place
+own_first pins place = record {
+  least = omega arith;
+  alike = λ p q a b. subst (λ (r : PinParts). AreAlike p r) (same_at pins place p q a b) refl;
+}
+
 old_first : (ps ms : List PinParts) (place first : ℕ) → place < length ps → IsFirst ps place first → IsFirst (ps ++ ms) place first
 old_first ps ms place first lt is = record {
   least = is.least;

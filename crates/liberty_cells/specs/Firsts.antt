@@ -16,3 +16,7 @@ pub record IsFirst (pins : List PinParts) (place first : ℕ) : Type 0 where
 pub record AreFirsts (pins : List PinParts) (firsts : List ℕ) : Type 0 where
   pub count : length firsts ≡ length pins
   pub each : (place first : ℕ) → slice_get firsts place ≡ Some first → IsFirst pins place first
+
+-- some of the places of pins that are alike; a pin without one is like itself
+abbrev pub TellFirsts : List PinParts → List ℕ → Type 0
+TellFirsts pins firsts = (place first : ℕ) → slice_get firsts place ≡ Some first → IsFirst pins place first

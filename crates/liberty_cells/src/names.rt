@@ -3,12 +3,12 @@
 ghost use Rattle.std.specs.Prelude.{◌≡◌, List, ℕ, not, map, IfOk, OnOk};
 ghost use Rattle.name_numbers.specs.Names.{has_name, with_name};
 ghost use Rattle.text_forms.specs.Stops.{Gives};
-ghost use Rattle.liberty_tables.specs.Contents.{content, names_in};
+ghost use Rattle.liberty_tables.specs.Contents.{content};
 ghost use Rattle.liberty_cells.specs.Names.{some_names};
 
 use indexmap::IndexSet;
 use liberty_groups::Span;
-use liberty_tables::{content, first_item};
+use liberty_tables::content;
 use name_numbers::TextKey;
 use smallvec::SmallVec;
 use std::alloc::{AllocError, Global};
@@ -74,29 +74,6 @@ pub fn names_of_group(
             return Err(refused);
         }
         names.push(Name::new(name))?;
-        rest = more;
-    }
-    if names.is_empty() {
-        return Err(refused);
-    }
-    Ok(names)
-}
-
-/// The names in a string, which white space separates: one at least.
-pub fn names_of_string(alloc: Global, line: u32, text: &[u8]) -> Result<Vec<Name>, TextFault>
-    ensures { Gives (λ names. names.items) result (some_names line (names_in text.now)) }
-{
-    let refused = TextFault::Refused {
-        line,
-        code: Code::L1,
-    };
-    let mut names = Vec::new(alloc);
-    let mut rest = text;
-    'items: while let Some((name, more)) = first_item(false, rest) {
-        if !is_name(name) {
-            return Err(refused);
-        }
-        names.push(Name::from_slice(alloc, name)?)?;
         rest = more;
     }
     if names.is_empty() {

@@ -14,21 +14,27 @@ pub enum Role {
 }
 
 /// A pin of a cell: its capacitance in aF, and its timing groups in the order of the text. The pins of one group of the
-/// text share the timing groups, which are kept once.
+/// text share the timing groups, which are kept once; where there is none nothing is kept.
 #[derive(Drop)]
 pub struct Pin {
     name: Name,
     role: Role,
     cap: i64,
-    timings: Rc<Row<Timing>>,
+    timings: Option<Rc<Row<Timing>>>,
 }
 
 impl Model for Pin {
+    ghost use Rattle.std.specs.Prelude.{[], option_map, unwrap_or};
     ghost use Rattle.liberty_cells.specs.Pins.{PinParts};
 
     ghost Value = { PinParts };
 
-    ghost view = { λ p. record { name = p.name; role = p.role; cap = p.cap; timings = p.timings.value } };
+    ghost view = { λ p. record {
+      name = p.name;
+      role = p.role;
+      cap = p.cap;
+      timings = unwrap_or (option_map (λ timings. timings.value) p.timings) [];
+    } };
 }
 
 impl Pin {
@@ -44,11 +50,15 @@ impl Pin {
     ) -> Result<Pin, AllocError>
         ensures { IfOk result (λ pin. pin ≡ pin_named role cap timings.now.value name) }
     {
+        let timings = match timings.as_slice() {
+            [] => None,
+            _ => Some(timings.clone()?),
+        };
         Ok(Pin {
             name,
             role,
             cap,
-            timings: timings.clone()?,
+            timings,
         })
     }
 
@@ -77,6 +87,9 @@ impl Pin {
     pub fn timings(&self) -> &[Timing]
         ensures { result.now ≡ self.now.timings }
     {
-        self.timings.as_slice()
+        match &self.timings {
+            Some(timings) => timings.as_slice(),
+            None => &[],
+        }
     }
 }

@@ -1,4 +1,4 @@
-use xt_model::{Name, Row};
+use crate::related::RelatedNames;
 
 /// What a timing group is: arcs (`Combinational`, `RisingEdge`), checks (`SetupRising`, `HoldRising`), or a group whose
 /// tables are not read, because its type is skipped or unsupported.
@@ -25,7 +25,7 @@ pub enum Sense {
 /// `fall`.
 #[derive(Debug, Drop)]
 pub struct Timing {
-    pub related: Row<Name>,
+    pub related: RelatedNames,
     pub kind: TimingKind,
     pub sense: Sense,
     pub rise: Option<u32>,

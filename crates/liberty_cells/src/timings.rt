@@ -8,8 +8,8 @@ ghost use Rattle.text_forms.specs.Refusals.{over};
 ghost use Rattle.liberty_cells.specs.Timings.{with_table, related_of, add_table, lacks_table, does_not_fit};
 ghost use Rattle.liberty_cells.specs.Timings.{empty_timing, read_tables, timing_of, timings_of};
 
-use crate::names::names_of_string;
 use crate::pin::Role;
+use crate::related::RelatedNames;
 use crate::timing::{TableUse, Timing, TimingKind};
 use crate::values::{kind_of, sense_of};
 use liberty_groups::{Attribute, Group};
@@ -19,7 +19,7 @@ use liberty_tables::{
 use name_numbers::NameTable;
 use std::alloc::{AllocError, Global};
 use xt_lex::TextFault;
-use xt_model::{Code, Name, Row, Table};
+use xt_model::{Code, Row, Table};
 
 impl Timing {
     /// The timing group that has a table of this number for a use.
@@ -40,18 +40,15 @@ fn related_of(
     alloc: Global,
     bytes: &[u8],
     attribute: Option<&Attribute>,
-) -> Result<Row<Name>, TextFault>
+) -> Result<RelatedNames, TextFault>
     ensures { Gives (λ names. names) result
         (related_of bytes.now (option_map (λ a. entry_of a.now) attribute.entry)) }
 {
     let Some(attribute) = attribute else {
-        return Ok(Row::from_vec(Vec::new(alloc)));
+        return Ok(RelatedNames::none(alloc));
     };
     match only(alloc, bytes, attribute.values())? {
-        Some(names) => {
-            let names = names_of_string(alloc, attribute.line, names.as_slice())?;
-            Ok(Row::from_vec(names))
-        }
+        Some(text) => RelatedNames::of_string(attribute.line, text),
         None => Err(TextFault::Refused {
             line: attribute.line,
             code: Code::L1,
@@ -171,7 +168,7 @@ fn empty_timing(
     alloc: Global,
     bytes: &[u8],
     role: Role,
-    related: Row<Name>,
+    related: RelatedNames,
     group: &Group,
 ) -> Result<Timing, AllocError>
     ensures { IfOk result (λ timing. timing ≡ empty_timing bytes.now role related (tree_of group.now)) }
