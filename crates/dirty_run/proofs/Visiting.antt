@@ -1,10 +1,10 @@
 -- The parts of a visit, over plain data.
-use Rattle.std.proofs.Common.{◌≡◌, ℕ, zero, suc, ◌+◌, ◌*◌, ◌/◌, ◌%◌, ◌<◌, ◌≤◌, min, max, ◌==◌, nat_lt, Bool, true, false, inl, inr, refl, sym, ap, subst, ◌∙◌, List, [], ◌∷◌, ◌++◌, length, set, get_or, Contains, Some, ℤ, length-append, arith}
+use Rattle.std.proofs.Common.{◌≡◌, ℕ, zero, suc, ◌+◌, ◌*◌, ◌/◌, ◌%◌, ◌<◌, ◌≤◌, min, max, ◌==◌, nat_lt, Bool, true, false, inl, inr, refl, sym, ap, subst, ◌∙◌, List, [], ◌∷◌, ◌++◌, length, set, take, get_or, Contains, Some, ℤ, length-append, arith}
 use Rattle.std.specs.Prelude.{slice_index, IsTrue, IsFalse}
 use Rattle.std.proofs.lemmas.Bool.{cases_lt}
 use Rattle.std.proofs.lemmas.Bool.Decides.{nat_tests}
 use Rattle.std.proofs.lemmas.Int.{ints}
-use Rattle.std.proofs.lemmas.List.{get_or_append_left}
+use Rattle.std.proofs.lemmas.List.{get_or_append_left, length-take-le, take_more_set}
 use Rattle.std.proofs.lemmas.Option.{same_Some}
 use Rattle.std.proofs.lemmas.List.Elements.{Contains-append_right, Contains-append_cases}
 use Rattle.xt_model.specs.declared.direction.Direction.{Direction}
@@ -152,6 +152,14 @@ module _ (u : DirtyView) (net : ℕ) (numbers : List ℕ) (w : DirtyView) (loadi
       let f : Flight = record { net = net; numbers = numbers; published = 0 } in
       let here = step f (flies u net numbers w loading own_whole there own_more) in
       loading_more u net numbers w loading own_whole there own_more n x (subst (λ i. Loaded w f i n x) own_word here)
+
+-- a word that is loaded is put after those before it
+pub loading_put : (u : DirtyView) (net : ℕ) (xs : List ℕ) (at n : ℕ) (x : DirtyView) → at < length xs → IsLoading u net (take at xs ++ n ∷ []) x → IsLoading u net (take (at + 1) (set xs at n)) x
+loading_put u net xs at n x inside more = subst (λ ns. IsLoading u net ns x) (sym (take_more_set xs at n inside)) more
+
+-- as many numbers as there are words before a place
+pub put_count : (xs : List ℕ) (at most : ℕ) → at < most → most ≤ length xs → length (take at xs) ≡ at
+put_count xs at most lt room = length-take-le at xs (omega (arith, lt, room))
 
 -- what the operator makes of what was seen before is no further than what it makes of what was loaded
 pub evaluated_past : (u : DirtyView) (net : ℕ) (seen numbers : List ℕ) → AreReadLists u.base.setting.design u.lists → net < nets_of u.base.setting → length numbers ≡ 8 * length (list_of u.lists net) → AreLoadedFrom u net seen numbers

@@ -1,6 +1,6 @@
 -- Visits to nets: what they ask of a pass and of a worker, and what they leave.
 use Rattle.std.specs.Prelude.{◌≡◌, ℕ, ◌+◌, ◌*◌, ◌%◌, ◌<◌, ◌≤◌, ◌⊎◌, ◌↔◌, nat_lt, Bool, IsTrue, IsFalse, List, [], ◌∷◌}
-use Rattle.std.specs.Prelude.{◌++◌, length, slice_index, vec_capacity, Option, Some, None, if◌then◌else◌}
+use Rattle.std.specs.Prelude.{◌++◌, length, take, slice_index, Option, Some, None, if◌then◌else◌}
 use Rattle.std.specs.List.{Contains}
 use Rattle.xt_model.specs.declared.direction.Direction.{Direction}
 use Rattle.xt_model.specs.declared.net.NetId.{NetId}
@@ -31,9 +31,13 @@ pub record IsRun (board : DirtyId) (d : Parts) (lists readers : List (List NetId
   pub whole : AreReadLists d lists
   pub reversed : AreReaders lists readers
 
+-- the first of several numbers, as many as the words of the read list of a net
+abbrev pub first_words : List (List NetId) → ℕ → List ℕ → List ℕ
+first_words lists net numbers = take (8 * length (list_of lists net)) numbers
+
 -- room for the words of each read list, and a place for each net
 pub record HasRoom (lists : List (List NetId)) (worker : Worker) : Type 0 where
-  pub room : (net : ℕ) → 8 * length (list_of lists net) ≤ vec_capacity worker.loaded
+  pub room : (net : ℕ) → 8 * length (list_of lists net) ≤ length worker.loaded.items
   pub places : length lists ≤ length worker.places.items
 
 -- some word moved

@@ -11,5 +11,5 @@ mod visit;
 mod worker;
 
 pub use settling::{settle_dirty, settle_dirty_in};
-pub use starting::settle_dirty_from;
+pub use starting::{settle_dirty_among, settle_dirty_from};
 pub use worker::DirtyRoom;

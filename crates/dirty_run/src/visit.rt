@@ -1,25 +1,26 @@
 //! A visit to a net: its mark is taken, and where it was set, the net is evaluated and published, and where a word
 //! moved, its readers are marked.
 
-ghost use Rattle.std.specs.Prelude.{◌≡◌, ℕ, ◌*◌, ◌%◌, ◌<◌, ◌≤◌, ◌↔◌, List, [], length, vec_capacity, Some};
+ghost use Rattle.std.specs.Prelude.{◌≡◌, ℕ, ◌*◌, ◌%◌, ◌<◌, ◌≤◌, ◌↔◌, List, [], length, Some};
 ghost use Rattle.std.specs.List.{Contains};
 ghost use Rattle.std.specs.List.Sorted.{IsStrictlyIncreasing};
 ghost use Rattle.xt_model.specs.Quads.{IsPairInRange};
 ghost use Rattle.xt_meaning.specs.Words.{bound_in};
 ghost use Rattle.net_eval.specs.ReadLists.{AreReadLists, ids};
 ghost use Rattle.chaos_core.specs.Boards.{nets_of};
-ghost use Rattle.chaos_core.specs.Tasks.{list_of};
+ghost use Rattle.chaos_core.specs.Tasks.{list_of, evaluated};
+ghost use Rattle.chaos_core.specs.Views.{IsLoaded};
 ghost use Rattle.dirty_words.specs.declared.view.Flight.{Flight};
 ghost use Rattle.dirty_words.specs.Boards.{IsOf};
 ghost use Rattle.dirty_words.specs.Steps.{CanTake, IsNextToPublish};
-ghost use Rattle.dirty_run.specs.Visits.{fresh_flight, HasLoaded, HasPaid, HasPublished, HasRoom, HasVisited};
+ghost use Rattle.dirty_run.specs.Visits.{first_words, fresh_flight, HasLoaded, HasPaid, HasPublished, HasRoom, HasVisited};
 ghost use Rattle.dirty_run.specs.Visits.{IsPublishing, IsReady, IsRun};
 
 use crate::worker::{Run, Worker};
 use chaos_core::{evaluate, moves_down, number_in};
 use dirty_words::{DirtyBoard, DirtyPass};
 use net_eval::ReadLists;
-use xt_model::{Direction, NetId, Pair};
+use xt_model::{Design, Direction, NetId, Pair};
 
 /// Loads all words of the read list of the net in flight.
 fn load_all(
@@ -27,26 +28,48 @@ fn load_all(
     pass: &mut DirtyPass,
     lists: &ReadLists,
     net: NetId,
-    loaded: &mut Vec<u64>,
+    loaded: &mut [u64],
 )
     requires own { IsOf board.now pass.old }
     requires fresh { pass.old.view.flight ≡ Some (fresh_flight net.0) }
     requires there { net.0 < nets_of pass.old.view.base.setting }
     requires lists { pass.old.view.lists ≡ lists.now }
     requires whole { AreReadLists pass.old.view.base.setting.design lists.now }
-    requires room { 8 * length (list_of lists.now net.0) ≤ vec_capacity loaded.old }
+    requires room { 8 * length (list_of lists.now net.0) ≤ length loaded.old }
     ensures own { IsOf board.now pass.new }
-    ensures loaded { HasLoaded pass.old.view net.0 loaded.new.items pass.new.view }
-    ensures room { vec_capacity loaded.new ≡ vec_capacity loaded.old }
+    ensures loaded { HasLoaded pass.old.view net.0 (first_words lists.now net.0 loaded.new) pass.new.view }
+    ensures room { length loaded.new ≡ length loaded.old }
 {
     // What the pass has seen, where there is no word to load.
     pass.respects();
-    loaded.clear();
-    for read in lists.of(net) {
+    let reads = lists.of(net);
+    for read in 0..reads.len() {
+        let first = 8 * reads[read].0 as usize;
         for place in 0..8 {
-            loaded.push_reserved(board.load(pass, 8 * read.0 as usize + place));
+            loaded[8 * read + place] = board.load(pass, first + place);
         }
     }
+}
+
+/// What the operator makes of a net of the numbers loaded for its read list, with which these numbers begin.
+fn evaluate_loaded(
+    design: &Design,
+    lists: &ReadLists,
+    net: NetId,
+    loaded: &[u64],
+    places: &mut [u32],
+) -> Pair
+    requires there { net.0 < length lists.now }
+    requires loaded { IsLoaded design.now (list_of lists.now net.0) net.0 (first_words lists.now net.0 loaded.now) }
+    requires room { 8 * length (list_of lists.now net.0) ≤ length loaded.now }
+    requires places { length design.now.nets ≤ length places.old }
+    ensures value { result
+        ≡ evaluated design.now (list_of lists.now net.0) (first_words lists.now net.0 loaded.now) net.0 }
+    ensures range { IsPairInRange result }
+    ensures count { length places.new ≡ length places.old }
+{
+    let reads = lists.of(net);
+    evaluate(design, reads, net, &loaded[..8 * reads.len()], places)
 }
 
 /// Publishes the next word of the net in flight: whether that moved the word.
@@ -128,10 +151,16 @@ pub(crate) fn visit<G>(run: &Run<'_, G>, pass: &mut DirtyPass, worker: &mut Work
     if !run.board.take(pass, net) {
         return;
     }
-    load_all(run.board, pass, run.lists, net, &mut worker.loaded);
-    let pair = evaluate(
+    load_all(
+        run.board,
+        pass,
+        run.lists,
+        net,
+        worker.loaded.as_mut_slice(),
+    );
+    let pair = evaluate_loaded(
         run.design,
-        run.lists.of(net),
+        run.lists,
         net,
         worker.loaded.as_slice(),
         worker.places.as_mut_slice(),

@@ -37,7 +37,7 @@ impl Worker {
         let Some(room) = lists.longest().checked_mul(8) else {
             return Err(NoMemory);
         };
-        let loaded = Vec::with_capacity(alloc, room)?;
+        let loaded = vec![in alloc; 0; room]?;
         let places = vec![in alloc; 0; lists.count()]?;
         Ok(Worker { loaded, places })
     }

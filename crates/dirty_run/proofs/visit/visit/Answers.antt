@@ -1,12 +1,13 @@
-use Rattle.std.proofs.Common.{◌↔◌, Bool, refl, sym, subst, List, ℕ, Contains}
+use Rattle.std.proofs.Common.{rules, ◌≡◌, ◌↔◌, Bool, refl, sym, ap, subst, ◌∙◌, List, ℕ, length, Contains}
 use Rattle.std.specs.List.Sorted.{IsStrictlyIncreasing}
 use Rattle.xt_model.specs.declared.net.NetId.{NetId}
 use Rattle.net_eval.specs.ReadLists.{ids}
+use Rattle.chaos_core.specs.Tasks.{list_of}
 use Rattle.chaos_core.specs.Views.{IsLoaded}
 use Rattle.dirty_words.specs.declared.view.Flight.{Flight}
 use Rattle.dirty_words.specs.Steps.{mark_of, Took}
-use Rattle.dirty_run.specs.Visits.{IsPublishing}
-use Rattle.dirty_run.proofs.Paying.{evaluated_here, own_lists, own_design, own_inside, own_pair, whole_here, lacks_found, took_nets, loaded_whole, ready_now, owes_now, readers_rise, visited_missed, visited_still, visited_moved}
+use Rattle.dirty_run.specs.Visits.{first_words, IsPublishing}
+use Rattle.dirty_run.proofs.Paying.{evaluated_here, written_all, own_lists, own_design, own_inside, own_pair, whole_here, lacks_found, took_nets, loaded_whole, ready_now, owes_now, readers_rise, visited_missed, visited_still, visited_moved}
 use Rattle.dirty_run.proofs.visit.visit.Goals as goal
 
 pub returns-then-not-take-clause-visited : goal.returns-then-not-take-clause-visited
@@ -17,8 +18,8 @@ returns-then-not-take-clause-visited g c =
     let took = subst (λ (b : Bool). Took v net (mark_of b) w) c.if-not-take.true c.take.ensures.took in
     visited_missed v net w c.respects.ensures (lacks_found v net w took) (took.missed refl)
 
-pub evaluate-pair-requires-clause-loaded : goal.evaluate-pair-requires-clause-loaded
-evaluate-pair-requires-clause-loaded g c =
+pub evaluate_loaded-pair-requires-clause-loaded : goal.evaluate_loaded-pair-requires-clause-loaded
+evaluate_loaded-pair-requires-clause-loaded g c =
     let run = c.requires.run in
     let r = c.args.run.now.board.now.run in
     let d = c.args.run.now.design.now in
@@ -27,12 +28,13 @@ evaluate-pair-requires-clause-loaded g c =
     let net = c.args.net.0 in
     let u = c.take.new.pass.view in
     let w = c.load_all.new.pass.view in
-    let items = c.load_all.new.loaded.items in
+    let items = first_words lists net c.load_all.new.loaded in
     let took = subst (λ (b : Bool). Took v net (mark_of b) u) c.if-not-take.false c.take.ensures.took in
     let one = loaded_whole u net items w d lists c.load_all.ensures.loaded (own_design r u c.take.ensures.own.run d lists run.design run.own run.whole) (own_lists r u c.take.ensures.own.run d lists run.design run.own run.whole) run.whole
     (took_nets v net u took c.requires.take.there) in
-    let P : List NetId → List ℕ → Type 0 = λ rs ns. IsLoaded d (ids rs) net ns in
-    subst (P c.of.result.now) (sym c.as_slice.ensures.value) (subst (λ (rs : List NetId). P rs items) (sym c.of.ensures) one)
+    let all : c.args.worker.now.loaded.len ≡ length c.load_all.new.loaded = search rules in
+    let back = written_all c.args.worker.now.loaded.len c.load_all.new.loaded c.args.worker.now.loaded.items all in
+    subst (λ (ns : List ℕ). IsLoaded d (list_of lists net) net (first_words lists net ns)) (sym (c.as_slice.ensures.value ∙ back)) one
 
 pub publish_all-requires-clause-ready : goal.publish_all-requires-clause-ready
 publish_all-requires-clause-ready g c =
@@ -44,9 +46,11 @@ publish_all-requires-clause-ready g c =
     let net = c.args.net.0 in
     let u = c.take.new.pass.view in
     let w = c.load_all.new.pass.view in
-    let items = c.load_all.new.loaded.items in
-    let pair = c.evaluate-pair.result in
-    let is = evaluated_here d lists net c.of.result.now c.as_slice.result.now items pair c.evaluate-pair.ensures.value c.of.ensures c.as_slice.ensures.value in
+    let items = first_words lists net c.load_all.new.loaded in
+    let pair = c.evaluate_loaded-pair.result in
+    let all : c.args.worker.now.loaded.len ≡ length c.load_all.new.loaded = search rules in
+    let back = written_all c.args.worker.now.loaded.len c.load_all.new.loaded c.args.worker.now.loaded.items all in
+    let is = evaluated_here d (list_of lists net) net (first_words lists net c.as_slice.result.now) items pair c.evaluate_loaded-pair.ensures.value (ap (first_words lists net) (c.as_slice.ensures.value ∙ back)) in
     let f : Flight = record { net = net; numbers = items; published = 0 } in
     let ready = ready_now u net items w pair c.load_all.ensures.loaded (own_pair r u c.take.ensures.own.run d lists run.design run.own run.whole net items pair is) in
     (f, ready)
@@ -58,7 +62,7 @@ pay-requires-clause-once g c =
     let readers = c.args.run.now.readers.now in
     let net = c.args.net.0 in
     let inside = own_inside c.args.run.now.board.now.run c.args.pass.now.view c.requires.own.run c.args.run.now.design.now lists run.design run.own run.whole net c.requires.take.there in
-    subst (λ (rs : List NetId). IsStrictlyIncreasing (ids rs)) (sym c.of-then-publish_all.ensures) (readers_rise lists readers net run.reversed inside)
+    subst (λ (rs : List NetId). IsStrictlyIncreasing (ids rs)) (sym c.of.ensures) (readers_rise lists readers net run.reversed inside)
 
 pub pay-requires-clause-owed : goal.pay-requires-clause-owed
 pay-requires-clause-owed g c =
@@ -70,9 +74,11 @@ pay-requires-clause-owed g c =
     let net = c.args.net.0 in
     let u = c.take.new.pass.view in
     let w = c.load_all.new.pass.view in
-    let items = c.load_all.new.loaded.items in
-    let pair = c.evaluate-pair.result in
-    let is = evaluated_here d lists net c.of.result.now c.as_slice.result.now items pair c.evaluate-pair.ensures.value c.of.ensures c.as_slice.ensures.value in
+    let items = first_words lists net c.load_all.new.loaded in
+    let pair = c.evaluate_loaded-pair.result in
+    let all : c.args.worker.now.loaded.len ≡ length c.load_all.new.loaded = search rules in
+    let back = written_all c.args.worker.now.loaded.len c.load_all.new.loaded c.args.worker.now.loaded.items all in
+    let is = evaluated_here d (list_of lists net) net (first_words lists net c.as_slice.result.now) items pair c.evaluate_loaded-pair.ensures.value (ap (first_words lists net) (c.as_slice.ensures.value ∙ back)) in
     let f : Flight = record { net = net; numbers = items; published = 0 } in
     let ready = ready_now u net items w pair c.load_all.ensures.loaded (own_pair r u c.take.ensures.own.run d lists run.design run.own run.whole net items pair is) in
     let took = subst (λ (b : Bool). Took v net (mark_of b) u) c.if-not-take.false c.take.ensures.took in
@@ -82,7 +88,7 @@ pay-requires-clause-owed g c =
     let same = own_lists r w c.load_all.ensures.own.run d lists run.design run.own run.whole in
     let inside = own_inside r v c.requires.own.run d lists run.design run.own run.whole net c.requires.take.there in
     let did = subst (λ (b : Bool). IsPublishing w net pair f 8 b x) c.if-publish_all.true published in
-    λ m. subst (λ (rs : List NetId). Contains x.owed m ↔ Contains (ids rs) m) (sym c.of-then-publish_all.ensures) (owes_now w net pair f x lists readers did same run.reversed inside m)
+    λ m. subst (λ (rs : List NetId). Contains x.owed m ↔ Contains (ids rs) m) (sym c.of.ensures) (owes_now w net pair f x lists readers did same run.reversed inside m)
 
 pub returns-then-publish_all-clause-visited : goal.returns-then-publish_all-clause-visited
 returns-then-publish_all-clause-visited g c =
@@ -94,9 +100,11 @@ returns-then-publish_all-clause-visited g c =
     let net = c.args.net.0 in
     let u = c.take.new.pass.view in
     let w = c.load_all.new.pass.view in
-    let items = c.load_all.new.loaded.items in
-    let pair = c.evaluate-pair.result in
-    let is = evaluated_here d lists net c.of.result.now c.as_slice.result.now items pair c.evaluate-pair.ensures.value c.of.ensures c.as_slice.ensures.value in
+    let items = first_words lists net c.load_all.new.loaded in
+    let pair = c.evaluate_loaded-pair.result in
+    let all : c.args.worker.now.loaded.len ≡ length c.load_all.new.loaded = search rules in
+    let back = written_all c.args.worker.now.loaded.len c.load_all.new.loaded c.args.worker.now.loaded.items all in
+    let is = evaluated_here d (list_of lists net) net (first_words lists net c.as_slice.result.now) items pair c.evaluate_loaded-pair.ensures.value (ap (first_words lists net) (c.as_slice.ensures.value ∙ back)) in
     let f : Flight = record { net = net; numbers = items; published = 0 } in
     let ready = ready_now u net items w pair c.load_all.ensures.loaded (own_pair r u c.take.ensures.own.run d lists run.design run.own run.whole net items pair is) in
     let took = subst (λ (b : Bool). Took v net (mark_of b) u) c.if-not-take.false c.take.ensures.took in
@@ -116,9 +124,11 @@ returns-else-publish_all-clause-visited g c =
     let net = c.args.net.0 in
     let u = c.take.new.pass.view in
     let w = c.load_all.new.pass.view in
-    let items = c.load_all.new.loaded.items in
-    let pair = c.evaluate-pair.result in
-    let is = evaluated_here d lists net c.of.result.now c.as_slice.result.now items pair c.evaluate-pair.ensures.value c.of.ensures c.as_slice.ensures.value in
+    let items = first_words lists net c.load_all.new.loaded in
+    let pair = c.evaluate_loaded-pair.result in
+    let all : c.args.worker.now.loaded.len ≡ length c.load_all.new.loaded = search rules in
+    let back = written_all c.args.worker.now.loaded.len c.load_all.new.loaded c.args.worker.now.loaded.items all in
+    let is = evaluated_here d (list_of lists net) net (first_words lists net c.as_slice.result.now) items pair c.evaluate_loaded-pair.ensures.value (ap (first_words lists net) (c.as_slice.ensures.value ∙ back)) in
     let f : Flight = record { net = net; numbers = items; published = 0 } in
     let ready = ready_now u net items w pair c.load_all.ensures.loaded (own_pair r u c.take.ensures.own.run d lists run.design run.own run.whole net items pair is) in
     let took = subst (λ (b : Bool). Took v net (mark_of b) u) c.if-not-take.false c.take.ensures.took in
