@@ -1,19 +1,22 @@
 //! How the runs of a design are made, and the windows in which they end.
 
-ghost use Rattle.std.specs.Prelude.{◌≡◌, ℕ, ◌≤◌, IfOk};
+ghost use Rattle.std.specs.Prelude.{◌≡◌, ℕ, ◌≤◌, IfOk, IfSome};
 ghost use Rattle.xt_model.specs.declared.direction.Direction.TheVariants.{Narrow, Widen};
+ghost use Rattle.xt_model.specs.Parts.{Parts};
 ghost use Rattle.xt_model.specs.Build.{IsRoundBound};
 ghost use Rattle.xt_meaning.specs.Barrier.{IsFittingStart};
 ghost use Rattle.xt_meaning.specs.Fixpoint.{IsLeastFixpoint, IsGreatestFixpoint};
 ghost use Rattle.xt_meaning.specs.Laws.{IsExtremeFixpoint};
 ghost use Rattle.net_eval.specs.ReadLists.{AreReadLists};
+ghost use Rattle.dirty_words.specs.Readers.{AreReaders};
 ghost use Rattle.command_line.specs.Words.{IsWorkerCount};
 ghost use Rattle.xtalk_top.specs.Runs.{most_rounds, turns_by};
 
 use chaos_core::{Gate, Settled, settle_picked};
 use chaos_run::{Both, settle_from};
 use command_line::Engine;
-use dirty_run::settle_dirty_from;
+use dirty_run::{settle_dirty_among, settle_dirty_from};
+use dirty_words::{Readers, readers};
 use net_eval::ReadLists;
 use std::alloc::Global;
 use std::thread::Threads;
@@ -50,6 +53,17 @@ pub struct Runs {
     pub turns: Turns,
 }
 
+// The readers of the read lists, where several workers run by marks, for all runs on them.
+fn readers_for(alloc: Global, lists: &ReadLists, runs: Runs) -> Result<Option<Readers>, NoMemory>
+    ensures { IfOk result (λ readers. IfSome readers
+        (λ some. (d : Parts) → AreReadLists d lists.now → AreReaders lists.now some)) }
+{
+    match runs.turns {
+        Turns::ByMarks if 1 < runs.workers => Ok(Some(readers(alloc, lists)?)),
+        _ => Ok(None),
+    }
+}
+
 // A run from a fitting start.
 fn run_from<R: Threads + Sync, G: Gate>(
     rt: &R,
@@ -57,12 +71,14 @@ fn run_from<R: Threads + Sync, G: Gate>(
     gate: &G,
     design: &Design,
     lists: &ReadLists,
+    readers: Option<&Readers>,
     direction: Direction,
     start: &Windows,
     runs: Runs,
 ) -> Result<Settled, NoMemory>
     requires start { IsFittingStart direction design.now start.now }
     requires lists { AreReadLists design.now lists.now }
+    requires readers { IfSome readers (λ some. AreReaders lists.now some.now) }
     requires workers { IsWorkerCount runs.workers }
     ensures extreme { IfOk result (λ settled. IsExtremeFixpoint direction design.now settled.windows) }
     ensures few { IfOk result (λ settled. (bound : ℕ) → IsRoundBound design.now.nets bound
@@ -74,9 +90,12 @@ fn run_from<R: Threads + Sync, G: Gate>(
         Turns::Picked(number) => settle_picked(
             alloc, design, lists, direction, start, workers, number,
         ),
-        Turns::ByMarks => {
-            settle_dirty_from(rt, alloc, design, lists, direction, start, workers, gate)
-        }
+        Turns::ByMarks => match readers {
+            Some(readers) => settle_dirty_among(
+                rt, alloc, design, lists, readers, direction, start, workers, gate,
+            ),
+            None => settle_dirty_from(rt, alloc, design, lists, direction, start, workers, gate),
+        },
     }
 }
 
@@ -101,13 +120,25 @@ pub fn both_from<R: Threads + Sync, G: Gate>(
     ensures few { IfOk result (λ found. (bound : ℕ) → IsRoundBound design.now.nets bound
         → (found.low_rounds ≤ most_rounds runs.turns bound) × (found.high_rounds ≤ most_rounds runs.turns bound)) }
 {
-    let least = run_from(rt, alloc, gate, design, lists, Direction::Widen, low, runs)?;
+    let readers = readers_for(alloc, lists, runs)?;
+    let least = run_from(
+        rt,
+        alloc,
+        gate,
+        design,
+        lists,
+        readers.as_ref(),
+        Direction::Widen,
+        low,
+        runs,
+    )?;
     let greatest = run_from(
         rt,
         alloc,
         gate,
         design,
         lists,
+        readers.as_ref(),
         Direction::Narrow,
         high,
         runs,

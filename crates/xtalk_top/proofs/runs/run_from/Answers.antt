@@ -12,6 +12,10 @@ pub returns-in-Picked-clause-few : goal.returns-in-Picked-clause-few
 returns-in-Picked-clause-few g c =
     IfOk-weaker c.settle_picked.result _ _ (λ settled h bound b. subst (λ (t : Turns). settled.rounds ≤ most_rounds t bound) (sym c.in-Picked.is) (h bound b)) c.settle_picked.ensures.few
 
-pub returns-in-ByMarks-clause-few : goal.returns-in-ByMarks-clause-few
-returns-in-ByMarks-clause-few g c =
+pub returns-in-Some-clause-few : goal.returns-in-Some-clause-few
+returns-in-Some-clause-few g c =
+    IfOk-weaker c.settle_dirty_among.result _ _ (λ settled h bound b. subst (λ (t : Turns). settled.rounds ≤ most_rounds t bound) (sym c.in-ByMarks.is) (h bound b)) c.settle_dirty_among.ensures.few
+
+pub returns-in-None-clause-few : goal.returns-in-None-clause-few
+returns-in-None-clause-few g c =
     IfOk-weaker c.settle_dirty_from.result _ _ (λ settled h bound b. subst (λ (t : Turns). settled.rounds ≤ most_rounds t bound) (sym c.in-ByMarks.is) (h bound b)) c.settle_dirty_from.ensures.few
