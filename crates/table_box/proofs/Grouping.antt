@@ -48,7 +48,3 @@ groups_done tables groups n many all = record {
         loads = a.loads ∙ (ap (λ h. h.loads) heads ∙ sym b.loads);
       };
 }
-
--- where no table has a group
-pub no_groups : (tables : List TableParts) → AreGroups tables []
-no_groups tables = record { each = λ i j t u t_there u_there some same. absurd (let bad : ⊥ = omega (arith, some) in bad) }
