@@ -3,6 +3,8 @@
 
     edits.py PROGRAM [COUNT] [SEED]   compares standard output, standard error and status
     edits.py answers COUNT SEED       prints which answers the drawn edits have, and holds the judge's laws
+    edits.py draw FILE COUNT SEED     prints COUNT edits of a linked text, and `end`, to time `eco`: a pair of coupled
+                                      nets loses a third of its coupling, or that and gets it back, or gets a shield
 
 The designs are those of compare.py, many of them near the limits of times, slews, loads and wires. Every other text of
 edits gets a line that is refused, or nearly so. Texts on which the program and the judge differ are kept and named, and
@@ -103,6 +105,21 @@ def drawn_text(rng, design, is_refused):
         cut = text[:rng.randrange(len(text))]
         text = rng.choice([text[:-1], text[:-4], text + "\n", text + "end\n", text + " ", cut, ""])
     return text.encode("latin-1")
+
+
+def drawn_edits(rng, design, count):
+    """A text of this many edits, which a design with room at its nets allows: each pair of nets is drawn once."""
+    caps = {}
+    for number, net in enumerate(design.nets):
+        for entry in net.couplings:
+            caps.setdefault((min(number, entry.to), max(number, entry.to)), []).append(entry.cap)
+    lines = []
+    for ends in rng.sample(sorted(ends for ends in caps if min(caps[ends]) > 2), count):
+        names = " ".join(design.nets[end].name for end in rng.sample(ends, 2))
+        part = min(caps[ends]) // 3
+        way = rng.choice([["apart"], ["shield"], ["apart", "near"]])
+        lines += [f"{word} {names}" + ("" if word == "shield" else f" {part}") for word in way]
+    return "\n".join([*lines[:count], "end", ""])
 
 
 # ---- Edges ------------------------------------------------------------------------------
@@ -227,6 +244,10 @@ def main(words):
             if design and miller is None:
                 laws(design, text)
         print(dict(kinds.most_common()))
+        return 0
+    if words[:1] == ["draw"] and len(words) == 4:
+        with open(words[1], encoding="latin-1", newline="") as file:
+            print(drawn_edits(random.Random(int(words[3])), plain.guess(file.read()), int(words[2])), end="")
         return 0
     if not words or len(words) > 3 or words[0] in ("-h", "--help"):
         print(__doc__.strip(), file=sys.stderr)
