@@ -38,10 +38,11 @@ pub struct Ended {
     pub err: MemorySink,
 }
 
-/// What is outside: the numbers of the calls on the files and on the output that fail, the most bytes that the output
-/// takes at a time, how many it has room for, and the text of the file `edits`.
+/// What is outside: the name of the first file, the numbers of the calls on the files and on the output that fail, the
+/// most bytes that the output takes at a time, how many it has room for, and the text of the file `edits`.
 #[derive(Drop)]
 pub struct Outside {
+    pub name: &'static str,
     pub files: Vec<u64>,
     pub out: Vec<u64>,
     pub most: usize,
@@ -50,9 +51,10 @@ pub struct Outside {
     ghost some: { 0 < most },
 }
 
-/// No call fails.
+/// The first file is `one.xt`, and no call fails.
 pub fn calm(alloc: Global) -> Outside {
     Outside {
+        name: "one.xt",
         files: Vec::new(alloc),
         out: Vec::new(alloc),
         most: 1 << 30,
@@ -71,15 +73,16 @@ pub fn words_of(alloc: Global, line: &str) -> Result<Vec<String>, AllocError> {
     Ok(words)
 }
 
-/// The files `one.xt` and `edits`.
+/// A file of this name, and the file `edits`.
 fn two_files(
     alloc: Global,
+    name: &str,
     text: &[u8],
     edits: &[u8],
     fail: Vec<u64>,
 ) -> Result<MemoryFiles, Fail> {
     let mut held = Vec::new(alloc);
-    for (name, bytes) in [("one.xt", text), ("edits", edits)] {
+    for (name, bytes) in [(name, text), ("edits", edits)] {
         held.push((
             String::from_str(alloc, name)?,
             Vec::from_slice(alloc, bytes)?,
@@ -88,9 +91,10 @@ fn two_files(
     Ok(MemoryFiles::new(alloc, held, fail)?)
 }
 
-/// The file `one.xt` with this text, the file `edits`, and two streams.
+/// The first file with this text, the file `edits`, and two streams.
 pub fn streams_of(alloc: Global, text: &[u8], outside: Outside) -> Result<Streams, Fail> {
     let Outside {
+        name,
         files,
         out,
         most,
@@ -99,11 +103,11 @@ pub fn streams_of(alloc: Global, text: &[u8], outside: Outside) -> Result<Stream
     } = outside;
     let err = MemorySink::new(alloc, Vec::new(alloc), 4096, 4096)?;
     let out = MemorySink::new(alloc, out, most, room)?;
-    let files = two_files(alloc, text, edits.as_str().as_bytes(), files)?;
+    let files = two_files(alloc, name, text, edits.as_str().as_bytes(), files)?;
     Ok(Streams { files, out, err })
 }
 
-/// Runs the words where `one.xt` has this text.
+/// Runs the words where the first file has this text.
 pub fn run<R: Threads + Sync>(
     rt: &R,
     alloc: Global,

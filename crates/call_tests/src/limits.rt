@@ -1,6 +1,6 @@
 //! Texts that are refused, and texts at the ends of what is taken.
 
-use crate::call::{prints, refuses};
+use crate::call::{calm, prints, refuses, run};
 use crate::designs::{CROSS, CROSS_REPORT, ONE};
 use crate::refused_texts::{
     BACKWARD, CHECKED, LOOP, NEWER, PADDED, TOO_EARLY, TOO_LATE, TOO_SLOW, TWICE, UNENDED, UNKNOWN,
@@ -44,13 +44,30 @@ fn refuses_texts_limits_and_names(rt: HostRuntime) -> Result<(), Fail> {
     Ok(())
 }
 
+/// Whether a call of `solve` on a file of this name and text ends with this status and this line, and prints nothing.
+fn refuses_file<R: Threads + Sync>(
+    rt: &R,
+    alloc: Global,
+    name: &'static str,
+    text: &[u8],
+    status: u8,
+    line: &str,
+) -> Result<bool, Fail> {
+    let words = format!(in alloc; "solve {name}")?;
+    let mut outside = calm(alloc);
+    outside.name = name;
+    let ended = run(rt, alloc, words.as_str(), text, outside)?;
+    let told = ended.err.bytes() == line.as_bytes();
+    Ok(told && ended.status == status && ended.out.bytes().is_empty())
+}
+
 // One byte more than a file may have.
 #[test]
 fn refuses_a_file_that_is_too_long(rt: HostRuntime) -> Result<(), Fail> {
     let alloc = rt.alloc();
     let zeros: Vec<u8> = vec![in alloc; 0; 268_435_457]?;
-    let line = b"limit: file one.xt 268435457\n";
-    assert!(rt; refuses(&rt, alloc, "solve one.xt", &zeros, 5, line)?);
+    let line = "limit: file f 268435457\n";
+    assert!(rt; refuses_file(&rt, alloc, "f", &zeros, 5, line)?);
     Ok(())
 }
 
@@ -61,8 +78,8 @@ fn ends_at<R: Threads + Sync>(
     text: &[u8],
     lines: usize,
 ) -> Result<bool, Fail> {
-    let line = format!(in alloc; "one.xt:{}: X1\n", lines.saturating_add(1))?;
-    refuses(rt, alloc, "solve one.xt", text, 3, line.as_bytes())
+    let line = format!(in alloc; "cross.xt:{}: X1\n", lines.saturating_add(1))?;
+    refuses_file(rt, alloc, "cross.xt", text, 3, line.as_str())
 }
 
 /// Whether the text of the crossed nets is refused after each of its lines but the last, and prints their report after
