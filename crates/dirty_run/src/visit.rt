@@ -1,20 +1,20 @@
 //! A visit to a net: its mark is taken, and where it was set, the net is evaluated and published, and where a word
 //! moved, its readers are marked.
 
-ghost use Rattle.std.specs.Prelude.{◌≡◌, ℕ, ◌*◌, ◌%◌, ◌<◌, ◌≤◌, ◌↔◌, List, [], length, Some};
+ghost use Rattle.std.specs.Prelude.{◌≡◌, ℕ, ◌*◌, ◌%◌, ◌<◌, ◌≤◌, ◌↔◌, List, [], length, slice_index, Some};
 ghost use Rattle.std.specs.List.{Contains};
 ghost use Rattle.std.specs.List.Sorted.{IsStrictlyIncreasing};
 ghost use Rattle.xt_model.specs.Quads.{IsPairInRange};
-ghost use Rattle.xt_meaning.specs.Words.{bound_in};
+ghost use Rattle.xt_meaning.specs.Words.{bound_in, number_for};
 ghost use Rattle.net_eval.specs.ReadLists.{AreReadLists, ids};
 ghost use Rattle.chaos_core.specs.Boards.{nets_of};
-ghost use Rattle.chaos_core.specs.Tasks.{list_of, evaluated};
+ghost use Rattle.chaos_core.specs.Tasks.{list_of, evaluated, bound_at};
 ghost use Rattle.chaos_core.specs.Views.{IsLoaded};
 ghost use Rattle.dirty_words.specs.declared.view.Flight.{Flight};
 ghost use Rattle.dirty_words.specs.Boards.{IsOf};
 ghost use Rattle.dirty_words.specs.Steps.{CanTake, IsNextToPublish};
-ghost use Rattle.dirty_run.specs.Visits.{first_words, fresh_flight, HasLoaded, HasPaid, HasPublished, HasRoom, HasVisited};
-ghost use Rattle.dirty_run.specs.Visits.{IsPublishing, IsReady, IsRun};
+ghost use Rattle.dirty_run.specs.Visits.{first_words, fresh_flight, HasLoaded, HasPaid, HasPublished, HasRoom};
+ghost use Rattle.dirty_run.specs.Visits.{HasVisited, IsPublishing, IsReady, IsRun};
 
 use crate::worker::{Run, Worker};
 use chaos_core::{evaluate, moves_down, number_in};
@@ -94,6 +94,31 @@ fn publish(
     board.raise(pass, word, value) < value
 }
 
+/// The numbers of the eight words of a net with these windows.
+fn numbers_in(pair: &Pair) -> [u64; 8]
+    requires range { IsPairInRange pair.now }
+    ensures { (place : ℕ) → place < 8 → slice_index result place ≡ number_for (bound_at pair.now place) }
+{
+    [
+        number_in(pair, 0),
+        number_in(pair, 1),
+        number_in(pair, 2),
+        number_in(pair, 3),
+        number_in(pair, 4),
+        number_in(pair, 5),
+        number_in(pair, 6),
+        number_in(pair, 7),
+    ]
+}
+
+/// One of several numbers.
+fn number_at(numbers: &[u64], place: usize) -> u64
+    requires { place < length numbers.now }
+    ensures { result ≡ slice_index numbers.now place }
+{
+    numbers[place]
+}
+
 /// Publishes the eight words of the net in flight: whether one of them moved.
 fn publish_all(
     board: &DirtyBoard,
@@ -113,10 +138,11 @@ fn publish_all(
         → IsPublishing pass.old.view net.0 pair.now f 8 result pass.new.view }
 {
     pass.respects();
+    let numbers = numbers_in(pair);
     let mut moved = false;
     for place in 0..8 {
-        let word = 8 * net.0 as usize + place as usize;
-        if publish(board, pass, way, word, number_in(pair, place)) {
+        let word = 8 * net.0 as usize + place;
+        if publish(board, pass, way, word, number_at(&numbers, place)) {
             moved = true;
         }
     }

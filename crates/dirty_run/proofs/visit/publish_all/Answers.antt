@@ -1,4 +1,4 @@
-use Rattle.std.proofs.Common.{◌≡◌, ◌+◌, Bool, sym, subst, arith}
+use Rattle.std.proofs.Common.{◌≡◌, ◌+◌, Bool, sym, subst, ◌∙◌, arith}
 use Rattle.dirty_run.specs.Visits.{IsPublishing}
 use Rattle.dirty_run.proofs.Visiting.{none_published, ready_at, value_found, next_way, next_inside, next_to_publish, next_moved, next_stayed}
 use Rattle.dirty_run.proofs.visit.publish_all.Goals.{then-publish, else-publish}
@@ -18,8 +18,8 @@ publish-requires-clause-way c =
     let f = c.requires.ready.0 in
     let ready = c.requires.ready.1 in
     let at = c.loop-place.invariant.published f ready.flight in
-    let is = value_found c.args.pair.now c.loop-place.place c.requires.range c.number_in.result c.number_in.ensures in
-    next_way u c.args.net.0 c.args.pair.now f ready c.loop-place.place c.loop-place.moved c.loop-place.pass.view at c.requires.free c.requires.there c.loop-place-test.true c.number_in.result is c.args.way c.requires.way
+    let is = value_found c.args.pair.now c.loop-place.place c.requires.range c.number_at.result (c.number_at.ensures ∙ c.numbers_in-numbers.ensures c.loop-place.place c.loop-place-test.true) in
+    next_way u c.args.net.0 c.args.pair.now f ready c.loop-place.place c.loop-place.moved c.loop-place.pass.view at c.requires.free c.requires.there c.loop-place-test.true c.number_at.result is c.args.way c.requires.way
 
 pub publish-requires-clause-word : goal.publish-requires-clause-word
 publish-requires-clause-word c =
@@ -27,8 +27,8 @@ publish-requires-clause-word c =
     let f = c.requires.ready.0 in
     let ready = c.requires.ready.1 in
     let at = c.loop-place.invariant.published f ready.flight in
-    let is = value_found c.args.pair.now c.loop-place.place c.requires.range c.number_in.result c.number_in.ensures in
-    next_inside u c.args.net.0 c.args.pair.now f ready c.loop-place.place c.loop-place.moved c.loop-place.pass.view at c.requires.free c.requires.there c.loop-place-test.true c.number_in.result is
+    let is = value_found c.args.pair.now c.loop-place.place c.requires.range c.number_at.result (c.number_at.ensures ∙ c.numbers_in-numbers.ensures c.loop-place.place c.loop-place-test.true) in
+    next_inside u c.args.net.0 c.args.pair.now f ready c.loop-place.place c.loop-place.moved c.loop-place.pass.view at c.requires.free c.requires.there c.loop-place-test.true c.number_at.result is
 
 pub publish-requires-clause-next : goal.publish-requires-clause-next
 publish-requires-clause-next c =
@@ -37,8 +37,8 @@ publish-requires-clause-next c =
     let ready = c.requires.ready.1 in
     let place = c.loop-place.place in
     let at = c.loop-place.invariant.published f ready.flight in
-    let is = value_found c.args.pair.now place c.requires.range c.number_in.result c.number_in.ensures in
-    (record f { published = place }, next_to_publish u c.args.net.0 c.args.pair.now f ready place c.loop-place.moved c.loop-place.pass.view at c.requires.free c.requires.there c.loop-place-test.true c.number_in.result is)
+    let is = value_found c.args.pair.now place c.requires.range c.number_at.result (c.number_at.ensures ∙ c.numbers_in-numbers.ensures c.loop-place.place c.loop-place-test.true) in
+    (record f { published = place }, next_to_publish u c.args.net.0 c.args.pair.now f ready place c.loop-place.moved c.loop-place.pass.view at c.requires.free c.requires.there c.loop-place-test.true c.number_at.result is)
 
 pub loop-place-preserved : goal.loop-place-preserved
 loop-place-preserved c =
@@ -47,15 +47,15 @@ loop-place-preserved c =
     let pair = c.args.pair.now in
     let place = c.loop-place.place in
     let x = c.publish.new.pass.view in
-    let is = value_found pair place c.requires.range c.number_in.result c.number_in.ensures in
+    let is = value_found pair place c.requires.range c.number_at.result (c.number_at.ensures ∙ c.numbers_in-numbers.ensures c.loop-place.place c.loop-place-test.true) in
     record {
       own = c.publish.ensures.own;
       published = λ f e.
           let ready = ready_at u net pair c.requires.ready.0 f c.requires.ready.1 e in
           let at = c.loop-place.invariant.published f e in
           elim c.if-publish.branch [
-            | then-publish w ↦ subst (λ (b : Bool). IsPublishing u net pair f (place + 1) b x) (sym w.moved-is) (next_moved u net pair f ready place c.loop-place.moved c.loop-place.pass.view at c.requires.free c.requires.there c.loop-place-test.true c.number_in.result is c.publish.result x c.publish.ensures.published w.if-publish.true)
-            | else-publish w ↦ subst (λ (b : Bool). IsPublishing u net pair f (place + 1) b x) (sym w.moved-is) (next_stayed u net pair f ready place c.loop-place.moved c.loop-place.pass.view at c.requires.free c.requires.there c.loop-place-test.true c.number_in.result is c.publish.result x c.publish.ensures.published w.if-publish.false)
+            | then-publish w ↦ subst (λ (b : Bool). IsPublishing u net pair f (place + 1) b x) (sym w.moved-is) (next_moved u net pair f ready place c.loop-place.moved c.loop-place.pass.view at c.requires.free c.requires.there c.loop-place-test.true c.number_at.result is c.publish.result x c.publish.ensures.published w.if-publish.true)
+            | else-publish w ↦ subst (λ (b : Bool). IsPublishing u net pair f (place + 1) b x) (sym w.moved-is) (next_stayed u net pair f ready place c.loop-place.moved c.loop-place.pass.view at c.requires.free c.requires.there c.loop-place-test.true c.number_at.result is c.publish.result x c.publish.ensures.published w.if-publish.false)
           ];
     }
 
