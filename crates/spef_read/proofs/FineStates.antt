@@ -97,7 +97,7 @@ fine_of a b c d e f g h i j k = record {
 abbrev pub IsFine : State → Type 0
 IsFine s = AreFineParts s.marks.delimiter s.map s.names s.nets s.net s.total s.caps s.resistors s.first s.cap_second s.res_second
 
--- the state behind is fine, and no name was lost
+-- the state after it is fine, and no name was lost
 abbrev pub Leads : State → State → Type 0
 Leads s s' = IsFine s' × (length s.names ≤ length s'.names)
 
@@ -210,7 +210,7 @@ module _ (s s' : State) (h : IsFine s) where
   end_pair_leads word g e = pair_by (pair_name s.marks word) (λ name at. (pair_name_is s.marks word name g at).graphic) e
 
 -- ---- nodes
--- a name that has been entered, and the state behind
+-- a name that has been entered, and the state after it
 pub record IsEntered (s : State) (x : Name × State) : Type 0 where
   pub fine : IsFine x.1
   pub there : IsOf (length x.1.names) x.0

@@ -1,7 +1,7 @@
 //! What may come next.
 
 /// What may come next in a SPEF text.
-#[derive(Clone, Copy, Debug, PartialEq, Eq)]
+#[derive(Clone, Copy)]
 pub enum Context {
     /// The start of the text: `*SPEF`.
     Start,

@@ -4,14 +4,14 @@ use crate::context::Context;
 use xt_model::Code;
 
 /// Which of two marks of names an item of the header gives.
-#[derive(Clone, Copy, Debug, PartialEq, Eq)]
+#[derive(Clone, Copy)]
 pub enum Separator {
     Divider,
     Delimiter,
 }
 
 /// What a unit is of.
-#[derive(Clone, Copy, Debug, PartialEq, Eq)]
+#[derive(Clone, Copy)]
 pub enum Quantity {
     Time,
     Capacitance,

@@ -11,7 +11,7 @@ use xt_lex::Kind;
 use xt_model::Code;
 
 /// What a token is to the grammar.
-#[derive(Clone, Copy, Debug, PartialEq, Eq)]
+#[derive(Clone, Copy)]
 pub enum Sort {
     /// `*SPEF`.
     Spef,
