@@ -218,3 +218,33 @@ before_turn ps ws ns new left more rest others a b i j p w n same h first second
       left_count = omega (arith, some, fewer);
       rest_count = omega (arith, others_count, less);
     }
+
+-- ---- sinks and forms that are used up one by one
+-- the sinks that are made, and what is left of the sinks of the net and of the forms, with the numbers of these
+pub record AreFilledBefore (ss : List Sink) (fs : List SinkSums) (made : List SinkPin) (left : List SinkSums) (rest : List Sink) (a b : ℕ) : Type 0 where
+  pub value : made ≡ filled_sinks (map plain_sink (take (length made) ss)) (take (length made) fs)
+  pub sums : All IsSinkSums (take (length made) fs)
+  pub left_is : left ≡ drop (length made) fs
+  pub rest_is : rest ≡ drop (length made) ss
+  pub left_count : a ≡ length left
+  pub rest_count : b ≡ length rest
+
+pub filled_turn : (ss : List Sink) (fs : List SinkSums) (made new : List SinkPin) (left more : List SinkSums) (rest others : List Sink) (a b i j : ℕ) (s : Sink) (f : SinkSums) (v : SinkPin)
+    → length fs ≡ length ss → AreFilledBefore ss fs made left rest a b → left ≡ f ∷ more → rest ≡ s ∷ others → i + 1 ≡ a → j + 1 ≡ b
+    → v ≡ record { name = sink_name s.end; base = f.base; coefs = f.coefs } → IsSinkSums f → new ≡ made ++ v ∷ [] → AreFilledBefore ss fs new more others i j
+filled_turn ss fs made new left more rest others a b i j s f v same h first second fewer less is sound next =
+    let x = front fs (length made) f more (sym first ∙ h.left_is) in
+    let y = front ss (length made) s others (sym second ∙ h.rest_is) in
+    let size : length new ≡ length made + 1 = ap length next ∙ length-append made (v ∷ []) in
+    let some = h.left_count ∙ ap length first in
+    let others_count = h.rest_count ∙ ap length second in
+    let value = sinks_turn ss fs (length made) s f made new v same y.within y.is x.is h.value next is in
+    let sums = sums_turn fs (length made) f x.within x.is h.sums sound in
+    record {
+      value = value ∙ ap (λ k. filled_sinks (map plain_sink (take k ss)) (take k fs)) (sym size);
+      sums = subst (λ k. All IsSinkSums (take k fs)) (sym size) sums;
+      left_is = x.behind ∙ ap (λ k. drop k fs) (sym size);
+      rest_is = y.behind ∙ ap (λ k. drop k ss) (sym size);
+      left_count = omega (arith, some, fewer);
+      rest_count = omega (arith, others_count, less);
+    }

@@ -15,37 +15,37 @@ use std::alloc::{AllocError, Global};
 use xt_model::{Coupling, GivenPair, Net, Row, SinkPin};
 
 /// A sink with the sums of its wire.
-fn sink_pin(alloc: Global, sink: Sink, form: &SinkForm) -> Result<SinkPin, AllocError>
-    ensures value { IfOk result
-        (λ s. s ≡ record { name = sink_name sink.end; base = form.now.base; coefs = form.now.coefs }) }
-    ensures sums { IfOk result (λ s. IsSinkSums form.now) }
+fn sink_pin(sink: Sink, form: SinkForm) -> SinkPin
+    ensures value { result ≡ record { name = sink_name sink.end; base = form.base; coefs = form.coefs } }
+    ensures sums { IsSinkSums form }
 {
     let Sink { end, cap: _ } = sink;
-    let coefs = Vec::from_slice(alloc, form.coefs())?;
-    Ok(SinkPin {
+    let (base, coefs) = form.into_parts();
+    SinkPin {
         name: end.into_name(),
-        base: form.base(),
-        coefs: Row::from_vec(coefs),
-    })
+        base,
+        coefs,
+    }
 }
 
 /// The sinks of a net with the sums of its wire.
 fn sink_pins(
     alloc: Global,
     sinks: Vec<Sink>,
-    forms: &[SinkForm],
+    forms: Vec<SinkForm>,
 ) -> Result<Row<SinkPin>, AllocError>
-    requires { length forms.now ≡ length sinks.items }
-    ensures value { IfOk result (λ s. s ≡ filled_sinks (map plain_sink sinks.items) forms.now) }
-    ensures sums { IfOk result (λ s. All IsSinkSums forms.now) }
+    requires { length forms.items ≡ length sinks.items }
+    ensures value { IfOk result (λ s. s ≡ filled_sinks (map plain_sink sinks.items) forms.items) }
+    ensures sums { IfOk result (λ s. All IsSinkSums forms.items) }
 {
-    let mut made = Vec::new(alloc);
+    let mut made = Vec::with_capacity(alloc, sinks.len())?;
+    let mut left = forms.into_iter();
     let mut rest = sinks.into_iter();
-    for form in forms {
+    'filled: while let Some(form) = left.next() {
         let Some(sink) = rest.next() else {
             unreachable!()
         };
-        made.push(sink_pin(alloc, sink, form)?)?;
+        made.push(sink_pin(sink, form))?;
     }
     Ok(Row::from_vec(made))
 }
@@ -55,11 +55,11 @@ fn formed_net(
     alloc: Global,
     pins: NetPins,
     couplings: Row<Coupling>,
-    form: &WireForm,
+    form: WireForm,
 ) -> Result<Net, AllocError>
-    requires { length form.now.sinks ≡ length pins.sinks }
-    ensures is { IfOk result (λ n. n ≡ net_by pins couplings form.now) }
-    ensures sums { IfOk result (λ _. All IsSinkSums form.now.sinks) }
+    requires { length form.sinks ≡ length pins.sinks }
+    ensures is { IfOk result (λ n. n ≡ net_by pins couplings form) }
+    ensures sums { IfOk result (λ _. All IsSinkSums form.sinks) }
     ensures name { IfOk result (λ _. IsName pins.name) }
     ensures few { IfOk result (λ _. length pins.sinks < 2 ^ 32) }
 {
@@ -76,11 +76,12 @@ fn formed_net(
         sinks,
         arcs,
     } = pins;
-    let sinks = sink_pins(alloc, sinks.into_vec(), form.sinks.as_slice())?;
+    let WireForm { load, sinks: forms } = form;
+    let sinks = sink_pins(alloc, sinks.into_vec(), forms.into_vec())?;
     Ok(Net {
         name,
         input,
-        load: form.load,
+        load,
         given,
         couplings,
         sinks,
@@ -95,7 +96,7 @@ fn net_of(alloc: Global, pins: NetPins, wire: NetWire) -> Result<Net, AllocError
 {
     let form = form(alloc, &wire)?;
     let NetWire { couplings, tree: _ } = wire;
-    formed_net(alloc, pins, couplings, &form)
+    formed_net(alloc, pins, couplings, form)
 }
 
 /// Nets by their pins with their wires, which are used up one by one.
@@ -107,7 +108,7 @@ pub fn nets_of(
     requires { FitAll circuit.items wires.items }
     ensures { IfOk result (λ nets. AreMade circuit.items wires.items nets.items) }
 {
-    let mut nets = Vec::new(alloc);
+    let mut nets = Vec::with_capacity(alloc, circuit.len())?;
     let mut left = circuit.into_iter();
     let mut rest = wires.into_iter();
     'nets: while let Some(pins) = left.next() {

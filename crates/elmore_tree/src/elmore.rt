@@ -18,6 +18,7 @@ use crate::reached::{first_unreached, needed_nodes, resistors_in};
 use crate::sums::elmore_sums;
 use crate::tree::Tree;
 use crate::walk::{Step, Walked, walk_from_root};
+use smallvec::SmallVec;
 use std::alloc::{AllocError, Global};
 use xt_model::Row;
 
@@ -121,7 +122,7 @@ fn sink_forms(alloc: Global, tree: &Tree, steps: &[Step]) -> Result<Vec<SinkForm
     let caps = grounds(alloc, tree)?;
     let bases = elmore_sums(alloc, tree, steps, caps)?;
     let order = TapOrder::new(alloc, tree, steps)?;
-    let mut row = vec![in alloc; 0; steps.len() + 1]?;
+    let mut row: SmallVec<u64, 32> = SmallVec::from_elem(alloc, 0, steps.len() + 1)?;
     forms_by(alloc, tree, sinks, steps, &bases, &order, &mut row)
 }
 

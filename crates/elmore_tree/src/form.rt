@@ -51,6 +51,16 @@ impl SinkForm {
     {
         self.coefs.as_slice()
     }
+
+    /// The base and the coefficients, of sums that are not needed any more.
+    pub fn into_parts(self) -> (i128, Row<i128>)
+        ensures base { result.0 ≡ self.base }
+        ensures coefs { result.1 ≡ self.coefs }
+        ensures sound { IsSinkSums self }
+    {
+        let SinkForm { base, coefs } = self;
+        (base, coefs)
+    }
 }
 
 /// The Elmore form of a wire: its load to ground in aF, and the sums of each sink.

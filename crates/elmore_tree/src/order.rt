@@ -8,19 +8,19 @@ ghost use Rattle.elmore_tree.specs.Walks.{is_visited};
 ghost use Rattle.elmore_tree.specs.Orders.{IsPreorderWalk, AreTapped, ArePlaces, AreResistances, AreLinkedBack};
 ghost use Rattle.elmore_tree.specs.Orders.{AreLinkedOn, IsTapOrder, IsRowFrom, IsRowOf, common};
 
+use crate::reached::{Marks, mark_taps};
 use crate::sums::resistance;
 use crate::tree::Tree;
 use crate::walk::Step;
+use smallvec::SmallVec;
 use std::alloc::{AllocError, Global};
 
 /// A mark for each node that has a tap.
-fn tapped_nodes(alloc: Global, tree: &Tree) -> Result<Vec<bool>, AllocError>
+fn tapped_nodes(alloc: Global, tree: &Tree) -> Result<Marks, AllocError>
     ensures { IfOk result (λ marks. AreTapped tree.now marks.items) }
 {
-    let mut marks = vec![in alloc; false; tree.nodes() as usize]?;
-    for tap in tree.taps() {
-        marks[tap.node as usize] = true;
-    }
+    let mut marks = SmallVec::from_elem(alloc, false, tree.nodes() as usize)?;
+    mark_taps(&mut marks, tree.taps());
     Ok(marks)
 }
 

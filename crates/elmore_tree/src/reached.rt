@@ -8,7 +8,11 @@ ghost use Rattle.elmore_tree.specs.Gathering.{IsFirstUnreached, IsAllReached, Ar
 
 use crate::part::{Resistor, Tap};
 use crate::tree::Tree;
+use smallvec::SmallVec;
 use std::alloc::{AllocError, Global};
+
+/// A mark for each node of a wire. Most wires have few.
+pub type Marks = SmallVec<bool, 32>;
 
 /// How many resistors have their ends at marked nodes; both ends are marked or neither is.
 pub fn resistors_in(resistors: &[Resistor], reached: &[bool]) -> usize
@@ -25,10 +29,10 @@ pub fn resistors_in(resistors: &[Resistor], reached: &[bool]) -> usize
 }
 
 /// A mark for each node that has capacitance to ground above 0.
-fn charged_nodes(alloc: Global, tree: &Tree) -> Result<Vec<bool>, AllocError>
+fn charged_nodes(alloc: Global, tree: &Tree) -> Result<Marks, AllocError>
     ensures { IfOk result (λ marks. marks.items ≡ map (λ g. int_lt (pos 0) g) tree.now.ground) }
 {
-    let mut marks = Vec::with_capacity(alloc, tree.ground().len())?;
+    let mut marks = SmallVec::with_capacity(alloc, tree.ground().len())?;
     for ground in tree.ground() {
         marks.push(*ground > 0)?;
     }
@@ -46,7 +50,7 @@ fn mark_sinks(marks: &mut [bool], sinks: &[u32])
 }
 
 /// Marks the nodes of taps.
-fn mark_taps(marks: &mut [bool], taps: &[Tap])
+pub fn mark_taps(marks: &mut [bool], taps: &[Tap])
     requires { All (λ t. t.node < length marks.old) taps.now }
     ensures { AreMarked (λ t. t.node) taps.now marks.old marks.new }
 {
@@ -56,7 +60,7 @@ fn mark_taps(marks: &mut [bool], taps: &[Tap])
 }
 
 /// A mark for each node that has a sink, a tap or capacitance to ground above 0.
-pub fn needed_nodes(alloc: Global, tree: &Tree) -> Result<Vec<bool>, AllocError>
+pub fn needed_nodes(alloc: Global, tree: &Tree) -> Result<Marks, AllocError>
     ensures count { IfOk result (λ needed. length needed.items ≡ tree.now.nodes) }
     ensures each { IfOk result (λ needed. (k : ℕ) → is_in needed.items k ≡ is_needed tree.now k) }
 {

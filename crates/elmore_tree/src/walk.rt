@@ -16,7 +16,7 @@ use std::alloc::{AllocError, Global};
 use std::marker::Model;
 
 /// A step of a walk: from a node by the resistor of this number to another node.
-#[derive(Clone, Copy, Debug, PartialEq, Eq)]
+#[derive(Clone, Copy, Debug, PartialEq, Eq, Default)]
 pub struct Step {
     pub from: u32,
     pub resistor: usize,
@@ -100,7 +100,7 @@ fn far_end(resistor: &Resistor, node: u32) -> u32
 struct Walk {
     reached: Vec<bool>,
     steps: Vec<Step>,
-    pending: Vec<Step>,
+    pending: SmallVec<Step, 8>,
 }
 
 impl Walk {
@@ -112,7 +112,7 @@ impl Walk {
         let mut reached = vec![in alloc; false; nodes]?;
         reached[tree.root() as usize] = true;
         let steps = Vec::with_capacity(alloc, nodes)?;
-        let pending = Vec::with_capacity(alloc, nodes)?;
+        let pending = SmallVec::new(alloc);
         Ok(Walk {
             reached,
             steps,

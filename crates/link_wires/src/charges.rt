@@ -87,7 +87,7 @@ pub fn charges_of(
     ensures { IfOk result
         (λ c. c.items ≡ charges_of nodes.now.list sinks.now (wire_by nodes.now.parasitics wire.now)) }
 {
-    let mut charges = Vec::new(alloc);
+    let mut charges = Vec::with_capacity(alloc, sinks.len() + wire.caps.len() + 1)?;
     let mut k = 0;
     let mut left = sinks;
     'sinks: while let [sink, more @ ..] = left {
@@ -131,6 +131,17 @@ fn add_tap(
     }
 }
 
+/// How many of the capacitors have a coupling.
+fn coupled(caps: &[CapAt]) -> usize {
+    let mut count = 0;
+    for cap in caps {
+        if cap.to.is_some() {
+            count += 1;
+        }
+    }
+    count
+}
+
 /// The taps of the tree, one for each coupling, at the capacitor's own node.
 pub fn taps_of(
     alloc: Global,
@@ -142,7 +153,7 @@ pub fn taps_of(
         ≡ filter_map (tap_of nodes.now.list (wire_by nodes.now.parasitics wire.now))
         (wire_by nodes.now.parasitics wire.now).caps) }
 {
-    let mut taps = Vec::new(alloc);
+    let mut taps = Vec::with_capacity(alloc, coupled(&wire.caps))?;
     let mut caps = wire.caps.as_slice();
     'caps: while let [cap, more @ ..] = caps {
         add_tap(&mut taps, nodes, wire, cap)?;
@@ -174,7 +185,7 @@ fn add_coupling(couplings: &mut Vec<Coupling>, cap: &CapAt) -> Result<(), AllocE
 pub fn couplings_of(alloc: Global, wire: &WireParts<'_>) -> Result<Vec<Coupling>, AllocError>
     ensures { IfOk result (λ c. (p : Parasitics) → c.items ≡ couplings_of (wire_by p wire.now)) }
 {
-    let mut couplings = Vec::new(alloc);
+    let mut couplings = Vec::with_capacity(alloc, coupled(&wire.caps))?;
     let mut caps = wire.caps.as_slice();
     'caps: while let [cap, more @ ..] = caps {
         add_coupling(&mut couplings, cap)?;

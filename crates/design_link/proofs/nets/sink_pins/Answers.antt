@@ -1,20 +1,16 @@
-use Rattle.std.proofs.Common.{rules, ◌≡◌, ◌<◌, ◌+◌, ◌++◌, ◌∷◌, ◌∙◌, [], length, arith, sym, ap}
+use Rattle.std.proofs.Common.{rules, ◌≡◌, ◌+◌, ◌++◌, ◌∷◌, []}
 use Rattle.std.specs.Vec.Iter.{into_iter_items, into_iter_len}
-use Rattle.design_link.proofs.MadeLaws.{front, sinks_turn, sums_turn}
+use Rattle.design_link.proofs.MadeLaws.{filled_turn}
 use Rattle.design_link.proofs.nets.sink_pins.Goals as goal
 
-pub loop-form-preserved : goal.loop-form-preserved
-loop-form-preserved c =
-    let first : into_iter_items c.loop-form.rest ≡ c.in-Some.sink ∷ into_iter_items c.next.new.self = c.in-Some.ensures.items in
-    let fewer : into_iter_len c.next.new.self + 1 ≡ into_iter_len c.loop-form.rest = c.in-Some.ensures.len in
-    let x = front c.args.sinks.items c.loop-form.form-index c.in-Some.sink (into_iter_items c.next.new.self) (sym first ∙ c.loop-form.invariant.rest) in
-    let few : c.loop-form.form-index < length c.args.forms.now = c.loop-form-test.true in
-    let e : c.push.new.self.items ≡ c.loop-form.made.items ++ c.in_ok-sink_pin.field-0 ∷ [] = search rules in
-    let counted = c.loop-form.invariant.count ∙ ap length first in
-    record {
-      value = sinks_turn c.args.sinks.items c.args.forms.now c.loop-form.form-index c.in-Some.sink c.form-item.result c.loop-form.made.items c.push.new.self.items
-          c.in_ok-sink_pin.field-0 c.requires x.within x.is c.form-item.is c.loop-form.invariant.value e c.in_ok-sink_pin.ensures.value;
-      sums = sums_turn c.args.forms.now c.loop-form.form-index c.form-item.result few c.form-item.is c.loop-form.invariant.sums c.in_ok-sink_pin.ensures.sums;
-      rest = x.behind;
-      count = omega (arith, counted, fewer);
-    }
+pub filled-preserved : goal.filled-preserved
+filled-preserved c =
+    let first : into_iter_items c.filled.left ≡ c.in-Some.form ∷ into_iter_items c.next.new.self = c.in-Some.ensures.items in
+    let second : into_iter_items c.filled.rest ≡ c.in-Some-next.sink ∷ into_iter_items c.next-in-Some.new.self = c.in-Some-next.ensures.items in
+    let fewer : into_iter_len c.next.new.self + 1 ≡ into_iter_len c.filled.left = c.in-Some.ensures.len in
+    let less : into_iter_len c.next-in-Some.new.self + 1 ≡ into_iter_len c.filled.rest = c.in-Some-next.ensures.len in
+    let e : c.push.new.self.items ≡ c.filled.made.items ++ c.sink_pin.result ∷ [] = search rules in
+    filled_turn c.args.sinks.items c.args.forms.items c.filled.made.items c.push.new.self.items (into_iter_items c.filled.left) (into_iter_items c.next.new.self)
+    (into_iter_items c.filled.rest) (into_iter_items c.next-in-Some.new.self) (into_iter_len c.filled.left) (into_iter_len c.filled.rest) (into_iter_len c.next.new.self)
+    (into_iter_len c.next-in-Some.new.self) c.in-Some-next.sink c.in-Some.form c.sink_pin.result c.requires c.filled.invariant first second fewer less
+    c.sink_pin.ensures.value c.sink_pin.ensures.sums e

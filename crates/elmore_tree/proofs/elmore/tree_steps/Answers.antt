@@ -14,7 +14,7 @@ pub returns-in-Some-clause-fault : goal.returns-in-Some-clause-fault
 returns-in-Some-clause-fault c =
     let t = c.args.tree.now in
     let e : c.resistors_in.result ≡ resistors_in c.in_ok-walked.walked.reached.items t.resistors = rw (c.deref.ensures.value, c.resistors.ensures.value) at c.resistors_in.ensures in
-    let first = rw (c.deref-2.ensures.value, c.deref-3.ensures.value) at c.in-Some.ensures in
+    let first = rw (c.deref-2.ensures, c.deref-3.ensures.value) at c.in-Some.ensures in
     let tree : resistors_in c.in_ok-walked.walked.reached.items t.resistors ≤ length c.in_ok-walked.walked.steps.items = omega (arith, e) in (
       not_meshed t c.in_ok-walked.walked.reached.items c.in_ok-walked.walked.steps.items c.in_ok-walked.ensures tree,
       least_unreached t c.in_ok-needed.needed.items c.in_ok-walked.walked.reached.items c.in_ok-walked.walked.steps.items c.in-Some.node c.in_ok-walked.ensures c.in_ok-needed.ensures.each first,
@@ -31,5 +31,5 @@ returns-clause-ok c =
       walked = c.in_ok-walked.ensures;
       tree = omega (arith, e);
       each = c.in_ok-needed.ensures.each;
-      all = rw (c.deref-2.ensures.value, c.deref-3.ensures.value) at c.in_default.ensures;
+      all = rw (c.deref-2.ensures, c.deref-3.ensures.value) at c.in_default.ensures;
     }

@@ -61,4 +61,4 @@ steps-smaller c =
     omega (arith, few)
 
 pub returns : goal.returns
-returns c = walk_ends c.args.tree.now _ _ _ (let none = c.in_default.ensures.cases.0 in omega arith) c.steps.invariant.walk c.steps.invariant.spread
+returns c = walk_ends c.args.tree.now _ _ _ (let none = c.in_default.ensures.variant.1 in grind (arith, none)) c.steps.invariant.walk c.steps.invariant.spread
