@@ -16,4 +16,4 @@ pub use design::{apply, design_after, edit_design, nets_after};
 pub use edit::{Change, Edit, EditFault, Edited, StartWindows};
 pub use laws::{edits_keep_envelopes, edits_order_operators};
 pub use read::read_edit;
-pub use run_starts::{starts, starts_from};
+pub use run_starts::starts;

@@ -11,7 +11,6 @@ ghost use Rattle.eco_warm.specs.Starts.{IsAfterEdit, high_start, low_start, met}
 use crate::edit::{Change, Edited, StartWindows};
 use envelope::quiet;
 use std::alloc::{AllocError, Global};
-use std::snapshot::Snapshot;
 use xt_model::{Design, NoMemory, Pair, Windows};
 
 /// The greatest windows of a net that lie within both.
@@ -76,32 +75,6 @@ fn high_start(
     }
 }
 
-/// `starts`, where of the design before only a snapshot is left.
-pub fn starts_from(
-    alloc: Global,
-    before: Snapshot<Design>,
-    after: &Edited,
-    low: &Windows,
-    high: &Windows,
-    top: &Windows,
-) -> Result<StartWindows, NoMemory>
-    requires edit { IsAfterEdit before.value after.now.design after.now.change }
-    requires low { IsLeastFixpoint before.value low.now }
-    requires high { IsGreatestFixpoint before.value high.now }
-    requires envelope { IsEnvelope after.now.design top.now }
-    requires accepted { IsAccepted after.now.design top.now }
-    ensures low { IfOk result (λ s. s.low ≡ low_start after.now.change after.now.design low.now) }
-    ensures high { IfOk result (λ s. s.high ≡ high_start after.now.change high.now top.now) }
-    ensures low_fits { IfOk result (λ s. IsFittingStart Widen after.now.design s.low) }
-    ensures high_fits { IfOk result (λ s. IsFittingStart Narrow after.now.design s.high) }
-{
-    prove!(after.design.nets().len() == high.pairs().len());
-    Ok(StartWindows {
-        low: low_start(alloc, after, low)?,
-        high: high_start(alloc, after, high, top)?,
-    })
-}
-
 /// Where the runs of an edited design start, from the least and the greatest windows of the design before and the
 /// envelope of the design after, which keeps the limits. After an edit that makes no window wider the narrowing run
 /// starts at the old greatest windows within the new envelope, and after one that makes none narrower the widening run
@@ -125,5 +98,9 @@ pub fn starts(
     ensures low_fits { IfOk result (λ s. IsFittingStart Widen after.now.design s.low) }
     ensures high_fits { IfOk result (λ s. IsFittingStart Narrow after.now.design s.high) }
 {
-    starts_from(alloc, Snapshot::of(before), after, low, high, top)
+    prove!(after.design.nets().len() == high.pairs().len());
+    Ok(StartWindows {
+        low: low_start(alloc, after, low)?,
+        high: high_start(alloc, after, high, top)?,
+    })
 }

@@ -29,4 +29,4 @@ pub use command_line::{
 };
 pub use laws::{calls_agree, one_outcome_is_meant, workers_change_nothing};
 pub use top::{xtalk, xtalk_gated};
-pub use warm_run::{warm, warm_from};
+pub use warm_run::warm;

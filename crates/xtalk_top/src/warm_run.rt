@@ -9,69 +9,11 @@ ghost use Rattle.command_line.specs.Words.{IsWorkerCount};
 
 use chaos_core::Gate;
 use chaos_run::{Both, settle_from};
-use eco_warm::{Edited, StartWindows, starts_from};
+use eco_warm::{Edited, StartWindows, starts};
 use net_eval::read_lists;
 use std::alloc::Global;
-use std::snapshot::Snapshot;
 use std::thread::Threads;
 use xt_model::{Design, Direction, NoMemory, Windows};
-
-/// `warm`, where of the design before only a snapshot is left.
-pub fn warm_from<R: Threads + Sync, G: Gate>(
-    rt: &R,
-    alloc: Global,
-    before: Snapshot<Design>,
-    after: &Edited,
-    old: &Both,
-    top: &Windows,
-    workers: u32,
-    gate: &G,
-) -> Result<Both, NoMemory>
-    requires edit { IsAfterEdit before.value after.now.design after.now.change }
-    requires low { IsLeastFixpoint before.value old.now.low }
-    requires high { IsGreatestFixpoint before.value old.now.high }
-    requires envelope { IsEnvelope after.now.design top.now }
-    requires accepted { IsAccepted after.now.design top.now }
-    requires workers { IsWorkerCount workers }
-    ensures least { IfOk result (λ both. IsLeastFixpoint after.now.design both.low) }
-    ensures greatest { IfOk result (λ both. IsGreatestFixpoint after.now.design both.high) }
-    ensures low_closed { IfOk result (λ both. (both.low_rounds ≡ 0)
-        ↔ IsFixpoint after.now.design (low_start after.now.change after.now.design old.now.low)) }
-    ensures high_closed { IfOk result (λ both. (both.high_rounds ≡ 0)
-        ↔ IsFixpoint after.now.design (high_start after.now.change old.now.high top.now)) }
-    ensures few { IfOk result (λ both. (bound : ℕ) → IsRoundBound after.now.design.nets bound
-        → (both.low_rounds ≤ bound) × (both.high_rounds ≤ bound)) }
-{
-    let StartWindows { low, high } = starts_from(alloc, before, after, &old.low, &old.high, top)?;
-    let design = &after.design;
-    let lists = read_lists(alloc, design)?;
-    let least = settle_from(
-        rt,
-        alloc,
-        design,
-        &lists,
-        Direction::Widen,
-        &low,
-        workers,
-        gate,
-    )?;
-    let greatest = settle_from(
-        rt,
-        alloc,
-        design,
-        &lists,
-        Direction::Narrow,
-        &high,
-        workers,
-        gate,
-    )?;
-    Ok(Both {
-        low: least.windows,
-        high: greatest.windows,
-        low_rounds: least.rounds,
-        high_rounds: greatest.rounds,
-    })
-}
 
 /// The least and the greatest windows of a design after an edit, from those of the design before it and the envelope of
 /// the design after it, by this many workers, from 1 to 64: runs from where `starts` says. Neither makes more rounds
@@ -101,14 +43,33 @@ pub fn warm<R: Threads + Sync, G: Gate>(
     ensures few { IfOk result (λ both. (bound : ℕ) → IsRoundBound after.now.design.nets bound
         → (both.low_rounds ≤ bound) × (both.high_rounds ≤ bound)) }
 {
-    warm_from(
+    let StartWindows { low, high } = starts(alloc, before, after, &old.low, &old.high, top)?;
+    let design = &after.design;
+    let lists = read_lists(alloc, design)?;
+    let least = settle_from(
         rt,
         alloc,
-        Snapshot::of(before),
-        after,
-        old,
-        top,
+        design,
+        &lists,
+        Direction::Widen,
+        &low,
         workers,
         gate,
-    )
+    )?;
+    let greatest = settle_from(
+        rt,
+        alloc,
+        design,
+        &lists,
+        Direction::Narrow,
+        &high,
+        workers,
+        gate,
+    )?;
+    Ok(Both {
+        low: least.windows,
+        high: greatest.windows,
+        low_rounds: least.rounds,
+        high_rounds: greatest.rounds,
+    })
 }
