@@ -1,11 +1,10 @@
 -- What the values of the code stand for.
-use Rattle.std.specs.Prelude.{◌≡◌, false, [], ◌∷◌}
-use Rattle.text_forms.specs.Forms.{Refusal}
-use Rattle.xt_model.specs.declared.code.Code.{Code}
+use Rattle.text_forms.specs.declared.form_read.FormRead.{FormRead}
+use Rattle.text_forms.specs.Reader.{whole_of as form_whole}
 use Rattle.spef_read.specs.declared.item.Item.{Item}
 use Rattle.spef_read.specs.declared.item.Item.TheVariants as items
-use Rattle.spef_read.specs.declared.item.FormRead.{FormRead}
-use Rattle.spef_read.specs.Forms.{WholeForm, Tokens, Slot, fits, misfit, misfits}
+use Rattle.spef_read.specs.declared.context.Context.{Context}
+use Rattle.spef_read.specs.Forms.{WholeForm}
 use Rattle.spef_read.specs.Forms as grammar
 
 -- an item as the grammar has it
@@ -31,15 +30,5 @@ item_text items.NetEnds = grammar.NetEnds
 item_text items.TextEnds = grammar.TextEnds
 
 -- a form that was read
-abbrev pub whole_of : FormRead → WholeForm
-whole_of r = record { item = item_text r.item; line = r.line; next = r.next }
-
--- the refusal of the next token, which does not fit
-abbrev pub refusal_at : Tokens → Refusal Code
-refusal_at [] = record { line = misfits.last; code = misfits.early }
-refusal_at (t ∷ ts) = record { line = t.line; code = misfit t.sort }
-
--- there is a next token, but of another sort
-abbrev pub IsOther : Slot → Tokens → Type 0
-IsOther slot [] = Unit {0}
-IsOther slot (t ∷ ts) = fits slot t.sort ≡ false
+abbrev pub whole_of : FormRead Item Context → WholeForm
+whole_of r = form_whole item_text r

@@ -1,13 +1,13 @@
 //! One form of a text outside the sections of nets, by what may come next.
 
-ghost use Rattle.std.specs.Prelude.{◌≡◌, ℕ, false, [], ◌∷◌, MatchResult, IfOk, IfErr};
+ghost use Rattle.std.specs.Prelude.{◌≡◌, ℕ, false, [], ◌∷◌};
 ghost use Rattle.spef_read.specs.declared.sort.Sort.TheVariants.{Brackets};
-ghost use Rattle.spef_read.specs.Forms.{misfit, separator_of, quantity_of, first_form, section_forms, start_forms};
+ghost use Rattle.spef_read.specs.Forms.{separator_of, quantity_of, first_form, section_forms, start_forms};
 ghost use Rattle.spef_read.specs.Forms.{header_forms, flow_forms, unit_forms, pairs_forms, pair_name_forms};
-ghost use Rattle.spef_read.specs.Forms.{skipped_forms, forms_in, is_done, Only};
+ghost use Rattle.spef_read.specs.Forms.{skipped_forms, forms_in, is_done};
 ghost use Rattle.text_forms.specs.Tokens.{token_of};
-ghost use Rattle.text_forms.specs.Stops.{refusal_of, Reads};
-ghost use Rattle.spef_read.specs.View.{item_text, whole_of, refusal_at, IsOther};
+ghost use Rattle.text_forms.specs.Stops.{Reads};
+ghost use Rattle.spef_read.specs.View.{item_text, whole_of};
 
 use crate::context::Context;
 use crate::item::{FormRead, Item, Quantity, Separator};
@@ -16,7 +16,7 @@ use crate::net_forms::{
     res_second, res_value, resistors, totalled,
 };
 use crate::sort::Sort;
-use text_forms::{Refused, Term, Terms, TokenSort};
+use text_forms::{Refused, Term, Terms};
 use xt_model::Code;
 
 /// A form that was read, whose last token is in this line.
@@ -25,26 +25,6 @@ pub fn done(item: Item<'_>, line: u32, next: Context) -> FormRead<'_>
     ensures { whole_of result ≡ record { item = item_text item.entry; line = line; next = next } }
 {
     FormRead { item, line, next }
-}
-
-/// The code of a token that does not fit.
-fn misfit(sort: Sort) -> Code
-    ensures { result ≡ misfit sort }
-{
-    match sort {
-        Sort::End => Code::S2,
-        _ => Code::S1,
-    }
-}
-
-/// The refusal of a token that does not fit.
-pub fn refused(term: Term<'_, Sort>) -> Refused
-    ensures { refusal_of result ≡ record { line = term.entry.line; code = misfit term.entry.sort } }
-{
-    Refused {
-        line: term.line,
-        code: misfit(term.sort),
-    }
 }
 
 /// Which mark of names the word gives.
@@ -73,42 +53,12 @@ fn quantity_of(word: &[u8]) -> Quantity
     }
 }
 
-/// The next token.
-#[inline]
-pub fn any<'a>(terms: &mut Terms<'a, Sort>) -> Result<Term<'a, Sort>, Refused>
-    ensures { MatchResult result (λ t. terms.old ≡ token_of t ∷ terms.new)
-        (λ r. (terms.old ≡ []) × (refusal_of r ≡ refusal_at [])) }
-{
-    match terms.next_term() {
-        Some(term) => Ok(term),
-        None => Err(Refused {
-            line: 1,
-            code: Code::S2,
-        }),
-    }
-}
-
-/// The next token, which has to be of this sort.
-#[inline]
-pub fn expect<'a>(sort: Sort, terms: &mut Terms<'a, Sort>) -> Result<Term<'a, Sort>, Refused>
-    ensures found { IfOk result (λ t. (terms.old ≡ token_of t ∷ terms.new) × (t.sort ≡ sort)) }
-    ensures refused { IfErr result (λ r. refusal_of r ≡ refusal_at terms.old) }
-    ensures other { IfErr result (λ r. IsOther (Only sort) terms.old) }
-{
-    let term = any(terms)?;
-    if sort.same(term.sort) {
-        Ok(term)
-    } else {
-        Err(refused(term))
-    }
-}
-
 /// At the start of a text.
 fn at_start<'a>(terms: &mut Terms<'a, Sort>) -> Result<FormRead<'a>, Refused>
     ensures { Reads (λ r. (whole_of r, terms.new)) result (first_form start_forms terms.old) }
 {
-    expect(Sort::Spef, terms)?;
-    let text = expect(Sort::Text, terms)?;
+    terms.expect(Sort::Spef)?;
+    let text = terms.expect(Sort::Text)?;
     Ok(done(Item::Nothing, text.line, Context::Header))
 }
 
@@ -123,7 +73,7 @@ fn section_from<'a>(first: Term<'a, Sort>, terms: &Terms<'a, Sort>) -> Result<Fo
         Sort::Net => Ok(done(Item::NetBegins, first.line, Context::NetName)),
         Sort::Unsupported => Ok(done(Item::Refused(Code::S7), first.line, Context::Done)),
         Sort::End => Ok(done(Item::TextEnds, first.line, Context::Done)),
-        _ => Err(refused(first)),
+        _ => Err(first.refused()),
     }
 }
 
@@ -132,20 +82,20 @@ fn brackets<'a>(first: Term<'a, Sort>, terms: &mut Terms<'a, Sort>) -> Result<Fo
     requires { first.sort ≡ Brackets }
     ensures { Reads (λ r. (whole_of r, terms.new)) result (first_form header_forms (token_of first.entry ∷ terms.old)) }
 {
-    let second = any(terms)?;
+    let second = terms.any()?;
     match second.sort {
         Sort::Word => Ok(done(Item::Pair(second.text), second.line, Context::Header)),
         Sort::Bracket => {
-            let third = any(terms)?;
+            let third = terms.any()?;
             match third.sort {
-                Sort::Text | Sort::End => Err(refused(third)),
+                Sort::Text | Sort::End => Err(third.refused()),
                 _ => {
                     let item = Item::Brackets(second.text, third.text);
                     Ok(done(item, third.line, Context::Header))
                 }
             }
         }
-        _ => Err(refused(second)),
+        _ => Err(second.refused()),
     }
 }
 
@@ -158,18 +108,18 @@ fn header_from<'a>(
 {
     match first.sort {
         Sort::Title => {
-            let text = expect(Sort::Text, terms)?;
+            let text = terms.expect(Sort::Text)?;
             Ok(done(Item::Nothing, text.line, Context::Header))
         }
         Sort::Flow => {
-            let text = expect(Sort::Text, terms)?;
+            let text = terms.expect(Sort::Text)?;
             Ok(done(Item::Nothing, text.line, Context::Flow))
         }
         Sort::Separator => {
             let which = separator_of(first.text);
-            let second = any(terms)?;
+            let second = terms.any()?;
             match second.sort {
-                Sort::Text | Sort::End => Err(refused(second)),
+                Sort::Text | Sort::End => Err(second.refused()),
                 _ => {
                     let item = Item::Separator(which, second.text);
                     Ok(done(item, second.line, Context::Header))
@@ -179,9 +129,9 @@ fn header_from<'a>(
         Sort::Brackets => brackets(first, terms),
         Sort::Unit => {
             let quantity = quantity_of(first.text);
-            let second = any(terms)?;
+            let second = terms.any()?;
             match second.sort {
-                Sort::Text | Sort::End => Err(refused(second)),
+                Sort::Text | Sort::End => Err(second.refused()),
                 _ => {
                     let item = Item::UnitNumber(quantity, second.text);
                     Ok(done(item, second.line, Context::Unit))
@@ -196,7 +146,7 @@ fn header_from<'a>(
 fn header<'a>(terms: &mut Terms<'a, Sort>) -> Result<FormRead<'a>, Refused>
     ensures { Reads (λ r. (whole_of r, terms.new)) result (first_form header_forms terms.old) }
 {
-    let first = any(terms)?;
+    let first = terms.any()?;
     header_from(first, terms)
 }
 
@@ -204,7 +154,7 @@ fn header<'a>(terms: &mut Terms<'a, Sort>) -> Result<FormRead<'a>, Refused>
 fn flow<'a>(terms: &mut Terms<'a, Sort>) -> Result<FormRead<'a>, Refused>
     ensures { Reads (λ r. (whole_of r, terms.new)) result (first_form flow_forms terms.old) }
 {
-    let first = any(terms)?;
+    let first = terms.any()?;
     match first.sort {
         Sort::Text => Ok(done(Item::Nothing, first.line, Context::Flow)),
         _ => header_from(first, terms),
@@ -215,9 +165,9 @@ fn flow<'a>(terms: &mut Terms<'a, Sort>) -> Result<FormRead<'a>, Refused>
 fn unit<'a>(terms: &mut Terms<'a, Sort>) -> Result<FormRead<'a>, Refused>
     ensures { Reads (λ r. (whole_of r, terms.new)) result (first_form unit_forms terms.old) }
 {
-    let first = any(terms)?;
+    let first = terms.any()?;
     match first.sort {
-        Sort::Text | Sort::End => Err(refused(first)),
+        Sort::Text | Sort::End => Err(first.refused()),
         _ => Ok(done(Item::Unit(first.text), first.line, Context::Header)),
     }
 }
@@ -226,7 +176,7 @@ fn unit<'a>(terms: &mut Terms<'a, Sort>) -> Result<FormRead<'a>, Refused>
 fn pairs<'a>(terms: &mut Terms<'a, Sort>) -> Result<FormRead<'a>, Refused>
     ensures { Reads (λ r. (whole_of r, terms.new)) result (first_form pairs_forms terms.old) }
 {
-    let first = any(terms)?;
+    let first = terms.any()?;
     match first.sort {
         Sort::Index => Ok(done(Item::PairNumber(first.text), first.line, Context::PairName)),
         _ => section_from(first, &*terms),
@@ -237,9 +187,9 @@ fn pairs<'a>(terms: &mut Terms<'a, Sort>) -> Result<FormRead<'a>, Refused>
 fn pair_name<'a>(terms: &mut Terms<'a, Sort>) -> Result<FormRead<'a>, Refused>
     ensures { Reads (λ r. (whole_of r, terms.new)) result (first_form pair_name_forms terms.old) }
 {
-    let first = any(terms)?;
+    let first = terms.any()?;
     match first.sort {
-        Sort::Text | Sort::End => Err(refused(first)),
+        Sort::Text | Sort::End => Err(first.refused()),
         _ => Ok(done(Item::PairName(first.text), first.line, Context::Pairs)),
     }
 }
@@ -248,7 +198,7 @@ fn pair_name<'a>(terms: &mut Terms<'a, Sort>) -> Result<FormRead<'a>, Refused>
 fn skipped<'a>(terms: &mut Terms<'a, Sort>) -> Result<FormRead<'a>, Refused>
     ensures { Reads (λ r. (whole_of r, terms.new)) result (first_form skipped_forms terms.old) }
 {
-    let first = any(terms)?;
+    let first = terms.any()?;
     match first.sort {
         Sort::NameMap | Sort::Skipped | Sort::Net | Sort::Unsupported | Sort::End => {
             section_from(first, &*terms)
@@ -261,7 +211,7 @@ fn skipped<'a>(terms: &mut Terms<'a, Sort>) -> Result<FormRead<'a>, Refused>
 fn behind_net<'a>(terms: &mut Terms<'a, Sort>) -> Result<FormRead<'a>, Refused>
     ensures { Reads (λ r. (whole_of r, terms.new)) result (first_form section_forms terms.old) }
 {
-    let first = any(terms)?;
+    let first = terms.any()?;
     section_from(first, &*terms)
 }
 
@@ -296,12 +246,4 @@ pub fn read_form<'a>(context: Context, terms: &mut Terms<'a, Sort>) -> Result<Fo
             code: Code::S2,
         }),
     }
-}
-
-/// Whether the text is at its end.
-#[inline]
-pub fn is_done(context: Context) -> bool
-    ensures { result ≡ is_done context }
-{
-    matches!(context, Context::Done)
 }

@@ -54,10 +54,5 @@ pub enum Item<'a> {
     TextEnds,
 }
 
-/// A form that was read: its item, the line of its last token, and what may come next.
-#[derive(Clone, Copy)]
-pub struct FormRead<'a> {
-    pub item: Item<'a>,
-    pub line: u32,
-    pub next: Context,
-}
+/// A form that was read.
+pub type FormRead<'a> = text_forms::FormRead<Item<'a>, Context>;

@@ -10,7 +10,7 @@ ghost use Rattle.text_forms.specs.Stops.{Reads};
 ghost use Rattle.spef_read.specs.View.{whole_of};
 
 use crate::context::Context;
-use crate::forms::{any, done, refused};
+use crate::forms::done;
 use crate::item::{FormRead, Item};
 use crate::sort::Sort;
 use text_forms::{Refused, Term, Terms};
@@ -25,7 +25,7 @@ fn closing_from<'a>(first: Term<'a, Sort>, terms: &Terms<'a, Sort>) -> Result<Fo
         Sort::NetEnd => Ok(done(Item::NetEnds, first.line, Context::BehindNet)),
         Sort::Inductances => Ok(done(Item::Refused(Code::S7), first.line, Context::Done)),
         Sort::Unsupported => Ok(done(Item::Refused(Code::S7), first.line, Context::Done)),
-        _ => Err(refused(first)),
+        _ => Err(first.refused()),
     }
 }
 
@@ -61,9 +61,9 @@ fn behind_connections<'a>(
 pub fn net_name<'a>(terms: &mut Terms<'a, Sort>) -> Result<FormRead<'a>, Refused>
     ensures { Reads (λ r. (whole_of r, terms.new)) result (first_form net_name_forms terms.old) }
 {
-    let first = any(terms)?;
+    let first = terms.any()?;
     match first.sort {
-        Sort::Text | Sort::End => Err(refused(first)),
+        Sort::Text | Sort::End => Err(first.refused()),
         _ => Ok(done(Item::NetName(first.text), first.line, Context::NetTotal)),
     }
 }
@@ -72,14 +72,14 @@ pub fn net_name<'a>(terms: &mut Terms<'a, Sort>) -> Result<FormRead<'a>, Refused
 pub fn net_total<'a>(terms: &mut Terms<'a, Sort>) -> Result<FormRead<'a>, Refused>
     ensures { Reads (λ r. (whole_of r, terms.new)) result (first_form net_total_forms terms.old) }
 {
-    let first = any(terms)?;
+    let first = terms.any()?;
     match first.sort {
         Sort::Digits | Sort::Value => Ok(done(
             Item::Total(first.text),
             first.line,
             Context::Totalled,
         )),
-        _ => Err(refused(first)),
+        _ => Err(first.refused()),
     }
 }
 
@@ -97,12 +97,12 @@ fn lists_from<'a>(first: Term<'a, Sort>, terms: &Terms<'a, Sort>) -> Result<Form
 pub fn totalled<'a>(terms: &mut Terms<'a, Sort>) -> Result<FormRead<'a>, Refused>
     ensures { Reads (λ r. (whole_of r, terms.new)) result (first_form totalled_forms terms.old) }
 {
-    let first = any(terms)?;
+    let first = terms.any()?;
     match first.sort {
         Sort::Confidence => {
-            let second = any(terms)?;
+            let second = terms.any()?;
             match second.sort {
-                Sort::End => Err(refused(second)),
+                Sort::End => Err(second.refused()),
                 _ => Ok(done(Item::Nothing, second.line, Context::Lists)),
             }
         }
@@ -114,7 +114,7 @@ pub fn totalled<'a>(terms: &mut Terms<'a, Sort>) -> Result<FormRead<'a>, Refused
 pub fn lists<'a>(terms: &mut Terms<'a, Sort>) -> Result<FormRead<'a>, Refused>
     ensures { Reads (λ r. (whole_of r, terms.new)) result (first_form lists_forms terms.old) }
 {
-    let first = any(terms)?;
+    let first = terms.any()?;
     lists_from(first, &*terms)
 }
 
@@ -122,7 +122,7 @@ pub fn lists<'a>(terms: &mut Terms<'a, Sort>) -> Result<FormRead<'a>, Refused>
 pub fn connections<'a>(terms: &mut Terms<'a, Sort>) -> Result<FormRead<'a>, Refused>
     ensures { Reads (λ r. (whole_of r, terms.new)) result (first_form connections_forms terms.old) }
 {
-    let first = any(terms)?;
+    let first = terms.any()?;
     match first.sort {
         Sort::Connection => Ok(done(Item::Nothing, first.line, Context::Connection)),
         _ => behind_connections(first, &*terms),
@@ -133,9 +133,9 @@ pub fn connections<'a>(terms: &mut Terms<'a, Sort>) -> Result<FormRead<'a>, Refu
 pub fn connection<'a>(terms: &mut Terms<'a, Sort>) -> Result<FormRead<'a>, Refused>
     ensures { Reads (λ r. (whole_of r, terms.new)) result (first_form connection_forms terms.old) }
 {
-    let first = any(terms)?;
+    let first = terms.any()?;
     match first.sort {
-        Sort::NameMap | Sort::Skipped | Sort::Net | Sort::End => Err(refused(first)),
+        Sort::NameMap | Sort::Skipped | Sort::Net | Sort::End => Err(first.refused()),
         Sort::Capacitors | Sort::Resistors | Sort::NetEnd | Sort::Inductances | Sort::Unsupported =>
             behind_connections(first, &*terms),
         _ => Ok(done(Item::Nothing, first.line, Context::Connection)),
@@ -146,12 +146,12 @@ pub fn connection<'a>(terms: &mut Terms<'a, Sort>) -> Result<FormRead<'a>, Refus
 pub fn capacitors<'a>(terms: &mut Terms<'a, Sort>) -> Result<FormRead<'a>, Refused>
     ensures { Reads (λ r. (whole_of r, terms.new)) result (first_form capacitors_forms terms.old) }
 {
-    let first = any(terms)?;
+    let first = terms.any()?;
     match first.sort {
         Sort::Digits => {
-            let second = any(terms)?;
+            let second = terms.any()?;
             match second.sort {
-                Sort::Text | Sort::End => Err(refused(second)),
+                Sort::Text | Sort::End => Err(second.refused()),
                 _ => Ok(done(
                     Item::FirstNode(second.text),
                     second.line,
@@ -167,9 +167,9 @@ pub fn capacitors<'a>(terms: &mut Terms<'a, Sort>) -> Result<FormRead<'a>, Refus
 pub fn cap_second<'a>(terms: &mut Terms<'a, Sort>) -> Result<FormRead<'a>, Refused>
     ensures { Reads (λ r. (whole_of r, terms.new)) result (first_form cap_second_forms terms.old) }
 {
-    let first = any(terms)?;
+    let first = terms.any()?;
     match first.sort {
-        Sort::Text | Sort::End => Err(refused(first)),
+        Sort::Text | Sort::End => Err(first.refused()),
         Sort::Digits | Sort::Value => Ok(done(
             Item::CapValue(first.text),
             first.line,
@@ -183,14 +183,14 @@ pub fn cap_second<'a>(terms: &mut Terms<'a, Sort>) -> Result<FormRead<'a>, Refus
 pub fn cap_value<'a>(terms: &mut Terms<'a, Sort>) -> Result<FormRead<'a>, Refused>
     ensures { Reads (λ r. (whole_of r, terms.new)) result (first_form cap_value_forms terms.old) }
 {
-    let first = any(terms)?;
+    let first = terms.any()?;
     match first.sort {
         Sort::Digits | Sort::Value => Ok(done(
             Item::CapValue(first.text),
             first.line,
             Context::Capacitors,
         )),
-        _ => Err(refused(first)),
+        _ => Err(first.refused()),
     }
 }
 
@@ -198,12 +198,12 @@ pub fn cap_value<'a>(terms: &mut Terms<'a, Sort>) -> Result<FormRead<'a>, Refuse
 pub fn resistors<'a>(terms: &mut Terms<'a, Sort>) -> Result<FormRead<'a>, Refused>
     ensures { Reads (λ r. (whole_of r, terms.new)) result (first_form resistors_forms terms.old) }
 {
-    let first = any(terms)?;
+    let first = terms.any()?;
     match first.sort {
         Sort::Digits => {
-            let second = any(terms)?;
+            let second = terms.any()?;
             match second.sort {
-                Sort::Text | Sort::End => Err(refused(second)),
+                Sort::Text | Sort::End => Err(second.refused()),
                 _ => Ok(done(
                     Item::FirstNode(second.text),
                     second.line,
@@ -219,9 +219,9 @@ pub fn resistors<'a>(terms: &mut Terms<'a, Sort>) -> Result<FormRead<'a>, Refuse
 pub fn res_second<'a>(terms: &mut Terms<'a, Sort>) -> Result<FormRead<'a>, Refused>
     ensures { Reads (λ r. (whole_of r, terms.new)) result (first_form res_second_forms terms.old) }
 {
-    let first = any(terms)?;
+    let first = terms.any()?;
     match first.sort {
-        Sort::Text | Sort::End => Err(refused(first)),
+        Sort::Text | Sort::End => Err(first.refused()),
         _ => Ok(done(Item::ResNode(first.text), first.line, Context::ResValue)),
     }
 }
@@ -230,13 +230,13 @@ pub fn res_second<'a>(terms: &mut Terms<'a, Sort>) -> Result<FormRead<'a>, Refus
 pub fn res_value<'a>(terms: &mut Terms<'a, Sort>) -> Result<FormRead<'a>, Refused>
     ensures { Reads (λ r. (whole_of r, terms.new)) result (first_form res_value_forms terms.old) }
 {
-    let first = any(terms)?;
+    let first = terms.any()?;
     match first.sort {
         Sort::Digits | Sort::Value => Ok(done(
             Item::ResValue(first.text),
             first.line,
             Context::Resistors,
         )),
-        _ => Err(refused(first)),
+        _ => Err(first.refused()),
     }
 }

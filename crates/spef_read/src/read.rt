@@ -1,57 +1,18 @@
 //! From the bytes of a text to its parasitics.
 
-ghost use Rattle.std.specs.Prelude.{◌≡◌, ◌≤◌, length, false, IfOk};
-ghost use Rattle.spef_read.specs.Forms.{is_done};
-ghost use Rattle.spef_read.specs.declared.context.Context.TheVariants.{Start};
-ghost use Rattle.spef_read.specs.Reading.{rest_means, text_state, parasitics_of};
+ghost use Rattle.std.specs.Prelude.{◌≤◌, length, IfOk};
+ghost use Rattle.spef_read.specs.Reading.{text_state, parasitics_of};
 ghost use Rattle.spef_read.specs.Sound.{AreSoundParasitics};
-ghost use Rattle.text_forms.specs.Stops.{Gives, Steps};
+ghost use Rattle.text_forms.specs.Stops.{Gives};
 
 use crate::context::Context;
-use crate::forms::{is_done, read_form, refused};
 use crate::parasitics::Parasitics;
-use crate::sort::Sort;
 use crate::state::Progress;
 use name_numbers::TextKey;
 use std::alloc::Global;
-use text_forms::{Terms, tokens_refused};
+use text_forms::{Terms, read_all, tokens_refused};
 use xt_lex::{MOST_BYTES, Rules, TextFault};
 use xt_model::Code;
-
-/// Reads one form and does what it says.
-fn step<'a>(
-    alloc: Global,
-    context: Context,
-    terms: &mut Terms<'a, Sort>,
-    state: &mut Progress<'a>,
-) -> Result<Context, TextFault>
-    requires { is_done context ≡ false }
-    ensures { Steps rest_means context terms.old state.old result terms.new state.new }
-{
-    let read = read_form(context, terms)?;
-    match state.act(alloc, read.item) {
-        Ok(()) => Ok(read.next),
-        Err(stop) => Err(stop.at_line(read.line)),
-    }
-}
-
-/// Reads a text without a fault of its tokens to its end.
-fn read_all<'a>(
-    alloc: Global,
-    terms: &mut Terms<'a, Sort>,
-    state: &mut Progress<'a>,
-) -> Result<(), TextFault>
-    ensures { Gives (λ _. state.new) result (rest_means Start terms.old state.old) }
-{
-    let mut context = Context::Start;
-    'forms: while !is_done(context) {
-        context = step(alloc, context, terms, state)?;
-    }
-    match terms.next_term() {
-        None => Ok(()),
-        Some(more) => Err(TextFault::from(refused(more))),
-    }
-}
 
 /// What a text means.
 #[tactic(auto, unfolding(crate::specs::Reading::text_state))]
@@ -63,7 +24,8 @@ fn parasitics(alloc: Global, bytes: &[u8]) -> Result<Parasitics, TextFault>
         return Err(TextFault::from(refused));
     }
     let mut state = Progress::new(alloc, TextKey::of(bytes));
-    read_all(alloc, &mut Terms::new(bytes, Rules::Spef), &mut state)?;
+    let mut terms = Terms::new(bytes, Rules::Spef);
+    read_all(alloc, Context::Start, &mut terms, &mut state)?;
     Ok(state.into_parasitics())
 }
 

@@ -1,25 +1,28 @@
 //! What the forms of a text mean, one after another.
 
-ghost use Rattle.std.specs.Prelude.{◌≡◌, ℕ, ℤ, pos, neg_ℤ, ◌≤ℤ◌, Ok, IfOk};
+ghost use Rattle.std.specs.Prelude.{◌≡◌, ℕ, ℤ, pos, neg_ℤ, ◌≤ℤ◌, false, [], Ok, IfOk, MatchOption};
 ghost use Rattle.spef_read.specs.Meaning.{nothing, with_separator, are_brackets, set_separator, brackets_by, set_pair};
 ghost use Rattle.spef_read.specs.Meaning.{set_brackets, unit_number, set_unit, with_units, pair_number, end_pair, node};
 ghost use Rattle.spef_read.specs.Meaning.{net_name, net_total, first_node, cap_node, res_node, cap_value, res_value};
-ghost use Rattle.spef_read.specs.Meaning.{end_net, means};
+ghost use Rattle.spef_read.specs.Meaning.{end_net};
 ghost use Rattle.spef_read.specs.Reading.{parasitics_in};
-ghost use Rattle.text_forms.specs.Stops.{Changes, Answers, Computes};
-ghost use Rattle.spef_read.specs.View.{item_text};
+ghost use Rattle.text_forms.specs.Misfits.{IsFurther};
+ghost use Rattle.text_forms.specs.Stops.{Changes, Answers, Computes, Reads, refusal_of};
 
-use crate::item::{Item, Quantity, Separator};
+use crate::context::Context;
+use crate::forms::read_form;
+use crate::item::{FormRead, Item, Quantity, Separator};
 use crate::marks::Marks;
 use crate::names::{pair_name, whole_name};
 use crate::parasitics::{CapText, Name, Parasitics, ResText, WireText};
+use crate::sort::Sort;
 use crate::values::{unit_power, value_of};
 use crate::words::without_zeros;
 use name_numbers::{Named, TextKey};
 use name_parts::{Prefix, PrefixedName, PrefixedTable};
 use std::alloc::Global;
 use std::marker::Model;
-use text_forms::Stop;
+use text_forms::{FormReader, Refused, Stop, Terms};
 use xt_model::{Code, Row};
 use xt_number::power_of_ten;
 
@@ -362,9 +365,75 @@ impl<'a> Progress<'a> {
         Ok(())
     }
 
-    /// What a form means.
+    /// The nets that ended, with their names.
+    pub fn into_parasitics(self) -> Parasitics
+        ensures { Ok result ≡ parasitics_in (Ok self.entry) }
+    {
+        Parasitics {
+            delimiter: self.marks.delimiter,
+            names: self.names,
+            nets: Row::from_vec(self.nets),
+        }
+    }
+}
+
+impl<'a> FormReader for Progress<'a> {
+    ghost use Rattle.spef_read.specs.Forms.{Slot, fits, forms_in, is_done, first_form, misfit};
+    ghost use Rattle.spef_read.specs.declared.sort.Sort.TheVariants.{End};
+    ghost use Rattle.spef_read.specs.Forms as grammar;
+    ghost use Rattle.spef_read.specs.Meaning.{State, means};
+    ghost use Rattle.spef_read.specs.View.{item_text, whole_of};
+
+    type Sort = Sort;
+
+    type Terms = Terms<'a, Sort>;
+
+    type Context = Context;
+
+    type Item = Item<'a>;
+
+    ghost tokens = { λ ts. ts };
+
+    ghost Slot = { Slot };
+
+    ghost Said = { grammar.Item };
+
+    ghost fits = { fits };
+
+    ghost forms_in = { forms_in };
+
+    ghost is_done = { is_done };
+
+    ghost item_of = { item_text };
+
+    ghost State = { State };
+
+    ghost state_of = { λ s. s };
+
+    ghost means = { means };
+
+    #[inline]
+    fn is_done(context: Context) -> bool
+        ensures { result ≡ is_done context }
+    {
+        matches!(context, Context::Done)
+    }
+
+    fn read_form(context: Context, terms: &mut Terms<'a, Sort>) -> Result<FormRead<'a>, Refused>
+        requires { is_done context ≡ false }
+        ensures { Reads (λ r. (whole_of r, terms.new)) result (first_form (forms_in context) terms.old) }
+    {
+        read_form(context, terms)
+    }
+
+    fn further(terms: &mut Terms<'a, Sort>) -> Option<Refused>
+        ensures { MatchOption result (terms.old ≡ []) (λ r. IsFurther (refusal_of r) misfit End terms.old) }
+    {
+        terms.further()
+    }
+
     #[tactic(auto, unfolding(crate::specs::Meaning::means))]
-    pub fn act(&mut self, alloc: Global, item: Item<'a>) -> Result<(), Stop>
+    fn act(&mut self, alloc: Global, item: Item<'a>) -> Result<(), Stop>
         ensures { Changes result self.new (means (item_text item.entry) self.old) }
     {
         match item {
@@ -387,17 +456,6 @@ impl<'a> Progress<'a> {
             Item::ResValue(word) => self.res_value(word),
             Item::NetEnds => self.end_net(alloc),
             Item::TextEnds => self.with_units(),
-        }
-    }
-
-    /// The nets that ended, with their names.
-    pub fn into_parasitics(self) -> Parasitics
-        ensures { Ok result ≡ parasitics_in (Ok self.entry) }
-    {
-        Parasitics {
-            delimiter: self.marks.delimiter,
-            names: self.names,
-            nets: Row::from_vec(self.nets),
         }
     }
 }
