@@ -47,12 +47,11 @@ fn is_odd_timing<'a>(cell: &'a Cell, places: &Named<'a, usize>, timing: &'a Timi
     if !is_read(timing.kind) {
         return false;
     }
-    let mut rest = timing.related.as_slice();
-    'related: while let [name, more @ ..] = rest {
-        if is_no_input(cell, places, name.bytes()) {
+    let mut rest = timing.related.names();
+    'related: while let Some(name) = rest.next() {
+        if is_no_input(cell, places, name) {
             return true;
         }
-        rest = more;
     }
     false
 }

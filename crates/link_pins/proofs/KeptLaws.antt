@@ -1,9 +1,9 @@
 -- The related pins that are kept for the pins of a cell, one pin after another.
 use Rattle.std.proofs.Common.{◌≡◌, ◌≢◌, ℕ, zero, suc, ◌+◌, ◌<◌, ◌≤◌, Bool, true, false, cond, List, [], ◌∷◌, ◌++◌, length, map, take, set, get_or, Some, refl, ap, sym, ◌∙◌, subst, arith, inl, inr, ◌⊎◌}
-use Rattle.std.specs.Prelude.{Option, None, IsSome, Result, Ok, Err, IfOk, is_some, flat_map, filter_map, option_map, option_and_then}
-use Rattle.std.specs.List.{cons_option, slice_get}
-use Rattle.std.specs.Option.{IsSomeAnd, option_to_list}
-use Rattle.std.proofs.lemmas.List.{append-nil, map-append, length_push, take_all}
+use Rattle.std.specs.Prelude.{Option, None, IsSome, Result, Ok, Err, IfOk, is_some, flat_map, filter_map, option_and_then}
+use Rattle.std.specs.List.{slice_get}
+use Rattle.std.specs.Option.{IsSomeAnd}
+use Rattle.std.proofs.lemmas.List.{append-nil, map-append, length_push}
 use Rattle.std.proofs.lemmas.Bool.{eq-eqb, ne_eqb}
 use Rattle.std.proofs.lemmas.List.Sums.{sum_by-set}
 use Rattle.std.proofs.lemmas.Option.{none-some, same_Some, slice_get_within, slice_get-get_or, get_or_from_slice_get}
@@ -16,7 +16,6 @@ use Rattle.liberty_cells.specs.Pins.{PinParts}
 use Rattle.verilog_net.specs.declared.netlist.Netlist.{Netlist}
 use Rattle.link_rules.specs.Pins.{Connected}
 use Rattle.link_index.specs.Cells.{pin_place}
-use Rattle.name_numbers.specs.Names.{Text}
 use Rattle.link_pins.specs.declared.pins.PinOn.{PinOn}
 use Rattle.link_pins.specs.declared.related.CellGroups.{CellGroups}
 use Rattle.link_pins.specs.declared.related.PinCount.{PinCount}
@@ -24,7 +23,6 @@ use Rattle.link_pins.specs.declared.related.PinGroup.{PinGroup}
 use Rattle.link_pins.specs.declared.related.RelatedPin.{RelatedPin}
 use Rattle.link_pins.specs.Related.{TimedPlace, with_timing, related_of, effect, group_related, counted, IsIndexed, IsGroup, AreGroups, AreAllGroups, group_numbered, number_at, group_at, AreKept}
 use Rattle.link_pins.specs.Seen.{pin_at, connected_at}
-use Rattle.link_pins.proofs.ArcLaws.{made_more}
 use Rattle.link_pins.proofs.TimingLaws.{flat_more}
 use Rattle.link_pins.proofs.PinLaws.{element_at, some_is, parts_of}
 use Rattle.link_pins.proofs.PlaceLaws.{pin_parts}
@@ -45,31 +43,6 @@ pub read_there : {X : Type 0} (xs : List X) (i : ℕ) (d x : X) → i < length x
 read_there xs i d x h e = slice_get-get_or xs i d h ∙ ap Some (sym e)
 
 -- ---- the related pins of one pin
-
--- a related name more, where the cell may have a pin of that name
-pub name_more : (t : Timing) (c : Cell) (names : List Text) (i : ℕ) (d : Text) (old cur new : List TimedPlace) → i < length names
-    → cur ≡ old ++ filter_map (λ name. option_map (with_timing t) (pin_place c name)) (take i names)
-    → new ≡ cur ++ option_to_list (option_map (with_timing t) (pin_place c (get_or names i d)))
-    → new ≡ old ++ filter_map (λ name. option_map (with_timing t) (pin_place c name)) (take (i + 1) names)
-name_more t c names i d old cur new lt so_far step = made_more (λ name. option_map (with_timing t) (pin_place c name)) names i d old cur new lt so_far step
-
-mapped_filter : (t : Timing) (c : Cell) (names : List Text)
-    → filter_map (λ name. option_map (with_timing t) (pin_place c name)) names ≡ map (with_timing t) (filter_map (pin_place c) names)
-mapped_filter t c [] = refl
-mapped_filter t c (x ∷ xs) = by (pin_place c x) (mapped_filter t c xs)
-  where
-    by : (o : Option ℕ) → filter_map (λ name. option_map (with_timing t) (pin_place c name)) xs ≡ map (with_timing t) (filter_map (pin_place c) xs)
-        → cons_option (option_map (with_timing t) o) (filter_map (λ name. option_map (with_timing t) (pin_place c name)) xs)
-        ≡ map (with_timing t) (cons_option o (filter_map (pin_place c) xs))
-    by None rest = rest
-    by (Some k) rest = ap (λ l. (t, k) ∷ l) rest
-
-pub names_done : (t : Timing) (c : Cell) (names all : List Text) (i : ℕ) (old cur : List TimedPlace) → length names ≤ i → names ≡ all
-    → cur ≡ old ++ filter_map (λ name. option_map (with_timing t) (pin_place c name)) (take i names) → cur ≡ old ++ map (with_timing t) (filter_map (pin_place c) all)
-names_done t c names all i old cur past same so_far =
-    so_far
-    ∙ (ap (λ l. old ++ filter_map (λ name. option_map (with_timing t) (pin_place c name)) l) (take_all i names past ∙ same)
-    ∙ ap (λ l. old ++ l) (mapped_filter t c all))
 
 -- a pin more in the list
 pub pushed_related : (old new : List RelatedPin) (r : RelatedPin) → new ≡ old ++ r ∷ [] → map related_of new ≡ map related_of old ++ related_of r ∷ []

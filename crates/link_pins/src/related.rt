@@ -81,8 +81,9 @@ fn add_timing<'a>(
         ≡ map related_of pins.old.items
         ++ map (with_timing timing.entry.now) (filter_map (pin_place c) timing.entry.now.related)) }
 {
-    for related in timing.related.as_slice() {
-        if let Some(pin) = cells.pin(cell, related.bytes()) {
+    let mut rest = timing.related.names();
+    'related: while let Some(name) = rest.next() {
+        if let Some(pin) = cells.pin(cell, name) {
             pins.push(RelatedPin { timing, pin })?;
         }
     }

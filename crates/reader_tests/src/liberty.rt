@@ -9,7 +9,7 @@ use std::alloc::{AllocError, Global};
 use std::process::Abort;
 use std::test::*;
 use xt_lex::{MOST_BYTES, TextFault};
-use xt_model::{Name, Table};
+use xt_model::Table;
 
 /// Reads a library.
 fn read(alloc: Global, text: &[u8]) -> Result<Library, TextFault> {
@@ -411,9 +411,9 @@ fn number_in_words(alloc: Global, number: Option<u32>) -> Result<String, AllocEr
 }
 
 /// Appends a name after a space.
-fn push_name(out: &mut String, name: &Name) -> Result<(), Fail> {
+fn push_name(out: &mut String, name: &[u8]) -> Result<(), Fail> {
     out.push_str(" ")?;
-    Ok(out.push_str(str::from_utf8(name.bytes()).unwrap_or("?"))?)
+    Ok(out.push_str(str::from_utf8(name).unwrap_or("?"))?)
 }
 
 /// Appends a timing group: its kind, its sense, the numbers of its tables, and its related pins.
@@ -426,7 +426,8 @@ fn push_timing(alloc: Global, out: &mut String, timing: &Timing) -> Result<(), F
         out.push_str(" ")?;
         out.push_str(number.as_str())?;
     }
-    for name in timing.related.as_slice() {
+    let mut names = timing.related.names();
+    while let Some(name) = names.next() {
         push_name(out, name)?;
     }
     Ok(out.push_str("\n")?)
@@ -435,7 +436,7 @@ fn push_timing(alloc: Global, out: &mut String, timing: &Timing) -> Result<(), F
 /// Appends a pin: its name, its role, its capacitance and its timing groups.
 fn push_pin(alloc: Global, out: &mut String, pin: &Pin) -> Result<(), Fail> {
     out.push_str("pin")?;
-    push_name(out, pin.name())?;
+    push_name(out, pin.name().bytes())?;
     let (role, cap) = (pin.role(), pin.cap());
     let tail = format!(in alloc; " {role:?} {cap}\n")?;
     out.push_str(tail.as_str())?;
@@ -448,7 +449,7 @@ fn push_pin(alloc: Global, out: &mut String, pin: &Pin) -> Result<(), Fail> {
 /// Appends a cell: its name, whether it is a latch, and its pins.
 fn push_cell(alloc: Global, out: &mut String, cell: &Cell) -> Result<(), Fail> {
     out.push_str(if cell.latch { "latch" } else { "cell" })?;
-    push_name(out, &cell.name)?;
+    push_name(out, cell.name.bytes())?;
     out.push_str("\n")?;
     for pin in cell.pins.as_slice() {
         push_pin(alloc, out, pin)?;

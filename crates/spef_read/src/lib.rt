@@ -4,6 +4,7 @@
 mod context;
 mod forms;
 mod item;
+mod map;
 mod marks;
 mod names;
 mod net_forms;

@@ -4,9 +4,9 @@ ghost use Rattle.std.specs.Prelude.{◌≡◌, false, ◌++◌, OnOk};
 ghost use Rattle.spef_read.specs.Names.{meant, unescaped, has_size, sized, mapped_name, whole_name, pair_name};
 ghost use Rattle.text_forms.specs.Stops.{Changes, Computes};
 
+use crate::map::NameMap;
 use crate::marks::Marks;
 use crate::words::{are_digits, split_at_mark, without_zeros};
-use name_numbers::Named;
 use name_parts::{Prefix, PrefixedName};
 use std::alloc::{AllocError, Global};
 use text_forms::Stop;
@@ -78,22 +78,23 @@ fn plain_name(marks: Marks, word: &[u8], out: &mut PrefixedName) -> Result<(), S
 }
 
 /// Makes `out` the name that `*` means with these bytes after it.
+#[tactic(auto, using(crate::proofs::MapLaws::mapped_by))]
 fn mapped_name<'a>(
     marks: Marks,
-    map: &Named<'a, Prefix>,
+    map: &mut NameMap<'a>,
     more: &'a [u8],
     out: &mut PrefixedName,
 ) -> Result<(), Stop>
-    ensures { Changes result out.new (mapped_name marks map.now more.entry.now) }
+    ensures kept { map.new ≡ map.old }
+    ensures exact { Changes result out.new (mapped_name marks map.old more.entry.now) }
 {
     let (index, behind) = split_at_mark(marks.delimiter, more);
     if !are_digits(index) {
         return Err(Stop::Refused(Code::S1));
     }
-    let Some((_, name)) = map.find(without_zeros(index)) else {
+    if !map.start(without_zeros(index), out)? {
         return Err(Stop::Refused(Code::S5));
-    };
-    out.start(Some(name))?;
+    }
     push_unescaped(marks, behind, out)?;
     sized(out)
 }
@@ -102,11 +103,12 @@ fn mapped_name<'a>(
 #[tactic(auto, unfolding(crate::specs::Names::whole_name))]
 pub fn whole_name<'a>(
     marks: Marks,
-    map: &Named<'a, Prefix>,
+    map: &mut NameMap<'a>,
     word: &'a [u8],
     out: &mut PrefixedName,
 ) -> Result<(), Stop>
-    ensures { Changes result out.new (whole_name marks map.now word.entry.now) }
+    ensures kept { map.new ≡ map.old }
+    ensures exact { Changes result out.new (whole_name marks map.old word.entry.now) }
 {
     match word {
         [] => Err(Stop::Refused(Code::S1)),

@@ -12,14 +12,15 @@ ghost use Rattle.text_forms.specs.Stops.{Changes, Answers, Computes, Reads, refu
 use crate::context::Context;
 use crate::forms::read_form;
 use crate::item::{FormRead, Item, Quantity, Separator};
+use crate::map::NameMap;
 use crate::marks::Marks;
 use crate::names::{pair_name, whole_name};
 use crate::parasitics::{CapText, Name, Parasitics, ResText, WireText};
 use crate::sort::Sort;
 use crate::values::{unit_power, value_of};
 use crate::words::without_zeros;
-use name_numbers::{Named, TextKey};
-use name_parts::{Prefix, PrefixedName, PrefixedTable};
+use name_numbers::TextKey;
+use name_parts::{PrefixedName, PrefixedTable};
 use std::alloc::Global;
 use std::marker::Model;
 use text_forms::{FormReader, Refused, Stop, Terms};
@@ -34,7 +35,7 @@ pub struct Progress<'a> {
     power: i32,
     cap_scale: Option<i32>,
     res_scale: Option<i32>,
-    map: Named<'a, Prefix>,
+    map: NameMap<'a>,
     index: &'a [u8],
     names: PrefixedTable<Option<u32>>,
     nets: Vec<WireText>,
@@ -121,7 +122,7 @@ impl<'a> Progress<'a> {
             power: 0,
             cap_scale: None,
             res_scale: None,
-            map: Named::new(alloc, key),
+            map: NameMap::new(alloc, key),
             index: b"",
             names: PrefixedTable::new(alloc, key),
             nets: Vec::new(alloc),
@@ -234,7 +235,7 @@ impl<'a> Progress<'a> {
             [] => word,
         };
         let index = without_zeros(digits);
-        if self.map.find(index).is_some() {
+        if self.map.has(index) {
             return Err(Stop::Refused(Code::S5));
         }
         self.index = index;
@@ -256,7 +257,7 @@ impl<'a> Progress<'a> {
     fn node(&mut self, alloc: Global, word: &'a [u8]) -> Result<Name, Stop>
         ensures { Answers result self.new (node word.entry.now self.old) }
     {
-        whole_name(self.marks, &self.map, word, &mut self.made)?;
+        whole_name(self.marks, &mut self.map, word, &mut self.made)?;
         if let Some((number, _)) = self.names.find(&self.made) {
             return Ok(Name { number });
         }
@@ -270,7 +271,7 @@ impl<'a> Progress<'a> {
     fn net_name(&mut self, alloc: Global, word: &'a [u8]) -> Result<(), Stop>
         ensures { Changes result self.new (net_name word.entry.now self.old) }
     {
-        whole_name(self.marks, &self.map, word, &mut self.made)?;
+        whole_name(self.marks, &mut self.map, word, &mut self.made)?;
         let number = match self.names.find(&self.made) {
             Some((number, net)) => {
                 if net.is_some() {
