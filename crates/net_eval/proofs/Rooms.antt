@@ -26,6 +26,7 @@ use Rattle.xt_meaning.proofs.Limits.{room_at}
 use Rattle.miller_bits.specs.Views.{HasNet}
 use Rattle.miller_bits.proofs.Sums.{found}
 use Rattle.net_eval.specs.Room.{ReadsWithinEnvelope, FitsWire, FitsAtInput, ReadsFitBy}
+use Rattle.table_box.specs.Groups.{AreGroups}
 use Rattle.net_eval.specs.Scenes.{Scene, IsReadyNet}
 use Rattle.net_eval.proofs.Contributions.{sound_wired}
 
@@ -64,9 +65,9 @@ reads_fit d b W n s within = record { inputs = each (slice_get d.nets n) (s.nets
       fits_at d within.top W b (get_or net.arcs k x) (slice_get d.nets (get_or net.arcs k x).from.0) s within.envelope within.accepted refl (sound.arcs k x h).sink (inputs k x h) live
 
 -- a net whose input windows fit can be evaluated
-pub ready_net : (has : ℕ → Type 0) (s : Scene) (n : ℕ) (net : Net) → IsSound s.design → slice_get s.design.nets n ≡ Some net → HoldsOfReads (HasNet has) s.design n
-    → ReadsFitBy s.design s.answers s.windows n → IsReadyNet has s n net
-ready_net has s n net whole there reads fit =
+pub ready_net : (has : ℕ → Type 0) (s : Scene) (groups : List ℕ) (n : ℕ) (net : Net) → AreGroups s.design.tables groups → IsSound s.design → slice_get s.design.nets n ≡ Some net
+    → HoldsOfReads (HasNet has) s.design n → ReadsFitBy s.design s.answers s.windows n → IsReadyNet has s groups n net
+ready_net has s groups n net grouped whole there reads fit =
     let sound = found (IsSoundNet s.design n) (slice_get s.design.nets n) net there (whole.nets n) in
     let looks = found (λ net. All (HoldsOfArcReads (HasNet has) s.design n net) net.arcs) (slice_get s.design.nets n) net there reads.arcs in
     let inputs = found (λ net. All (FitsAtInput s.design s.answers s.windows) net.arcs) (slice_get s.design.nets n) net there fit.inputs in
@@ -74,6 +75,7 @@ ready_net has s n net whole there reads fit =
       there = there;
       sound = sound;
       miller = whole.miller;
+      grouped = grouped;
       words = reads;
       arcs = λ k x h. record {
         sound = sound.arcs k x h;

@@ -1,5 +1,5 @@
 -- Windows that the operator gives back, net by net.
-use Rattle.std.proofs.Common.{◌≡◌, ℕ, ◌+◌, ◌*◌, ◌<◌, ◌≤◌, Bool, inl, inr, refl, sym, ap, subst, ◌∙◌, List, length, get_or, arith}
+use Rattle.std.proofs.Common.{◌≡◌, ℕ, ◌+◌, ◌*◌, ◌<◌, ◌≤◌, Bool, inl, inr, refl, sym, ap, subst, ◌∙◌, List, [], length, get_or, arith}
 use Rattle.std.specs.Prelude.{IsTrue, ◌↔◌, Option, Some, None, IfSome}
 use Rattle.std.specs.Option.{IsSomeAnd}
 use Rattle.std.specs.List.{All, slice_get}
@@ -12,6 +12,7 @@ use Rattle.xt_model.specs.declared.quad.Pair.{Pair}
 use Rattle.xt_model.specs.declared.net.Net.{Net}
 use Rattle.xt_model.specs.Quads.{IsWithin, quad_at}
 use Rattle.xt_model.specs.Parts.{Parts}
+use Rattle.xt_model.specs.Tables.{TableParts}
 use Rattle.xt_model.specs.Sound.{IsSound, IsSoundNet}
 use Rattle.xt_model.specs.Assign.{assigned, edge_number, words_of, quads_of}
 use Rattle.xt_meaning.specs.Operator.{operator_by, operator, step}
@@ -23,6 +24,7 @@ use Rattle.xt_meaning.proofs.Extremes.{same_pair}
 use Rattle.xt_meaning.proofs.Growth.{wired}
 use Rattle.xt_meaning.proofs.Monotone.{operator_mono}
 use Rattle.xt_meaning.proofs.Words.{quads_of_words}
+use Rattle.table_box.specs.Groups.{AreGroups}
 use Rattle.miller_bits.specs.Views.{HasNet}
 use Rattle.net_eval.specs.Room.{ReadsWithinEnvelope}
 use Rattle.net_eval.specs.Closing.{IsSteadyAt}
@@ -128,3 +130,8 @@ steady_more d v from to h last n low high = elim (cases_lt n to) [
   | inl p ↦ h n low p
   | inr p ↦ let e : to ≡ n = omega (arith, p, high) in subst (IsSteadyAt d v) e last
 ]
+
+-- ---- groups of tables
+-- where no table has a group
+pub no_groups : (tables : List TableParts) → AreGroups tables []
+no_groups tables = record { each = λ i j t u t_there u_there some same. absurd (let bad : ⊥ = omega (arith, some) in bad) }

@@ -1,5 +1,5 @@
 -- What an evaluation reads.
-use Rattle.std.specs.Prelude.{◌≡◌, ℕ, ℤ, Some}
+use Rattle.std.specs.Prelude.{◌≡◌, ℕ, ℤ, List, Some}
 use Rattle.std.specs.List.{All, slice_get}
 use Rattle.xt_model.specs.declared.edge.Edge.{Edge}
 use Rattle.xt_model.specs.declared.edge.Edge.TheVariants.{Rise, Fall}
@@ -15,6 +15,7 @@ use Rattle.xt_meaning.specs.Operator.{operator_by}
 use Rattle.xt_meaning.specs.Reads.{HoldsOfReads}
 use Rattle.miller_bits.specs.declared.overlaps.Overlaps.{Overlaps}
 use Rattle.miller_bits.specs.Views.{HasNet, HasVictim, answers_by}
+use Rattle.table_box.specs.Groups.{AreGroups}
 use Rattle.net_eval.specs.Room.{FitsAtInput}
 
 -- a design, the window of each edge of each net, and whether two of them overlap
@@ -42,10 +43,12 @@ pub record IsReady (has : ℕ → Type 0) (s : Scene) (a : TimingArc) : Type 0 w
   pub words : (e : Edge) → HasVictim has s.design a.from.0 e
   pub room : FitsAtInput s.design s.answers s.windows a
 
--- net number n, which is `net`, can be evaluated: the words that are read for it are there, and its arcs are ready
-pub record IsReadyNet (has : ℕ → Type 0) (s : Scene) (n : ℕ) (net : Net) : Type 0 where
+-- net number n, which is `net`, can be evaluated with these groups of tables: the words that are read for it are there,
+-- and its arcs are ready
+pub record IsReadyNet (has : ℕ → Type 0) (s : Scene) (groups : List ℕ) (n : ℕ) (net : Net) : Type 0 where
   pub there : slice_get s.design.nets n ≡ Some net
   pub sound : IsSoundNet s.design n net
   pub miller : IsMiller s.design.miller
+  pub grouped : AreGroups s.design.tables groups
   pub words : HoldsOfReads (HasNet has) s.design n
   pub arcs : All (IsReady has s) net.arcs

@@ -4,6 +4,7 @@ use Rattle.std.specs.List.{slice_get}
 use Rattle.xt_model.specs.declared.net.TimingArc.{TimingArc}
 use Rattle.xt_model.specs.Parts.{Parts}
 use Rattle.xt_meaning.specs.Operator.{Range}
+use Rattle.table_box.specs.Groups.{AreGroups}
 use Rattle.table_box.specs.TablePairs.{TablesAtLoads}
 use Rattle.net_eval.specs.declared.tables.EdgeTables.{EdgeTables}
 
@@ -16,8 +17,9 @@ pub record AreNumbered (d : Parts) (i j : ℕ) (p : TablesAtLoads) : Type 0 wher
   pub delay : slice_get d.tables i ≡ Some p.first
   pub slew : slice_get d.tables j ≡ Some p.second
 
--- the tables of their numbers, at loads of this range
+-- the tables of their numbers, at loads of this range, and groups of all tables
 pub record AreTables (d : Parts) (r : Range) (t : EdgeTables) : Type 0 where
+  pub groups : AreGroups d.tables t.groups.now
   pub numbered : AreNumbered d t.delay t.slew t.pair
   pub load : loads_at t.pair ≡ r
 

@@ -7,11 +7,12 @@ use miller_bits::{Overlaps, Victim, load_ranges};
 use std::marker::Model;
 use xt_model::{Bounds, Design, Edge, Net, NetId, Pair, Quad};
 
-/// An evaluation of a net of a design, by the windows of a view and by which of them count as overlapping. Clauses see
-/// the windows that the operator makes of it.
+/// An evaluation of a net of a design, by the windows of a view and by which of them count as overlapping, and with the
+/// groups of its tables as far as they are known. Clauses see the windows that the operator makes of it.
 #[derive(Drop)]
 pub(crate) struct Evaluation<'a, V: Bounds> {
     pub design: &'a Design,
+    pub groups: &'a [usize],
     pub overlaps: Overlaps,
     pub view: &'a V,
     pub number: NetId,
@@ -28,7 +29,7 @@ impl<'a, V: Bounds> Model for Evaluation<'a, V> {
     ghost view = { λ e. pair_in (scene_of e.overlaps e.design.now (V.bound_of e.view.now)) e.number.0 };
 
     ghost invariant = { λ e. let s = scene_of e.overlaps e.design.now (V.bound_of e.view.now) in
-        IsReadyNet (V.has e.view.now) s e.number.0 e.net.now };
+        IsReadyNet (V.has e.view.now) s e.groups.now e.number.0 e.net.now };
 }
 
 impl<'a, V: Bounds> Evaluation<'a, V> {
@@ -74,8 +75,18 @@ impl<'a, V: Bounds> Evaluation<'a, V> {
         );
         let to_rise = place_to(arcs, Edge::Rise);
         let to_fall = place_to(arcs, Edge::Fall);
-        let mut rise_tables = EdgeTables::of_arc(&arcs[to_rise], self.design, rise_load);
-        let mut fall_tables = EdgeTables::of_arc(&arcs[to_fall], self.design, fall_load);
+        let mut rise_tables = EdgeTables::of_arc(
+            &arcs[to_rise],
+            self.design,
+            self.groups,
+            rise_load,
+        );
+        let mut fall_tables = EdgeTables::of_arc(
+            &arcs[to_fall],
+            self.design,
+            self.groups,
+            fall_load,
+        );
         let mut rise = Quad::bottom();
         let mut fall = Quad::bottom();
         for arc in self.net.arcs.as_slice() {

@@ -11,6 +11,6 @@ mod ranges;
 mod reads;
 mod tables;
 
-pub use closing::{closed, closed_part};
-pub use operator::{eval, eval_widest};
+pub use closing::{closed, closed_part, closed_part_grouped};
+pub use operator::{eval, eval_grouped, eval_widest};
 pub use reads::{ReadLists, read_lists};

@@ -1,25 +1,46 @@
 //! Tables of timing arcs, at the loads of the net that they drive.
 
-ghost use Rattle.std.specs.Prelude.{◌≡◌, ◌≤ℤ◌, IsTrue};
+ghost use Rattle.std.specs.Prelude.{◌≡◌, ◌<◌, ◌≤ℤ◌, slice_index, IsTrue};
 ghost use Rattle.xt_model.specs.Sound.{IsSoundArc};
 ghost use Rattle.xt_meaning.specs.Operator.{Range};
+ghost use Rattle.table_box.specs.Groups.{AreGroups};
 ghost use Rattle.net_eval.specs.Tables.{AreTables, AreTablesOf};
 
 use table_box::TablePair;
 use xt_model::{Design, TimingArc};
 
-/// The numbers of a delay and a slew table, and both tables at the load of a net at one of its edges.
+/// The numbers of a delay and a slew table, and both tables at the load of a net at one of its edges; and the groups of
+/// all tables, as far as they are known.
 #[derive(Drop)]
 pub(crate) struct EdgeTables<'a> {
     delay: u32,
     slew: u32,
+    groups: &'a [usize],
     pub pair: TablePair<'a>,
+}
+
+/// Whether two tables are known to be in one group.
+fn are_grouped(groups: &[usize], first: u32, second: u32) -> bool
+    ensures { IsTrue result
+        → (0 < slice_index groups.now first) × (slice_index groups.now first ≡ slice_index groups.now second) }
+{
+    let (first, second) = (first as usize, second as usize);
+    if first >= groups.len() || second >= groups.len() {
+        return false;
+    }
+    groups[first] > 0 && groups[first] == groups[second]
 }
 
 impl<'a> EdgeTables<'a> {
     /// The tables of an arc, at this range of loads.
     #[inline(always)]
-    pub fn of_arc(arc: &TimingArc, design: &'a Design, load: (i64, i64)) -> EdgeTables<'a>
+    pub fn of_arc(
+        arc: &TimingArc,
+        design: &'a Design,
+        groups: &'a [usize],
+        load: (i64, i64),
+    ) -> EdgeTables<'a>
+        requires groups { AreGroups design.now.tables groups.now }
         requires sound { IsSoundArc design.now arc.now }
         requires load { load.0 ≤ℤ load.1 }
         ensures { let behind : Range = record { least = load.0; most = load.1 } in
@@ -29,9 +50,11 @@ impl<'a> EdgeTables<'a> {
         EdgeTables {
             delay: arc.delay,
             slew: arc.slew,
-            pair: TablePair::new(
+            groups,
+            pair: TablePair::known(
                 &tables[arc.delay as usize],
                 &tables[arc.slew as usize],
+                are_grouped(groups, arc.delay, arc.slew),
                 load.0,
                 load.1,
             ),
@@ -59,6 +82,6 @@ impl<'a> EdgeTables<'a> {
         if self.are_named_by(arc) {
             return;
         }
-        *self = EdgeTables::of_arc(arc, design, load);
+        *self = EdgeTables::of_arc(arc, design, self.groups, load);
     }
 }

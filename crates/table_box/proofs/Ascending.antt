@@ -5,7 +5,7 @@ use Rattle.std.specs.Int.{int_div_euclid}
 use Rattle.std.proofs.lemmas.Bool.{cases_lt}
 use Rattle.std.proofs.lemmas.Int.{ints}
 use Rattle.xt_model.specs.Tables.{IsIndex, IsTable, IsTableNumber, TableParts}
-use Rattle.xt_meaning.specs.Lookup.{Span, clamped, greatest_over, least_over, span_of, table_value, value_in}
+use Rattle.xt_meaning.specs.Lookup.{Box, Span, clamped, greatest_over, least_over, span_of, table_value, value_in}
 use Rattle.xt_meaning.proofs.Ranges.{IsBox, IsInBox, greatest_over_above, greatest_over_least, least_over_below, least_over_most}
 use Rattle.table_box.specs.declared.stretch.Stretch.{Stretch}
 use Rattle.table_box.specs.Spans.{AreAlike, IsSpan, span_in}
@@ -176,64 +176,72 @@ module _ (t : TableParts) (ok : IsTable t) (r0 r1 c0 c1 : ℕ) (rise : DoAllRise
       c d k c_low d_high in
       chained _ _ _ a b
 
+-- ---- a smaller part
+pub rise_within : (t : TableParts) (r0 r1 c0 c1 r2 r3 c2 c3 : ℕ) → r0 ≤ r2 → r3 ≤ r1 → c0 ≤ c2 → c3 ≤ c1 → DoAllRise t r0 r1 c0 c1 → DoAllRise t r2 r3 c2 c3
+rise_within t r0 r1 c0 c1 r2 r3 c2 c3 a b p q rise = record {
+  rows = λ i h k. record { each = λ j u v. (rise.rows i (omega arith) (omega arith)).each j (omega arith) (omega arith) };
+  columns = λ i h k. record { each = λ j u v. (rise.columns i (omega arith) (omega arith)).each j (omega arith) (omega arith) };
+}
+
 -- ---- the corners of a box
-module _ (t : TableParts) (ok : IsTable t) (slews loads : Stretch) (on_slews : IsStretch t.slews slews) (on_loads : IsStretch t.loads loads)
-    (rise : DoAllRise t slews.start.first slews.end.second loads.start.first loads.end.second) where
-  box : IsBox (box_of slews loads)
-  box = record { slews = on_slews.ordered; loads = on_loads.ordered }
-
-  first_row : slews.start.first ≡ (span_of t.slews slews.from).first
-  first_row = ap (λ s. s.first) on_slews.start
-
-  last_row : slews.end.second ≡ (span_of t.slews slews.to).second
-  last_row = ap (λ s. s.second) on_slews.end
-
-  first_column : loads.start.first ≡ (span_of t.loads loads.from).first
-  first_column = ap (λ s. s.first) on_loads.start
-
-  last_column : loads.end.second ≡ (span_of t.loads loads.to).second
-  last_column = ap (λ s. s.second) on_loads.end
-
+module _ (t : TableParts) (ok : IsTable t) (b : Box) (box : IsBox b)
+    (rise : DoAllRise t (span_of t.slews b.s0).first (span_of t.slews b.s1).second (span_of t.loads b.c0).first (span_of t.loads b.c1).second) where
   abbrev least : ℤ
-  least = value_in t (span_of t.slews slews.from) (span_of t.loads loads.from)
+  least = value_in t (span_of t.slews b.s0) (span_of t.loads b.c0)
 
   abbrev greatest : ℤ
-  greatest = value_in t (span_of t.slews slews.to) (span_of t.loads loads.to)
+  greatest = value_in t (span_of t.slews b.s1) (span_of t.loads b.c1)
 
-  least_below : (s c : ℤ) → IsInBox (box_of slews loads) s c → least ≤ℤ table_value t s c
+  least_below : (s c : ℤ) → IsInBox b s c → least ≤ℤ table_value t s c
   unfolding table_value
   least_below s c i =
-      let rows = lines_rise t.slews ok.slews s slews.to i.s_high in let columns = lines_rise t.loads ok.loads c loads.to i.c_high in
-      values_rise t ok _ _ _ _ rise slews.from s loads.from c i.s_low i.c_low (omega (arith, first_row)) (omega (arith, rows.1, last_row))
-      (omega (arith, first_column)) (omega (arith, columns.1, last_column))
+      let rows = lines_rise t.slews ok.slews s b.s1 i.s_high in let columns = lines_rise t.loads ok.loads c b.c1 i.c_high in
+      values_rise t ok _ _ _ _ rise b.s0 s b.c0 c i.s_low i.c_low (omega arith) rows.1 (omega arith) columns.1
 
-  greatest_above : (s c : ℤ) → IsInBox (box_of slews loads) s c → table_value t s c ≤ℤ greatest
+  greatest_above : (s c : ℤ) → IsInBox b s c → table_value t s c ≤ℤ greatest
   unfolding table_value
   greatest_above s c i =
-      let rows = lines_rise t.slews ok.slews slews.from s i.s_low in let columns = lines_rise t.loads ok.loads loads.from c i.c_low in
-      values_rise t ok _ _ _ _ rise s slews.to c loads.to i.s_high i.c_high (omega (arith, rows.0, first_row)) (omega (arith, last_row))
-      (omega (arith, columns.0, first_column)) (omega (arith, last_column))
+      let rows = lines_rise t.slews ok.slews b.s0 s i.s_low in let columns = lines_rise t.loads ok.loads b.c0 c i.c_low in
+      values_rise t ok _ _ _ _ rise s b.s1 c b.c1 i.s_high i.c_high rows.0 (omega arith) columns.0 (omega arith)
 
-  least_is : least ≡ least_over (table_value t) (box_of slews loads)
+  least_is : least ≡ least_over (table_value t) b
   unfolding table_value
-  least_is = same_number _ _ (least_over_most (table_value t) (box_of slews loads) least box least_below)
-      (least_over_below (table_value t) (box_of slews loads) slews.from loads.from
-      (record { s_low = omega (arith, ints); s_high = on_slews.ordered; c_low = omega (arith, ints); c_high = on_loads.ordered }))
+  least_is = same_number _ _ (least_over_most (table_value t) b least box least_below)
+      (least_over_below (table_value t) b b.s0 b.c0
+      (record { s_low = omega (arith, ints); s_high = box.slews; c_low = omega (arith, ints); c_high = box.loads }))
 
-  greatest_is : greatest ≡ greatest_over (table_value t) (box_of slews loads)
+  greatest_is : greatest ≡ greatest_over (table_value t) b
   unfolding table_value
   greatest_is = same_number _ _
-      (greatest_over_above (table_value t) (box_of slews loads) slews.to loads.to
-      (record { s_low = on_slews.ordered; s_high = omega (arith, ints); c_low = on_loads.ordered; c_high = omega (arith, ints) }))
-      (greatest_over_least (table_value t) (box_of slews loads) greatest box greatest_above)
+      (greatest_over_above (table_value t) b b.s1 b.c1
+      (record { s_low = box.slews; s_high = omega (arith, ints); c_low = box.loads; c_high = omega (arith, ints) }))
+      (greatest_over_least (table_value t) b greatest box greatest_above)
+
+  pub corners_are : (x y : ℤ) → x ≡ least → y ≡ greatest → IsRange t b (x, y)
+  corners_are x y x_is y_is = record {
+    least = x_is ∙ least_is;
+    greatest = y_is ∙ greatest_is;
+    least_number = subst IsTableNumber (sym (x_is ∙ least_is)) (least_number t ok b box);
+    greatest_number = subst IsTableNumber (sym (y_is ∙ greatest_is)) (greatest_number t ok b box);
+  }
+
+-- the values at two places are those of two corners
+pub value_there : (t : TableParts) (s c p q : Span) → p ≡ s → q ≡ c → value_in t p q ≡ value_in t s c
+value_there t s c p q e f = ap (λ x. value_in t x q) e ∙ ap (value_in t s) f
+
+module _ (t : TableParts) (ok : IsTable t) (slews loads : Stretch) (on_slews : IsStretch t.slews slews) (on_loads : IsStretch t.loads loads)
+    (rise : DoAllRise t slews.start.first slews.end.second loads.start.first loads.end.second) where
+  box_is : IsBox (box_of slews loads)
+  box_is = record { slews = on_slews.ordered; loads = on_loads.ordered }
+
+  rise_there : DoAllRise t (span_of t.slews slews.from).first (span_of t.slews slews.to).second (span_of t.loads loads.from).first (span_of t.loads loads.to).second
+  rise_there =
+      let a = ap (λ s. s.first) on_slews.start in let b = ap (λ s. s.second) on_slews.end in
+      let c = ap (λ s. s.first) on_loads.start in let d = ap (λ s. s.second) on_loads.end in
+      rise_within t _ _ _ _ _ _ _ _ (omega (arith, a)) (omega (arith, b)) (omega (arith, c)) (omega (arith, d)) rise
 
   pub corners_hold : (a b : ℤ) → a ≡ value_in t (span_in slews.start) (span_in loads.start) → b ≡ value_in t (span_in slews.end) (span_in loads.end) → IsRange t (box_of slews loads) (a, b)
   corners_hold a b a_is b_is =
-      let low : a ≡ least_over (table_value t) (box_of slews loads) = a_is ∙ (ap (λ s. value_in t s (span_in loads.start)) on_slews.start ∙ (ap (value_in t (span_of t.slews slews.from)) on_loads.start ∙ least_is)) in
-      let high : b ≡ greatest_over (table_value t) (box_of slews loads) = b_is ∙ (ap (λ s. value_in t s (span_in loads.end)) on_slews.end ∙ (ap (value_in t (span_of t.slews slews.to)) on_loads.end ∙ greatest_is)) in
-      record {
-        least = low;
-        greatest = high;
-        least_number = subst IsTableNumber (sym low) (least_number t ok (box_of slews loads) box);
-        greatest_number = subst IsTableNumber (sym high) (greatest_number t ok (box_of slews loads) box);
-      }
+      corners_are t ok (box_of slews loads) box_is rise_there a b
+      (a_is ∙ value_there t _ _ _ _ on_slews.start on_loads.start)
+      (b_is ∙ value_there t _ _ _ _ on_slews.end on_loads.end)

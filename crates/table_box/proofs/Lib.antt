@@ -7,5 +7,7 @@ mod Widths
 mod Places
 mod Sweeps
 mod Small
+mod Sizes
 mod Rising
 mod Ascending
+mod Grouping

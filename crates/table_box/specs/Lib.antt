@@ -5,4 +5,6 @@ pub mod Mixes
 pub mod Ranges
 pub mod Rises
 pub mod Cells
+pub mod Monotone
+pub mod Groups
 pub mod TablePairs

@@ -11,6 +11,7 @@ ghost use Rattle.table_box.specs.Mixes.{mixed};
 ghost use Rattle.table_box.specs.Cells.{AreAtMost, AreEnds, AreMixable, AreNeighbours, AreRising};
 ghost use Rattle.table_box.specs.Cells.{DoRise, IsAtMost, IsRising, IsSmallCell};
 ghost use Rattle.table_box.specs.Ranges.{IsRange};
+ghost use Rattle.table_box.specs.Monotone.{AreSmall, IsPlaceOn};
 
 use crate::place::Place;
 use crate::ranges::joined;
@@ -161,6 +162,32 @@ impl<'a> Cell<'a> {
             second_second,
             rising,
         })
+    }
+
+    /// The cell of a slew and a load of a table whose numbers are small for its cells. It does not tell whether they
+    /// rise there.
+    #[inline(always)]
+    pub fn of_small(table: &'a Table, slew: &'a Place, load: &'a Place) -> Cell<'a>
+        requires table { IsTable table.now }
+        requires small { AreSmall table.now }
+        requires slew { IsPlaceOn table.now.slews slew.now }
+        requires load { IsPlaceOn table.now.loads load.now }
+        ensures table { result.table.now ≡ table.now }
+        ensures slew { result.slew.now ≡ slew.now }
+        ensures load { result.load.now ≡ load.now }
+        ensures small { IsSmallCell result }
+    {
+        Cell {
+            table,
+            slew,
+            load,
+            area: slew.width * load.width,
+            first_first: number_at(table, slew.first, load.first),
+            first_second: number_at(table, slew.first, load.second),
+            second_first: number_at(table, slew.second, load.first),
+            second_second: number_at(table, slew.second, load.second),
+            rising: false,
+        }
     }
 
     /// The value at a slew and a load in the cell: the floor of the exact bilinear fraction.

@@ -52,16 +52,20 @@ fn is_next_higher(table: &Table, row: usize, first: usize, last: usize) -> bool
     true
 }
 
-/// Whether the numbers of the cells of several slews and several loads rise along both axes.
-fn do_all_rise(table: &Table, slews: &Stretch, loads: &Stretch) -> bool
+/// Whether the numbers of a table rise along both axes, from one row and column to others.
+pub(crate) fn do_all_rise(
+    table: &Table,
+    first_row: usize,
+    last_row: usize,
+    first: usize,
+    last: usize,
+) -> bool
     requires table { IsTable table.now }
-    requires slews { IsStretch table.now.slews slews.now }
-    requires loads { IsStretch table.now.loads loads.now }
-    ensures { IsTrue result
-        → DoAllRise table.now slews.now.start.first slews.now.end.second loads.now.start.first loads.now.end.second }
+    requires rows { last_row < length table.now.slews }
+    requires columns { last < length table.now.loads }
+    ensures { IsTrue result → DoAllRise table.now first_row last_row first last }
 {
-    let (first, last) = (loads.start.first, loads.end.second);
-    for row in slews.start.first..slews.end.second {
+    for row in first_row..last_row {
         if !does_row_rise(table, row, first, last) {
             return false;
         }
@@ -69,7 +73,7 @@ fn do_all_rise(table: &Table, slews: &Stretch, loads: &Stretch) -> bool
             return false;
         }
     }
-    does_row_rise(table, slews.end.second, first, last)
+    does_row_rise(table, last_row, first, last)
 }
 
 /// The least and the greatest value over several slews and several loads, where the numbers of their cells rise along
@@ -80,7 +84,13 @@ pub(crate) fn corner_range(table: &Table, slews: &Stretch, loads: &Stretch) -> O
     requires loads { IsStretch table.now.loads loads.now }
     ensures { IfSome result (λ range. IsRange table.now (box_of slews.now loads.now) range) }
 {
-    if !do_all_rise(table, slews, loads) {
+    if !do_all_rise(
+        table,
+        slews.start.first,
+        slews.end.second,
+        loads.start.first,
+        loads.end.second,
+    ) {
         return None;
     }
     let least = value_at(table, &slews.start, &loads.start);

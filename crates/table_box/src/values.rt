@@ -11,7 +11,7 @@ use crate::place::Place;
 use xt_model::Table;
 
 /// A number of a table, times a distance along an axis.
-fn scaled(value: i64, distance: i64) -> i128
+pub(crate) fn scaled(value: i64, distance: i64) -> i128
     requires value { IsTableNumber value }
     requires low { pos 0 ≤ℤ distance }
     requires high { distance ≤ℤ pos (2 ^ 41) }
@@ -23,7 +23,7 @@ fn scaled(value: i64, distance: i64) -> i128
 }
 
 /// The number of a column at a slew, times a distance along the loads.
-fn weighed(number: i128, distance: i64) -> i128
+pub(crate) fn weighed(number: i128, distance: i64) -> i128
     requires number_low { neg_ℤ (pos (2 ^ 82)) ≤ℤ number }
     requires number_high { number ≤ℤ pos (2 ^ 82) }
     requires low { pos 0 ≤ℤ distance }

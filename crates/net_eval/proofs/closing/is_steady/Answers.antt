@@ -7,7 +7,7 @@ pub invariant_of-evaluation : goal.invariant_of-evaluation
 invariant_of-evaluation c =
     let d = c.args.design.now in
     let v = c.args.windows.now in
-    ready_net _ _ c.args.net c.net.result.now c.net.ensures.whole c.net.ensures.there (windows_read d v c.args.net c.requires.count c.net.ensures.whole c.requires.net)
+    ready_net _ _ _ c.args.net c.net.result.now c.requires.groups c.net.ensures.whole c.net.ensures.there (windows_read d v c.args.net c.requires.count c.net.ensures.whole c.requires.net)
     (reads_fit d _ _ c.args.net c.net.ensures.whole (windows_within d v c.args.net c.requires.within))
 
 pub returns : goal.returns

@@ -1,6 +1,5 @@
-use Rattle.net_eval.proofs.Rooms.{reads_fit, ready_net}
+use Rattle.net_eval.proofs.Steady.{no_groups}
 use Rattle.net_eval.proofs.operator.eval.Goals as goal
 
-pub invariant_of-evaluation : goal.invariant_of-evaluation
-invariant_of-evaluation g c =
-    ready_net _ _ c.args.net.0 c.net.result.now c.net.ensures.whole c.net.ensures.there c.requires.words (reads_fit c.args.design.now _ _ c.args.net.0 c.net.ensures.whole c.requires.room)
+pub eval_grouped-requires-clause-groups : goal.eval_grouped-requires-clause-groups
+eval_grouped-requires-clause-groups g c = no_groups _

@@ -4,6 +4,12 @@ use Rattle.table_box.proofs.Places.{number_word, placed_sound}
 use Rattle.table_box.proofs.Ascending.{corners_hold}
 use Rattle.table_box.proofs.corners.corner_range.Goals as goal
 
+pub do_all_rise-requires-clause-rows : goal.do_all_rise-requires-clause-rows
+do_all_rise-requires-clause-rows c = (placed_sound _ _ _ c.requires.table.slews c.requires.slews.end).second
+
+pub do_all_rise-requires-clause-columns : goal.do_all_rise-requires-clause-columns
+do_all_rise-requires-clause-columns c = (placed_sound _ _ _ c.requires.table.loads c.requires.loads.end).second
+
 pub value_at-least-requires-clause-slew : goal.value_at-least-requires-clause-slew
 value_at-least-requires-clause-slew c = placed_sound _ _ _ c.requires.table.slews c.requires.slews.start
 

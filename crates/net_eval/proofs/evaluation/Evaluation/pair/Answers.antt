@@ -179,3 +179,9 @@ with_arc-fall-requires-clause-sound g c =
 
 pub returns-clause-range : goal.returns-clause-range
 returns-clause-range g c = record { rise = c.loop-arc.invariant.rise_range; fall = c.loop-arc.invariant.fall_range }
+
+pub of_arc-rise_tables-requires-clause-groups : goal.of_arc-rise_tables-requires-clause-groups
+of_arc-rise_tables-requires-clause-groups g c = c.self.invariant.grouped
+
+pub of_arc-fall_tables-requires-clause-groups : goal.of_arc-fall_tables-requires-clause-groups
+of_arc-fall_tables-requires-clause-groups g c = c.self.invariant.grouped
