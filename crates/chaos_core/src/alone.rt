@@ -7,6 +7,7 @@ ghost use Rattle.std.specs.List.{All};
 ghost use Rattle.xt_model.specs.Levels.{IsOrder};
 ghost use Rattle.xt_model.specs.Quads.{IsPairInRange};
 ghost use Rattle.xt_meaning.specs.Words.{bounds_in, top_number};
+ghost use Rattle.table_box.specs.Groups.{AreGroups};
 ghost use Rattle.net_eval.specs.ReadLists.{AreReadLists};
 ghost use Rattle.drawn_numbers.specs.Draws.{after};
 ghost use Rattle.chaos_core.specs.Steps.{FitsPublishing};
@@ -25,7 +26,7 @@ use crate::memory::MemoryBoard;
 use crate::steps::publish;
 use crate::words::number_in;
 use drawn_numbers::Source;
-use net_eval::{ReadLists, eval};
+use net_eval::{ReadLists, eval_grouped};
 use xt_model::{Bounds, Design, Direction, NetId, Pair};
 
 /// The words of all nets, as a view of bounds.
@@ -55,7 +56,8 @@ fn pick_only(source: &mut Source, picks: usize)
 }
 
 /// What the operator makes of a net of the words.
-fn made(board: &MemoryBoard, design: &Design, net: NetId) -> Pair
+fn made(board: &MemoryBoard, design: &Design, groups: &[usize], net: NetId) -> Pair
+    requires groups { AreGroups design.now.tables groups.now }
     requires design { board.now.setting.design ≡ design.now }
     requires net { net.0 < length design.now.nets }
     ensures value { result ≡ made_of design.now board.now.words net.0 }
@@ -64,7 +66,7 @@ fn made(board: &MemoryBoard, design: &Design, net: NetId) -> Pair
 {
     let numbers = board.words();
     let view = AllWords { numbers };
-    eval(design, net, &view)
+    eval_grouped(design, groups, net, &view)
 }
 
 /// Publishes all words of a net.
@@ -137,6 +139,7 @@ fn move_to(
 fn turn(
     board: &mut MemoryBoard,
     design: &Design,
+    groups: &[usize],
     lists: &ReadLists,
     listed: &NetLists,
     direction: Direction,
@@ -144,6 +147,7 @@ fn turn(
     source: &mut Source,
     marks: &mut TurnMarks,
 )
+    requires groups { AreGroups design.now.tables groups.now }
     requires design { board.old.setting.design ≡ design.now }
     requires direction { board.old.setting.way ≡ direction }
     requires lists { AreReadLists design.now lists.now }
@@ -163,7 +167,7 @@ fn turn(
     if marks.is_settled(net, design.net(net.0 as usize)) {
         return;
     }
-    let pair = made(board, design, net);
+    let pair = made(board, design, groups, net);
     if hold_pair(board, net, &pair) {
         marks.note_look(net);
         return;
@@ -176,12 +180,14 @@ fn turn(
 pub(crate) fn round_alone(
     board: &mut MemoryBoard,
     design: &Design,
+    groups: &[usize],
     lists: &ReadLists,
     listed: &NetLists,
     direction: Direction,
     source: &mut Source,
     marks: &mut TurnMarks,
 )
+    requires groups { AreGroups design.now.tables groups.now }
     requires design { board.old.setting.design ≡ design.now }
     requires direction { board.old.setting.way ≡ direction }
     requires lists { AreReadLists design.now lists.now }
@@ -198,6 +204,7 @@ pub(crate) fn round_alone(
         turn(
             board,
             design,
+            groups,
             lists,
             listed,
             direction,

@@ -10,6 +10,7 @@ ghost use Rattle.xt_meaning.specs.Barrier.{IsFittingStart, IsWithinEnvelope};
 ghost use Rattle.xt_meaning.specs.Fixpoint.{IsWindows};
 ghost use Rattle.xt_meaning.specs.Operator.{step};
 ghost use Rattle.xt_meaning.specs.Words.{numbers_of};
+ghost use Rattle.table_box.specs.Groups.{AreGroups};
 ghost use Rattle.net_eval.specs.ReadLists.{AreReadLists};
 ghost use Rattle.chaos_core.specs.Knowing.{IsKnown};
 ghost use Rattle.chaos_core.specs.Memories.{AreKept};
@@ -59,7 +60,8 @@ impl Known {
     }
 
     /// Whether the words are closed, whose windows are given. What one worker finds steady it knows in its first round.
-    pub fn look(&mut self, design: &Design, windows: &Windows) -> bool
+    pub fn look(&mut self, design: &Design, groups: &[usize], windows: &Windows) -> bool
+        requires groups { AreGroups design.now.tables groups.now }
         requires windows { IsWindows design.now windows.now }
         requires within { IsWithinEnvelope design.now windows.now }
         requires known { (workers : ℕ) × IsKnown design.now workers (numbers_of windows.now) self.old }
@@ -69,7 +71,7 @@ impl Known {
             → IsKnown design.now workers (numbers_of windows.now) self.new }
     {
         match self {
-            Known::Turns(marks, _) => closed_by(design, marks, windows),
+            Known::Turns(marks, _) => closed_by(design, groups, marks, windows),
             Known::Moves(_, _) => closed(design, windows),
         }
     }
@@ -81,11 +83,13 @@ impl Known {
         board: &mut MemoryBoard,
         workers: &mut [Worker],
         design: &Design,
+        groups: &[usize],
         lists: &ReadLists,
         direction: Direction,
         source: &mut Source,
         windows: &mut Windows,
     ) -> bool
+        requires groups { AreGroups design.now.tables groups.now }
         requires design { board.old.setting.design ≡ design.now }
         requires direction { board.old.setting.way ≡ direction }
         requires kept { AreKept board.old.setting board.old.words }
@@ -109,15 +113,24 @@ impl Known {
     {
         match self {
             Known::Turns(marks, listed) => {
-                round_alone(board, design, lists, listed, direction, source, marks);
+                round_alone(
+                    board, design, groups, lists, listed, direction, source, marks,
+                );
                 board.load_into(windows);
-                closed_by(design, marks, windows)
+                closed_by(design, groups, marks, windows)
             }
             Known::Moves(before, unmoved) => {
                 board.load_into(before);
                 round(board, workers, design, lists, direction, source);
                 board.load_into(windows);
-                closed_after(design, lists, unmoved.as_mut_slice(), before, windows)
+                closed_after(
+                    design,
+                    groups,
+                    lists,
+                    unmoved.as_mut_slice(),
+                    before,
+                    windows,
+                )
             }
         }
     }

@@ -4,11 +4,12 @@ ghost use Rattle.std.specs.Prelude.{◌≡◌, ◌*◌, ◌/◌, ◌<◌, ◌≤
 ghost use Rattle.std.specs.List.{All, Contains};
 ghost use Rattle.xt_model.specs.Quads.{IsPairInRange};
 ghost use Rattle.xt_meaning.specs.Words.{bound_in, top_number};
+ghost use Rattle.table_box.specs.Groups.{AreGroups};
 ghost use Rattle.net_eval.specs.ReadLists.{ids};
 ghost use Rattle.chaos_core.specs.Tasks.{evaluated, loaded_bounds, place_of};
 ghost use Rattle.chaos_core.specs.Views.{ArePlaces, IsLoaded, Rises};
 
-use net_eval::eval;
+use net_eval::eval_grouped;
 use xt_model::{Bounds, Design, NetId, Pair};
 
 /// The bound that a number of a word denotes: from 0 to 2^63, and the bound is 2^62 less.
@@ -86,11 +87,30 @@ pub fn evaluate(
     ensures range { IsPairInRange result }
     ensures count { length places.new ≡ length places.old }
 {
+    evaluate_grouped(design, &[], reads, net, numbers, places)
+}
+
+/// The same, where groups of the design's tables are known.
+pub(crate) fn evaluate_grouped(
+    design: &Design,
+    groups: &[usize],
+    reads: &[NetId],
+    net: NetId,
+    numbers: &[u64],
+    places: &mut [u32],
+) -> Pair
+    requires groups { AreGroups design.now.tables groups.now }
+    requires loaded { IsLoaded design.now (ids reads.now) net.0 numbers.now }
+    requires places { length design.now.nets ≤ length places.old }
+    ensures value { result ≡ evaluated design.now (ids reads.now) numbers.now net.0 }
+    ensures range { IsPairInRange result }
+    ensures count { length places.new ≡ length places.old }
+{
     set_places(places, reads);
     let view = LoadedWords {
         reads,
         numbers,
         places,
     };
-    eval(design, net, &view)
+    eval_grouped(design, groups, net, &view)
 }

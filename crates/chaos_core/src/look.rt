@@ -8,16 +8,25 @@ ghost use Rattle.xt_meaning.specs.Operator.{step};
 ghost use Rattle.xt_meaning.specs.Barrier.{IsWithinEnvelope};
 ghost use Rattle.xt_meaning.specs.Fixpoint.{IsWindows};
 ghost use Rattle.xt_meaning.specs.Words.{numbers_of};
+ghost use Rattle.table_box.specs.Groups.{AreGroups};
 ghost use Rattle.net_eval.specs.Closing.{IsSteadyAt};
 ghost use Rattle.chaos_core.specs.TurnMarks.{AreMarks};
 
 use crate::marks::TurnMarks;
-use net_eval::closed_part;
+use net_eval::closed_part_grouped;
 use xt_model::{Design, NetId, Windows};
 
 /// Whether the operator gives the windows of a net back, which it does where the net is settled. Notes that the net
 /// was evaluated, if it does.
-fn is_steady(design: &Design, marks: &mut TurnMarks, windows: &Windows, net: u32, next: u32) -> bool
+fn is_steady(
+    design: &Design,
+    groups: &[usize],
+    marks: &mut TurnMarks,
+    windows: &Windows,
+    net: u32,
+    next: u32,
+) -> bool
+    requires groups { AreGroups design.now.tables groups.now }
     requires windows { IsWindows design.now windows.now }
     requires within { IsWithinEnvelope design.now windows.now }
     requires marks { AreMarks design.now (numbers_of windows.now) marks.old }
@@ -29,7 +38,7 @@ fn is_steady(design: &Design, marks: &mut TurnMarks, windows: &Windows, net: u32
     if marks.is_settled(NetId(net), design.net(net as usize)) {
         return true;
     }
-    if !closed_part(design, windows, net, next) {
+    if !closed_part_grouped(design, groups, windows, net, next) {
         return false;
     }
     marks.note_look(NetId(net));
@@ -38,7 +47,13 @@ fn is_steady(design: &Design, marks: &mut TurnMarks, windows: &Windows, net: u32
 
 /// Whether the operator gives the windows back at every net. Evaluates no net that is settled, and notes those up to
 /// the first that it does not give back. Takes no memory.
-pub(crate) fn closed_by(design: &Design, marks: &mut TurnMarks, windows: &Windows) -> bool
+pub(crate) fn closed_by(
+    design: &Design,
+    groups: &[usize],
+    marks: &mut TurnMarks,
+    windows: &Windows,
+) -> bool
+    requires groups { AreGroups design.now.tables groups.now }
     requires windows { IsWindows design.now windows.now }
     requires within { IsWithinEnvelope design.now windows.now }
     requires marks { AreMarks design.now (numbers_of windows.now) marks.old }
@@ -48,7 +63,7 @@ pub(crate) fn closed_by(design: &Design, marks: &mut TurnMarks, windows: &Window
 {
     marks.begin_turn();
     for net in 0..design.nets().len() as u32 {
-        if !is_steady(design, marks, windows, net, net + 1) {
+        if !is_steady(design, groups, marks, windows, net, net + 1) {
             return false;
         }
     }

@@ -5,12 +5,13 @@ ghost use Rattle.std.specs.Prelude.{◌≡◌, ℕ, ◌+◌, ◌*◌, ◌<◌, �
 ghost use Rattle.std.specs.List.{All};
 ghost use Rattle.xt_model.specs.Quads.{IsPairInRange};
 ghost use Rattle.xt_meaning.specs.Words.{number_for};
+ghost use Rattle.table_box.specs.Groups.{AreGroups};
 ghost use Rattle.net_eval.specs.ReadLists.{AreReadLists, ids, reads_of};
 ghost use Rattle.chaos_core.specs.Tasks.{bound_at, evaluated, list_of};
 ghost use Rattle.chaos_core.specs.Views.{IsLoaded};
 ghost use Rattle.chaos_core.specs.Looks.{AreAllMarked, AreNumbersOf, IsLook};
 
-use crate::loaded::evaluate;
+use crate::loaded::evaluate_grouped;
 use crate::unmoved::are_all_marked;
 use crate::words::number_in;
 use net_eval::ReadLists;
@@ -82,12 +83,14 @@ impl<'a> Looked<'a> {
 /// nets.
 pub(crate) fn evaluate_by(
     design: &Design,
+    groups: &[usize],
     lists: &ReadLists,
     net: NetId,
     numbers: &[u64],
     places: &mut [u32],
     look: Option<&Looked<'_>>,
 ) -> Pair
+    requires groups { AreGroups design.now.tables groups.now }
     requires lists { AreReadLists design.now lists.now }
     requires loaded { IsLoaded design.now (list_of lists.now net.0) net.0 numbers.now }
     requires places { length design.now.nets ≤ length places.old }
@@ -101,5 +104,5 @@ pub(crate) fn evaluate_by(
             return look.windows.pair(net.0 as usize);
         }
     }
-    evaluate(design, lists.of(net), net, numbers, places)
+    evaluate_grouped(design, groups, lists.of(net), net, numbers, places)
 }

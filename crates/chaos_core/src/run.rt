@@ -4,6 +4,7 @@ ghost use Rattle.std.specs.Prelude.{◌≡◌, ℕ, suc, ◌↔◌, ◌<◌, Lis
 ghost use Rattle.xt_model.specs.declared.net.NetId.{NetId};
 ghost use Rattle.xt_model.specs.Levels.{IsOrder};
 ghost use Rattle.xt_model.specs.Parts.{Parts};
+ghost use Rattle.table_box.specs.Groups.{AreGroups};
 ghost use Rattle.net_eval.specs.ReadLists.{AreReadLists};
 ghost use Rattle.chaos_core.specs.Tasks.{done, idle, loaded_of, loading, places_of, publishing};
 ghost use Rattle.chaos_core.specs.Tasks.{room_of, task_of};
@@ -32,10 +33,12 @@ fn load_rest<B: Board>(
     board: &mut B,
     worker: &mut Worker,
     design: &Design,
+    groups: &[usize],
     lists: &ReadLists,
     net: NetId,
     look: Option<&Looked<'_>>,
 )
+    requires groups { AreGroups design.now.tables groups.now }
     requires design { (B.knows board.old).setting.design ≡ design.now }
     requires lists { AreReadLists design.now lists.now }
     requires look { IfSome look (λ l. IsLook design.now lists.now l.now.windows.now l.now.marks.now) }
@@ -55,6 +58,7 @@ fn load_rest<B: Board>(
     }
     let pair = evaluate_by(
         design,
+        groups,
         lists,
         net,
         worker.loaded.as_slice(),
@@ -95,10 +99,12 @@ fn advance<B: Board>(
     board: &mut B,
     worker: &mut Worker,
     design: &Design,
+    groups: &[usize],
     lists: &ReadLists,
     direction: Direction,
     look: Option<&Looked<'_>>,
 )
+    requires groups { AreGroups design.now.tables groups.now }
     requires design { (B.knows board.old).setting.design ≡ design.now }
     requires direction { (B.knows board.old).setting.way ≡ direction }
     requires lists { AreReadLists design.now lists.now }
@@ -113,7 +119,7 @@ fn advance<B: Board>(
     ensures places { places_of worker.new ≡ places_of worker.old }
 {
     match worker.stage {
-        Stage::Loading(net) => load_rest(board, worker, design, lists, NetId(net), look),
+        Stage::Loading(net) => load_rest(board, worker, design, groups, lists, NetId(net), look),
         Stage::Publishing(net, pair, from) => {
             publish_rest(board, worker, direction, net, pair, from);
         }
@@ -128,10 +134,12 @@ fn run_by<B: Board>(
     board: &mut B,
     worker: &mut Worker,
     design: &Design,
+    groups: &[usize],
     lists: &ReadLists,
     direction: Direction,
     look: Option<&Looked<'_>>,
 )
+    requires groups { AreGroups design.now.tables groups.now }
     requires design { (B.knows board.old).setting.design ≡ design.now }
     requires direction { (B.knows board.old).setting.way ≡ direction }
     requires lists { AreReadLists design.now lists.now }
@@ -149,7 +157,7 @@ fn run_by<B: Board>(
     ensures places { places_of worker.new ≡ places_of worker.old }
 {
     'steps: while !is_done(worker) {
-        advance(board, worker, design, lists, direction, look);
+        advance(board, worker, design, groups, lists, direction, look);
     }
 }
 
@@ -177,7 +185,7 @@ pub fn run_worker<B: Board>(
     ensures room { room_of worker.new ≡ room_of worker.old }
     ensures places { places_of worker.new ≡ places_of worker.old }
 {
-    run_by(board, worker, design, lists, direction, None);
+    run_by(board, worker, design, &[], lists, direction, None);
 }
 
 /// A run as by [`run_worker`]. Where the last look knows that the operator gives the windows of a net back, and the
@@ -206,5 +214,35 @@ pub fn run_looked<B: Board>(
     ensures room { room_of worker.new ≡ room_of worker.old }
     ensures places { places_of worker.new ≡ places_of worker.old }
 {
-    run_by(board, worker, design, lists, direction, Some(look));
+    run_grouped(board, worker, design, &[], lists, direction, look);
+}
+
+/// The same, where groups of the design's tables are known, as `table_groups` finds them.
+pub fn run_grouped<B: Board>(
+    board: &mut B,
+    worker: &mut Worker,
+    design: &Design,
+    groups: &[usize],
+    lists: &ReadLists,
+    direction: Direction,
+    look: &Looked<'_>,
+)
+    requires groups { AreGroups design.now.tables groups.now }
+    requires design { (B.knows board.old).setting.design ≡ design.now }
+    requires direction { (B.knows board.old).setting.way ≡ direction }
+    requires lists { AreReadLists design.now lists.now }
+    requires look { IsLook design.now lists.now look.now.windows.now look.now.marks.now }
+    requires fits { IsFitting (B.knows board.old) lists.now worker.old }
+    requires idle { task_of worker.old ≡ idle }
+    requires fresh { (B.knows board.old).drawn ≡ [] }
+    requires late { 0 < (B.knows board.old).late }
+    ensures ran { (order : List ℕ) → IsOrder design.now.nets order → Ran order (B.knows board.old) (B.knows board.new) }
+    ensures steps { (order : List ℕ) → IsOrder design.now.nets order
+        → (count : ℕ) × AreSteps design.now lists.now order count
+        (B.knows board.old) (task_of worker.old) (B.knows board.new) (task_of worker.new) }
+    ensures done { task_of worker.new ≡ done }
+    ensures room { room_of worker.new ≡ room_of worker.old }
+    ensures places { places_of worker.new ≡ places_of worker.old }
+{
+    run_by(board, worker, design, groups, lists, direction, Some(look));
 }

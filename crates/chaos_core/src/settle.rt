@@ -12,6 +12,7 @@ ghost use Rattle.xt_meaning.specs.Laws.{IsExtremeFixpoint};
 ghost use Rattle.xt_meaning.specs.Words.{numbers_of};
 ghost use Rattle.run_laws.specs.Transitions.{Transition, AreConsistent};
 ghost use Rattle.run_laws.specs.Laws.{LieWithin};
+ghost use Rattle.table_box.specs.Groups.{AreGroups};
 ghost use Rattle.net_eval.specs.ReadLists.{AreReadLists};
 ghost use Rattle.chaos_core.specs.Knowing.{IsKnown};
 ghost use Rattle.chaos_core.specs.Memories.{IsKept};
@@ -25,6 +26,7 @@ use crate::worker::Worker;
 use drawn_numbers::Source;
 use net_eval::ReadLists;
 use std::alloc::Global;
+use table_box::table_groups;
 use xt_model::{Design, Direction, NoMemory, Windows};
 
 /// The windows in which a run ended, and the rounds that it made.
@@ -42,11 +44,13 @@ fn settle_on<G: Gate>(
     windows: Windows,
     known: Known,
     design: &Design,
+    groups: &[usize],
     lists: &ReadLists,
     direction: Direction,
     number: u64,
     gate: &G,
 ) -> Settled
+    requires groups { AreGroups design.now.tables groups.now }
     requires design { board.old.setting.design ≡ design.now }
     requires direction { board.old.setting.way ≡ direction }
     requires start { board.old.words ≡ numbers_of board.old.setting.start }
@@ -66,7 +70,7 @@ fn settle_on<G: Gate>(
     let mut windows = windows;
     let mut known = known;
     let mut source = Source::new(number);
-    let mut done = known.look(design, &windows);
+    let mut done = known.look(design, groups, &windows);
     let mut rounds: u64 = 0;
     'rounds: while !done {
         prove!(rounds < design.bound());
@@ -76,6 +80,7 @@ fn settle_on<G: Gate>(
             board,
             workers,
             design,
+            groups,
             lists,
             direction,
             &mut source,
@@ -111,6 +116,7 @@ fn settle_gated<G: Gate>(
     let mut board = MemoryBoard::new(alloc, design, direction, start)?;
     let windows = board.windows(alloc)?;
     let known = Known::new(alloc, &board, design, workers)?;
+    let groups = table_groups(alloc, design.tables())?;
     let mut workers = new_workers(alloc, lists, workers)?;
     Ok(settle_on(
         &mut board,
@@ -118,6 +124,7 @@ fn settle_gated<G: Gate>(
         windows,
         known,
         design,
+        groups.as_slice(),
         lists,
         direction,
         number,

@@ -7,12 +7,13 @@ ghost use Rattle.xt_model.specs.Assign.{assigned};
 ghost use Rattle.xt_meaning.specs.Operator.{step};
 ghost use Rattle.xt_meaning.specs.Barrier.{IsWithinEnvelope};
 ghost use Rattle.xt_meaning.specs.Fixpoint.{IsWindows};
+ghost use Rattle.table_box.specs.Groups.{AreGroups};
 ghost use Rattle.net_eval.specs.Closing.{IsSteadyAt};
 ghost use Rattle.net_eval.specs.ReadLists.{AreReadLists, ids, reads_of};
 ghost use Rattle.chaos_core.specs.Tasks.{list_of};
 ghost use Rattle.chaos_core.specs.Looks.{AreAllMarked, AreMarked, AreSameAt, AreUnmoved, IsLook};
 
-use net_eval::{ReadLists, closed_part};
+use net_eval::{ReadLists, closed_part_grouped};
 use xt_model::{Design, NetId, Windows};
 
 /// Marks each net whose windows are the same before and after a round, and no other.
@@ -61,12 +62,14 @@ pub(crate) fn are_all_marked(lists: &ReadLists, marks: &[bool], net: NetId) -> b
 /// Whether the operator gives the windows of a net back. It evaluates no net that is marked with all that it reads.
 fn is_steady(
     design: &Design,
+    groups: &[usize],
     lists: &ReadLists,
     marks: &[bool],
     windows: &Windows,
     net: u32,
     next: u32,
 ) -> bool
+    requires groups { AreGroups design.now.tables groups.now }
     requires lists { AreReadLists design.now lists.now }
     requires look { IsLook design.now lists.now windows.now marks.now }
     requires within { IsWithinEnvelope design.now windows.now }
@@ -77,7 +80,7 @@ fn is_steady(
     if are_all_marked(lists, marks, NetId(net)) {
         return true;
     }
-    closed_part(design, windows, net, next)
+    closed_part_grouped(design, groups, windows, net, next)
 }
 
 /// Whether the operator gives windows back at each net from number `from` to before number `to`, where it does so at
@@ -97,8 +100,29 @@ pub fn closed_where(
     requires end { to ≤ length design.now.nets }
     ensures { IsTrue result ↔ ((n : ℕ) → from ≤ n → n < to → IsSteadyAt design.now windows.now n) }
 {
+    closed_where_grouped(design, &[], lists, marks, windows, from, to)
+}
+
+/// The same, where groups of the design's tables are known, as `table_groups` finds them.
+pub fn closed_where_grouped(
+    design: &Design,
+    groups: &[usize],
+    lists: &ReadLists,
+    marks: &[bool],
+    windows: &Windows,
+    from: u32,
+    to: u32,
+) -> bool
+    requires groups { AreGroups design.now.tables groups.now }
+    requires lists { AreReadLists design.now lists.now }
+    requires look { IsLook design.now lists.now windows.now marks.now }
+    requires within { IsWithinEnvelope design.now windows.now }
+    requires order { from ≤ to }
+    requires end { to ≤ length design.now.nets }
+    ensures { IsTrue result ↔ ((n : ℕ) → from ≤ n → n < to → IsSteadyAt design.now windows.now n) }
+{
     for net in from..to {
-        if !is_steady(design, lists, marks, windows, net, net + 1) {
+        if !is_steady(design, groups, lists, marks, windows, net, net + 1) {
             return false;
         }
     }
@@ -109,11 +133,13 @@ pub fn closed_where(
 /// have the same windows before and after. There is a mark for each net, whatever it is. Takes no memory.
 pub(crate) fn closed_after(
     design: &Design,
+    groups: &[usize],
     lists: &ReadLists,
     marks: &mut [bool],
     before: &Windows,
     after: &Windows,
 ) -> bool
+    requires groups { AreGroups design.now.tables groups.now }
     requires lists { AreReadLists design.now lists.now }
     requires marks { length marks.old ≡ length design.now.nets }
     requires before { length before.now ≡ length design.now.nets }
@@ -126,5 +152,13 @@ pub(crate) fn closed_after(
     ensures marks { length marks.new ≡ length marks.old }
 {
     mark_unmoved(marks, before, after);
-    closed_where(design, lists, marks, after, 0, design.nets().len() as u32)
+    closed_where_grouped(
+        design,
+        groups,
+        lists,
+        marks,
+        after,
+        0,
+        design.nets().len() as u32,
+    )
 }

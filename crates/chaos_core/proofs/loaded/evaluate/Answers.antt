@@ -1,8 +1,5 @@
-use Rattle.chaos_core.proofs.Places.{nets_placed, words_read}
+use Rattle.net_eval.proofs.Steady.{no_groups}
 use Rattle.chaos_core.proofs.loaded.evaluate.Goals as goal
 
-pub set_places-requires-clause-inside : goal.set_places-requires-clause-inside
-set_places-requires-clause-inside c = nets_placed _ _ _ c.requires.loaded.nets c.requires.places
-
-pub eval-requires-clause-words : goal.eval-requires-clause-words
-eval-requires-clause-words c = words_read _ _ _ c.requires.loaded.list
+pub evaluate_grouped-requires-clause-groups : goal.evaluate_grouped-requires-clause-groups
+evaluate_grouped-requires-clause-groups c = no_groups _

@@ -36,6 +36,6 @@ returns-clause-marks c =
     let v = c.args.windows.now in
     let words = numbers_of v in
     let e = c.requires.next in
-    let steady = c.closed_part.ensures.0 c.if-not-closed_part.false c.args.net (omega arith) (omega (arith, e)) in
+    let steady = c.closed_part_grouped.ensures.0 c.if-not-closed_part_grouped.false c.args.net (omega arith) (omega (arith, e)) in
     let held = held_from_steady d words v c.args.net c.net.ensures.whole c.requires.windows c.requires.within refl steady in
     subst (AreMarks d words) (sym c.note_look.ensures) (marks_seen d words c.args.marks.now c.args.net c.requires.marks held)

@@ -7,8 +7,8 @@ use Rattle.chaos_core.proofs.LookLaws.{reads_inside}
 use Rattle.chaos_core.proofs.Recalled.{recalled}
 use Rattle.chaos_core.proofs.looked.evaluate_by.Goals as goal
 
-pub evaluate-requires-clause-loaded : goal.evaluate-requires-clause-loaded
-evaluate-requires-clause-loaded c = subst (λ reads. IsLoaded c.args.design.now reads c.args.net.0 c.args.numbers.now) (sym (ap ids c.of.ensures)) c.requires.loaded
+pub evaluate_grouped-requires-clause-loaded : goal.evaluate_grouped-requires-clause-loaded
+evaluate_grouped-requires-clause-loaded c = subst (λ reads. IsLoaded c.args.design.now reads c.args.net.0 c.args.numbers.now) (sym (ap ids c.of.ensures)) c.requires.loaded
 
 pub knows-requires-clause-marks : goal.knows-requires-clause-marks
 knows-requires-clause-marks c =

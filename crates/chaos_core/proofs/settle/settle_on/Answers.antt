@@ -1,4 +1,4 @@
-use Rattle.std.proofs.Common.{◌≡◌, ℕ, ◌+◌, arith, ap, refl, subst, sym, ◌∙◌, List, length}
+use Rattle.std.proofs.Common.{◌≡◌, ℕ, arith, ap, refl, subst, sym, ◌∙◌, List, length}
 use Rattle.std.proofs.lemmas.Bool.{both_ways}
 use Rattle.xt_meaning.proofs.Extremes.{extreme_from_fixpoint}
 use Rattle.xt_model.specs.declared.net.NetId.{NetId}

@@ -1,5 +1,5 @@
-use Rattle.net_eval.proofs.Steady.{steady_more}
+use Rattle.net_eval.proofs.Steady.{no_groups}
 use Rattle.chaos_core.proofs.unmoved.closed_where.Goals as goal
 
-pub loop-net-preserved : goal.loop-net-preserved
-loop-net-preserved c = steady_more c.args.design.now c.args.windows.now c.args.from c.loop-net.net c.loop-net.invariant (c.is_steady.ensures.0 c.if-not-is_steady.false)
+pub closed_where_grouped-requires-clause-groups : goal.closed_where_grouped-requires-clause-groups
+closed_where_grouped-requires-clause-groups c = no_groups _

@@ -20,6 +20,6 @@ returns-then-are_all_marked c = (
 
 pub returns : goal.returns
 returns c = (
-  λ t. c.closed_part.ensures.0 t c.args.net (omega arith) (let e = c.requires.next in omega (arith, e)),
-  λ h. c.closed_part.ensures.1 (λ n low high. let e = c.requires.next in let same : c.args.net ≡ n = omega (arith, e, low, high) in subst (λ m. IsSteadyAt c.args.design.now c.args.windows.now m) same h),
+  λ t. c.closed_part_grouped.ensures.0 t c.args.net (omega arith) (let e = c.requires.next in omega (arith, e)),
+  λ h. c.closed_part_grouped.ensures.1 (λ n low high. let e = c.requires.next in let same : c.args.net ≡ n = omega (arith, e, low, high) in subst (λ m. IsSteadyAt c.args.design.now c.args.windows.now m) same h),
 )
