@@ -27,7 +27,7 @@ mod worker;
 pub use board::Board;
 pub use gate::{Gate, MeetGate, OpenGate};
 pub use laws::{rounds_carry, schedules_keep};
-pub use loaded::{bound_of, evaluate};
+pub use loaded::{bound_of, evaluate, evaluate_grouped};
 pub use looked::Looked;
 pub use memory::MemoryBoard;
 pub use run::{run_grouped, run_looked, run_worker};

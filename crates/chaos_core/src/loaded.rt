@@ -91,7 +91,7 @@ pub fn evaluate(
 }
 
 /// The same, where groups of the design's tables are known.
-pub(crate) fn evaluate_grouped(
+pub fn evaluate_grouped(
     design: &Design,
     groups: &[usize],
     reads: &[NetId],
