@@ -1,6 +1,6 @@
 //! A worker's run over a board.
 
-ghost use Rattle.std.specs.Prelude.{◌≡◌, ℕ, suc, ◌↔◌, ◌<◌, List, [], IfSome, IsTrue};
+ghost use Rattle.std.specs.Prelude.{◌≡◌, ℕ, suc, ◌↔◌, ◌<◌, ◌%◌, List, [], length, IfSome, IsTrue};
 ghost use Rattle.xt_model.specs.declared.net.NetId.{NetId};
 ghost use Rattle.xt_model.specs.Levels.{IsOrder};
 ghost use Rattle.xt_model.specs.Parts.{Parts};
@@ -14,7 +14,7 @@ ghost use Rattle.chaos_core.specs.Runs.{IsDone, Ran};
 
 use crate::board::Board;
 use crate::looked::{Looked, evaluate_by};
-use crate::steps::{publish, worker_step};
+use crate::steps::{load_step, publish, worker_step};
 use crate::words::number_in;
 use crate::worker::{Stage, Worker};
 use net_eval::ReadLists;
@@ -27,9 +27,53 @@ pub(crate) fn is_done(worker: &Worker) -> bool
     matches!(worker.stage, Stage::Finished)
 }
 
-/// Makes the steps in which a worker loads the rest of the words of the read list of its net, one a step. The last of
-/// them evaluates the net, unless a look tells what that gives.
+/// Makes the steps in which a worker loads the rest of the words of the read list of its net, one a step, from the first
+/// word of a net on. The last of them evaluates the net, unless a look tells what that gives.
 fn load_rest<B: Board>(
+    board: &mut B,
+    worker: &mut Worker,
+    design: &Design,
+    groups: &[usize],
+    lists: &ReadLists,
+    net: NetId,
+    look: Option<&Looked<'_>>,
+)
+    requires groups { AreGroups design.now.tables groups.now }
+    requires design { (B.knows board.old).setting.design ≡ design.now }
+    requires lists { AreReadLists design.now lists.now }
+    requires look { IfSome look (λ l. IsLook design.now lists.now l.now.windows.now l.now.marks.now) }
+    requires fits { IsFitting (B.knows board.old) lists.now worker.old }
+    requires loading { task_of worker.old ≡ loading net.0 (loaded_of (task_of worker.old)) }
+    requires whole { length (loaded_of (task_of worker.old)) % 8 ≡ 0 }
+    ensures fits { IsFitting (B.knows board.new) lists.now worker.new }
+    ensures steps { (order : List ℕ) → (more : ℕ) × AreSteps design.now lists.now order (suc more)
+        (B.knows board.old) (task_of worker.old) (B.knows board.new) (task_of worker.new) }
+    ensures room { room_of worker.new ≡ room_of worker.old }
+    ensures places { places_of worker.new ≡ places_of worker.old }
+{
+    let reads = lists.of(net);
+    for place in worker.loaded.as_slice().len() / 8..reads.len() {
+        let first = 8 * reads[place].0 as usize;
+        for side in 0..8 {
+            let number = board.load(first + side);
+            worker.loaded.push_reserved(number);
+        }
+    }
+    let pair = evaluate_by(
+        design,
+        groups,
+        lists,
+        net,
+        worker.loaded.as_slice(),
+        worker.places.as_mut_slice(),
+        look,
+    );
+    worker.stage = Stage::Publishing(net.0, pair, 0);
+}
+
+/// Makes the steps in which a worker loads the rest of the words of the read list of its net, or where it is amid the
+/// words of a net, the next step alone.
+fn load_on<B: Board>(
     board: &mut B,
     worker: &mut Worker,
     design: &Design,
@@ -50,22 +94,11 @@ fn load_rest<B: Board>(
     ensures room { room_of worker.new ≡ room_of worker.old }
     ensures places { places_of worker.new ≡ places_of worker.old }
 {
-    let reads = lists.of(net);
-    'words: while worker.loaded.as_slice().len() < 8 * reads.len() {
-        let place = worker.loaded.as_slice().len();
-        let number = board.load(8 * reads[place / 8].0 as usize + place % 8);
-        worker.loaded.push_reserved(number);
+    if worker.loaded.as_slice().len() % 8 == 0 {
+        load_rest(board, worker, design, groups, lists, net, look);
+    } else {
+        load_step(board, worker, design, lists, net);
     }
-    let pair = evaluate_by(
-        design,
-        groups,
-        lists,
-        net,
-        worker.loaded.as_slice(),
-        worker.places.as_mut_slice(),
-        look,
-    );
-    worker.stage = Stage::Publishing(net.0, pair, 0);
 }
 
 /// Makes the steps in which a worker publishes the words of its net from one of these places on, one a step.
@@ -119,7 +152,7 @@ fn advance<B: Board>(
     ensures places { places_of worker.new ≡ places_of worker.old }
 {
     match worker.stage {
-        Stage::Loading(net) => load_rest(board, worker, design, groups, lists, NetId(net), look),
+        Stage::Loading(net) => load_on(board, worker, design, groups, lists, NetId(net), look),
         Stage::Publishing(net, pair, from) => {
             publish_rest(board, worker, direction, net, pair, from);
         }

@@ -80,7 +80,7 @@ fn draw_step<B: Board>(
 }
 
 /// A worker loads the next word of the read list of its net.
-fn load_step<B: Board>(
+pub(crate) fn load_step<B: Board>(
     board: &mut B,
     worker: &mut Worker,
     design: &Design,

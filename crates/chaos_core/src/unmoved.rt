@@ -103,7 +103,8 @@ pub fn closed_where(
     closed_where_grouped(design, &[], lists, marks, windows, from, to)
 }
 
-/// The same, where groups of the design's tables are known, as `table_groups` finds them.
+/// The same, where groups of the design's tables are known, as `table_groups` finds them. It looks from the last of these
+/// nets down, since what a round left unsteady is mostly far from the inputs.
 pub fn closed_where_grouped(
     design: &Design,
     groups: &[usize],
@@ -121,7 +122,8 @@ pub fn closed_where_grouped(
     requires end { to ≤ length design.now.nets }
     ensures { IsTrue result ↔ ((n : ℕ) → from ≤ n → n < to → IsSteadyAt design.now windows.now n) }
 {
-    for net in from..to {
+    for step in from..to {
+        let net = to - 1 - (step - from);
         if !is_steady(design, groups, lists, marks, windows, net, net + 1) {
             return false;
         }

@@ -1,14 +1,32 @@
-use Rattle.std.proofs.Common.{◌≡◌, ℕ, suc, refl, ◌∙◌, sym, ap, subst, List, length, arith}
+-- Eight words of each net, one step each.
+use Rattle.std.proofs.Common.{◌≡◌, ℕ, suc, ◌+◌, ◌*◌, ◌/◌, ◌%◌, ◌<◌, get_or, refl, ◌∙◌, sym, ap, subst, List, [], ◌∷◌, length, length-append, arith}
+use Rattle.xt_model.specs.declared.net.NetId.{NetId}
 use Rattle.net_eval.specs.ReadLists.{reads_of}
 use Rattle.chaos_core.specs.Boards.{Knowledge}
-use Rattle.chaos_core.specs.Tasks.{Task, evaluated, list_of, loaded_of, loading, places_of, publishing, room_of, task_of, with_loaded}
+use Rattle.chaos_core.specs.Tasks.{Task, evaluated, list_of, loaded_of, loading, places_of, publishing, room_of, task_of, with_loaded, word_to_load}
 use Rattle.chaos_core.specs.Steps.{AreLoaded, AreSteps, Fits}
+use Rattle.chaos_core.proofs.Places.{ids_count}
 use Rattle.chaos_core.proofs.Stages.{load_word, loads_there, places_stay, room_stays}
-use Rattle.chaos_core.proofs.Several.{all_now, inside_now, loaded_then, more_now, none_more, publishes_now, some_steps, steps_then, whole_now}
+use Rattle.chaos_core.proofs.Several.{all_now, inside_now, loaded_then, none_more, publishes_now, some_steps, steps_then, whole_now}
 use Rattle.chaos_core.proofs.run.load_rest.Goals as goal
 
-pub words-init : goal.words-init
-words-init g c =
+-- a word of a net of a read list
+side_of : (lists : List (List NetId)) (net : ℕ) (reads : List NetId) (items : List ℕ) (x : NetId) (place side : ℕ) → reads ≡ reads_of lists net → 8 * place + side ≡ length items → side < 8
+    → length items < 8 * length (list_of lists net) → 8 * (get_or reads place x).0 + side ≡ word_to_load (list_of lists net) (length items)
+side_of lists net reads items x place side same at low more =
+    let a : length items / 8 ≡ place = omega (arith, at, low) in
+    let b : length items % 8 ≡ side = omega (arith, at, low) in
+    let P : ℕ → ℕ → Type 0 = λ p s. 8 * (get_or reads p x).0 + s ≡ word_to_load (list_of lists net) (length items) in
+    subst (λ p. P p side) a (subst (λ s. P (length items / 8) s) b (load_word lists net items reads items x same refl more))
+
+more_of : (lists : List (List NetId)) (net : ℕ) (reads : List NetId) (items before : List ℕ) (place side : ℕ) → reads ≡ reads_of lists net → 8 * place ≡ length before → length before + side ≡ length items → side < 8
+    → place < length reads → length items < 8 * length (list_of lists net)
+more_of lists net reads items before place side same at more low within =
+    let size : length reads ≡ length (list_of lists net) = ap length same ∙ sym (ids_count (reads_of lists net)) in
+    omega (arith, size, at, more, low, within)
+
+pub loop-place-init : goal.loop-place-init
+loop-place-init g c =
     let k = g.B.Board.knows c.args.board.now in
     let lists = c.args.lists.now in
     let net = c.args.net.0 in
@@ -24,40 +42,48 @@ words-init g c =
           (0, subst P same (none_more c.args.design.now lists order k net numbers fits.more));
       room = ap room_of c.worker.view_is;
       places = ap places_of c.worker.view_is;
+      at = let whole = c.requires.whole in let e = ap length same in let f = ap length c.as_slice.ensures.value in omega (arith, whole, e, f);
     }
+
+pub loop-side-init : goal.loop-side-init
+loop-side-init g c =
+    let inv = c.loop-place.invariant in
+    record { setting = inv.setting; seen = inv.seen; loaded = inv.loaded; steps = inv.steps; room = inv.room; places = inv.places; at = omega arith }
 
 pub load-number-requires : goal.load-number-requires
 load-number-requires g c =
     let k = g.B.Board.knows c.args.board.now in
-    let l = g.B.Board.knows c.words.board in
+    let l = g.B.Board.knows c.loop-side.board in
     let lists = c.args.lists.now in
     let net = c.args.net.0 in
     let numbers = loaded_of (task_of c.args.worker.now) in
-    let items = c.words.worker-inside.loaded.items in
+    let items = c.loop-side.worker-inside.loaded.items in
     let d = c.args.design.now in
-    let inv = c.words.invariant in
+    let inv = c.loop-side.invariant in
+    let outer = c.loop-place.invariant in
     let fits = subst (Fits k lists) c.requires.loading c.requires.fits.task in
-    let more = more_now k l lists net numbers items d c.requires.design c.requires.lists fits inv.setting inv.seen inv.loaded c.of-reads.result.now c.as_slice.result.now c.of-reads.ensures c.as_slice.ensures.value
-    c.words-test.true in
-    let is = load_word lists net items c.of-reads.result.now c.as_slice-place.result.now (record { 0 = 0 }) c.of-reads.ensures c.as_slice-place.ensures.value more in
+    let more = more_of lists net c.of-reads.result.now items c.loop-place.worker-inside.loaded.items c.loop-place.place c.loop-side.side c.of-reads.ensures outer.at inv.at c.loop-side-test.true c.loop-place-test.true in
+    let at : 8 * c.loop-place.place + c.loop-side.side ≡ length items = let a = outer.at in let b = inv.at in omega (arith, a, b) in
+    let is = side_of lists net c.of-reads.result.now items (record { 0 = 0 }) c.loop-place.place c.loop-side.side c.of-reads.ensures at c.loop-side-test.true more in
     record { word = inside_now k l lists net numbers items d c.requires.design c.requires.lists fits inv.setting inv.seen inv.loaded _ is more }
 
-pub words-preserved : goal.words-preserved
-words-preserved g c =
+pub loop-side-preserved : goal.loop-side-preserved
+loop-side-preserved g c =
     let k = g.B.Board.knows c.args.board.now in
-    let l = g.B.Board.knows c.words.board in
+    let l = g.B.Board.knows c.loop-side.board in
     let m = g.B.Board.knows c.load-number.new.self in
     let lists = c.args.lists.now in
     let net = c.args.net.0 in
     let numbers = loaded_of (task_of c.args.worker.now) in
-    let items = c.words.worker-inside.loaded.items in
+    let items = c.loop-side.worker-inside.loaded.items in
     let later = c.push_reserved.new.self.items in
     let d = c.args.design.now in
-    let inv = c.words.invariant in
+    let inv = c.loop-side.invariant in
+    let outer = c.loop-place.invariant in
     let fits = subst (Fits k lists) c.requires.loading c.requires.fits.task in
-    let more = more_now k l lists net numbers items d c.requires.design c.requires.lists fits inv.setting inv.seen inv.loaded c.of-reads.result.now c.as_slice.result.now c.of-reads.ensures c.as_slice.ensures.value
-    c.words-test.true in
-    let is = load_word lists net items c.of-reads.result.now c.as_slice-place.result.now (record { 0 = 0 }) c.of-reads.ensures c.as_slice-place.ensures.value more in
+    let more = more_of lists net c.of-reads.result.now items c.loop-place.worker-inside.loaded.items c.loop-place.place c.loop-side.side c.of-reads.ensures outer.at inv.at c.loop-side-test.true c.loop-place-test.true in
+    let at : 8 * c.loop-place.place + c.loop-side.side ≡ length items = let a = outer.at in let b = inv.at in omega (arith, a, b) in
+    let is = side_of lists net c.of-reads.result.now items (record { 0 = 0 }) c.loop-place.place c.loop-side.side c.of-reads.ensures at c.loop-side-test.true more in
     record {
       setting = ap (λ (x : Knowledge). x.setting) c.load-number.ensures.loads.after ∙ inv.setting;
       seen = c.load-number.ensures.seen;
@@ -71,54 +97,68 @@ words-preserved g c =
           );
       room = c.push_reserved.ensures.capacity ∙ inv.room;
       places = inv.places;
+      at = let a = inv.at in let b = ap length c.push_reserved.ensures.items in let e = length-append items (c.load-number.result ∷ []) in omega (arith, a, b, e);
+    }
+
+pub loop-place-preserved : goal.loop-place-preserved
+loop-place-preserved g c =
+    let inv = c.loop-side.invariant in
+    record {
+      setting = inv.setting;
+      seen = inv.seen;
+      loaded = inv.loaded;
+      steps = inv.steps;
+      room = inv.room;
+      places = inv.places;
+      at = let a = inv.at in let b = c.loop-place.invariant.at in let done = c.loop-side-test.false in let end = c.loop-side.auto.side-end in omega (arith, a, b, done, end);
     }
 
 pub evaluate_by-pair-requires-clause-loaded : goal.evaluate_by-pair-requires-clause-loaded
 evaluate_by-pair-requires-clause-loaded g c =
     let k = g.B.Board.knows c.args.board.now in
-    let l = g.B.Board.knows c.words.board in
+    let l = g.B.Board.knows c.loop-place.board in
     let lists = c.args.lists.now in
     let net = c.args.net.0 in
-    let inv = c.words.invariant in
+    let inv = c.loop-place.invariant in
     let fits = subst (Fits k lists) c.requires.loading c.requires.fits.task in
-    let same = c.as_slice-2.ensures.value ∙ sym c.as_slice.ensures.value in
-    let long = ap length same in
-    whole_now k l lists net (loaded_of (task_of c.args.worker.now)) c.words.worker-inside.loaded.items c.args.design.now c.requires.design c.requires.lists fits inv.setting inv.seen inv.loaded (reads_of lists net) c.as_slice-2.result.now
-    refl c.as_slice-2.ensures.value (let reads = ap length c.of-reads.ensures in omega (arith, long, reads, c.words-test.false))
+    let long = ap length c.as_slice-2.ensures.value in
+    whole_now k l lists net (loaded_of (task_of c.args.worker.now)) c.loop-place.worker-inside.loaded.items c.args.design.now c.requires.design c.requires.lists fits inv.setting inv.seen inv.loaded (reads_of lists net) c.as_slice-2.result.now
+    refl c.as_slice-2.ensures.value (let reads = ap length c.of-reads.ensures in let at = inv.at in let done = c.loop-place-test.false in omega (arith, long, reads, at, done))
 
 pub returns-clause-fits : goal.returns-clause-fits
 returns-clause-fits g c =
     let k = g.B.Board.knows c.args.board.now in
-    let l = g.B.Board.knows c.words.board in
+    let l = g.B.Board.knows c.loop-place.board in
     let lists = c.args.lists.now in
     let net = c.args.net.0 in
-    let inv = c.words.invariant in
+    let inv = c.loop-place.invariant in
     let fits = subst (Fits k lists) c.requires.loading c.requires.fits.task in
-    let same = c.as_slice-2.ensures.value ∙ sym c.as_slice.ensures.value in
-    let long = ap length same in
+    let long = ap length c.as_slice-2.ensures.value in
     let few = c.requires.fits.places in
     let kept = inv.places in
     record {
       room = room_stays lists _ _ inv.room c.requires.fits.room;
-      places = places_stay (length lists) c.words.worker-inside.places.len c.words.worker-inside.places.items c.evaluate_by-pair.new.places c.words.worker-inside.places.ok.0
+      places = places_stay (length lists) c.loop-place.worker-inside.places.len c.loop-place.worker-inside.places.items c.evaluate_by-pair.new.places c.loop-place.worker-inside.places.ok.0
           (c.evaluate_by-pair.ensures.count ∙ ap length c.as_mut_slice.ensures.value) (omega (arith, few, kept));
-      task = publishes_now k l lists net (loaded_of (task_of c.args.worker.now)) c.words.worker-inside.loaded.items c.args.design.now c.requires.design c.requires.lists fits inv.setting inv.seen inv.loaded (reads_of lists net)
-          c.as_slice-2.result.now c.evaluate_by-pair.result refl c.as_slice-2.ensures.value (let reads = ap length c.of-reads.ensures in omega (arith, long, reads, c.words-test.false)) c.evaluate_by-pair.ensures.value c.evaluate_by-pair.ensures.range;
+      task = publishes_now k l lists net (loaded_of (task_of c.args.worker.now)) c.loop-place.worker-inside.loaded.items c.args.design.now c.requires.design c.requires.lists fits inv.setting inv.seen inv.loaded (reads_of lists net)
+          c.as_slice-2.result.now c.evaluate_by-pair.result refl c.as_slice-2.ensures.value (let reads = ap length c.of-reads.ensures in let at = inv.at in let done = c.loop-place-test.false in omega (arith, long, reads, at, done))
+          c.evaluate_by-pair.ensures.value c.evaluate_by-pair.ensures.range;
     }
 
 pub returns-clause-steps : goal.returns-clause-steps
 returns-clause-steps g c = λ order.
     let k = g.B.Board.knows c.args.board.now in
-    let l = g.B.Board.knows c.words.board in
+    let l = g.B.Board.knows c.loop-place.board in
     let lists = c.args.lists.now in
     let net = c.args.net.0 in
     let numbers = loaded_of (task_of c.args.worker.now) in
-    let items = c.words.worker-inside.loaded.items in
+    let items = c.loop-place.worker-inside.loaded.items in
     let d = c.args.design.now in
-    let inv = c.words.invariant in
+    let inv = c.loop-place.invariant in
     let fits = subst (Fits k lists) c.requires.loading c.requires.fits.task in
-    let whole = all_now k l lists net numbers items d c.requires.design c.requires.lists fits inv.setting inv.seen inv.loaded c.of-reads.result.now c.as_slice.result.now c.of-reads.ensures c.as_slice.ensures.value
-    c.words-test.false in
+    let long = ap length c.as_slice-2.ensures.value in
+    let whole = all_now k l lists net numbers items d c.requires.design c.requires.lists fits inv.setting inv.seen inv.loaded c.of-reads.result.now c.as_slice-2.result.now c.of-reads.ensures c.as_slice-2.ensures.value
+    (let at = inv.at in let done = c.loop-place-test.false in omega (arith, long, at, done)) in
     let is : c.evaluate_by-pair.result ≡ evaluated d (list_of lists net) items net = rw c.as_slice-2.ensures.value at c.evaluate_by-pair.ensures.value in
     let s = inv.steps order in
     let P : Task → Type 0 = λ t. (more : ℕ) × AreSteps d lists order (suc more) k t l (publishing net c.evaluate_by-pair.result 0) in
