@@ -1,7 +1,6 @@
 mod Bits
 mod Alone
 mod Known
-mod Stages
 mod KnownTexts
 mod Spoilt
 mod ScalarNames

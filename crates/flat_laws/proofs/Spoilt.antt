@@ -30,7 +30,7 @@ use Rattle.verilog_net.specs.Reading.{rest_means, text_state}
 use Rattle.flat_laws.specs.Laws.{IsOneBit}
 use Rattle.flat_laws.proofs.Alone.{several, is_range, is_bus, spoils, IsSame, item_same}
 use Rattle.flat_laws.proofs.Known.{past, held}
-use Rattle.flat_laws.proofs.Stages.{Stage, before, in_module, in_instance, after, ItemsKeep, text_kept}
+use Rattle.verilog_net.proofs.Stages.{Stage, before, in_module, in_instance, in_pin, between, after, ItemsKeep, text_kept}
 
 -- ---- what one module alone admits
 abbrev pub ArePlain : List (Text × Wire) → Type 0
@@ -60,6 +60,8 @@ abbrev Clean : Stage → State → Type 0
 Clean before s = s.ended ≡ []
 Clean in_module s = IsCleanModule s.ended s.instances
 Clean in_instance s = IsCleanInstance s.ended s.instances s.pins
+Clean in_pin s = IsCleanInstance s.ended s.instances s.pins
+Clean between s = IsCleanModule s.ended s.instances
 Clean after s = IsCleanAfter s.ended
 
 -- ---- a state, and whether one module alone would have been refused
@@ -231,6 +233,7 @@ unfolding means
 items_back = record {
   refused = λ code x x' e. absurd (cc);
   quiet = λ stage. kept stage stage grammar.Nothing (λ s s' e clean. (subst (Clean stage) (sym (same_state s s' e)) clean, refl));
+  statement = kept between in_module grammar.Nothing (λ s s' e clean. (subst (Clean in_module) (sym (same_state s s' e)) clean, refl));
   first = kept before before grammar.ModuleBegins (λ s s' e clean.
       let none : s.ended ≡ [] = ap (λ (t : State). t.ended) (begins_is s s' e) ∙ clean in
       (none, ap (λ ms. not (length ms == 0)) none));
@@ -240,18 +243,18 @@ items_back = record {
   named = λ name. kept before in_module (grammar.ModuleName name) (λ s s' e clean. (named_back s s' name e clean, refl));
   listed = λ name. kept in_module in_module (grammar.Listed name) (λ s s' e clean. (subst (Clean in_module) (sym (same_state (list_name name s) s' e)) clean, refl));
   end = kept in_module after grammar.ModuleEnds (λ s s' e clean. (end_back s s' e clean, refl));
-  scalar = λ role name. kept in_module in_module (grammar.Scalar role name) (λ s s' e clean. (declare_back (record s { role = role; range = None }) s' name e clean, refl));
+  scalar = λ role name is. kept in_module in_module (grammar.Scalar role name) (λ s s' e clean. (declare_back (record s { role = role; range = None }) s' name e clean, refl));
   left = λ role digits. kept in_module in_module (grammar.Left role digits) (λ s s' e clean. (left_back s s' role digits e clean, refl));
   right = λ digits. kept in_module in_module (grammar.Right digits) (λ s s' e clean. (right_back s s' digits e clean, refl));
-  further = λ name. kept in_module in_module (grammar.Further name) (λ s s' e clean. (declare_back s s' name e clean, refl));
-  instance = λ cell name line. kept in_module in_instance (grammar.Instance cell name line) (λ s s' e clean. (begin_back (record s { cell = cell }) s' name line e clean, refl));
-  further_instance = λ name line. kept in_module in_instance (grammar.FurtherInstance name line) (λ s s' e clean. (begin_back s s' name line e clean, refl));
-  pin = λ name. kept in_instance in_instance (grammar.Pin name) (λ s s' e clean. (pin_back s s' name e clean, refl));
-  unconnected = kept in_instance in_instance grammar.NoConnection (λ s s' e clean. (connect_back s s' wires.Open (same_state (connect wires.Open s) s' e) clean, refl));
-  constant = kept in_instance in_instance grammar.Constant (λ s s' e clean. (connect_back s s' wires.Constant (same_state (connect wires.Constant s) s' e) clean, refl));
-  net = λ name. kept in_instance in_instance (grammar.Net name) (λ s s' e clean. net_back s s' name e clean);
-  bit = λ bus digits. kept in_instance in_instance (grammar.Bit bus digits) (λ s s' e clean. (bit_back s s' bus digits e clean, refl));
-  closed = kept in_instance in_module grammar.InstanceEnds (λ s s' e clean. (closed_back s s' (same_state (end_instance s) s' e) clean, refl));
+  further = λ name is. kept in_module in_module (grammar.Further name) (λ s s' e clean. (declare_back s s' name e clean, refl));
+  instance = λ cell name line also is. kept in_module in_instance (grammar.Instance cell name line) (λ s s' e clean. (begin_back (record s { cell = cell }) s' name line e clean, refl));
+  further_instance = λ name line is. kept between in_instance (grammar.FurtherInstance name line) (λ s s' e clean. (begin_back s s' name line e clean, refl));
+  pin = λ name is. kept in_instance in_pin (grammar.Pin name) (λ s s' e clean. (pin_back s s' name e clean, refl));
+  unconnected = kept in_pin in_instance grammar.NoConnection (λ s s' e clean. (connect_back s s' wires.Open (same_state (connect wires.Open s) s' e) clean, refl));
+  constant = kept in_pin in_instance grammar.Constant (λ s s' e clean. (connect_back s s' wires.Constant (same_state (connect wires.Constant s) s' e) clean, refl));
+  net = λ name is. kept in_pin in_instance (grammar.Net name) (λ s s' e clean. net_back s s' name e clean);
+  bit = λ bus digits. kept in_pin in_instance (grammar.Bit bus digits) (λ s s' e clean. (bit_back s s' bus digits e clean, refl));
+  closed = kept in_instance between grammar.InstanceEnds (λ s s' e clean. (closed_back s s' (same_state (end_instance s) s' e) clean, refl));
 }
 
 -- ---- the run where several modules are admitted, with its mark
@@ -335,6 +338,6 @@ module _ (bytes : List ℕ) (s : State) (clean : IsCleanAfter s.ended) where
       by None at e =
           let r = reading same_sort misfits forms (forms Start) [] (netlist_tokens bytes) in
           let m = runs r (nothing false) false s e in
-          let h = text_kept marked Holds items_back (netlist_tokens bytes) (nothing false, false) (s, m.mark) (λ mark none. false≢true mark) m.whole in
+          let h = text_kept marked Holds items_back bytes (nothing false, false) (s, m.mark) (λ mark none. false≢true mark) m.whole in
           let one = alone_by r m h m.mark refl in
           record { end = one.end; read = rw at one.read; whole = one.whole }

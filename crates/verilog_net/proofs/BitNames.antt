@@ -11,7 +11,7 @@ use Rattle.std.proofs.lemmas.Slice.Eq.{bytes_eq-Decides}
 use Rattle.name_numbers.specs.Names.{Text}
 use Rattle.verilog_net.specs.Nets.{most_bit, value_after, number_of, written, closed_number, bit_here, bit_from}
 
--- what stands behind the name of the bus
+-- what is after the name of the bus
 abbrev pub tail : ℕ → Text
 tail k = 91 ∷ (decimal k ++ 93 ∷ [])
 
@@ -46,7 +46,7 @@ bracket_within : (pre post : Text) → NoBracket (pre ++ 91 ∷ post) → ⊥
 bracket_within [] post h = h.0 refl
 bracket_within (c ∷ pre) post h = bracket_within pre post h.1
 
--- ---- the number of a bit behind its left bracket
+-- ---- the number of a bit after its left bracket
 closed_is : (xs : Text) → closed_number (xs ++ 93 ∷ []) ≡ written xs (number_of xs)
 closed_is xs =
     let len : length (xs ++ 93 ∷ []) - 1 ≡ length xs = omega (arith, length_push xs 93) in

@@ -69,12 +69,12 @@ module _ {V : Type 0} where
     later_at : (n : ℕ) → (slice_get (e ∷ more) (1 + n) >>= entry (1 + n)) ≡ later (slice_get more n >>= entry n)
     later_at n = ap (λ i. slice_get (e ∷ more) i >>= entry (1 + n)) (one-add n) ∙ later_got n (slice_get more n)
 
-    behind_by : (n : ℕ) (b c : Bool) → b ≡ c
+    less_by_one : (n : ℕ) (b c : Bool) → b ≡ c
         → ((if b then Some (1 + n) else None) >>= entry_at (e ∷ more)) ≡ later ((if c then Some n else None) >>= entry_at more)
-    behind_by n true true h = later_at n
-    behind_by n false false h = refl
-    behind_by n true false h = absurd (false≢true (sym h))
-    behind_by n false true h = absurd (false≢true h)
+    less_by_one n true true h = later_at n
+    less_by_one n false false h = refl
+    less_by_one n true false h = absurd (false≢true (sym h))
+    less_by_one n false true h = absurd (false≢true h)
 
     less_by : (n m : ℕ) → nat_lt (1 + n) (suc m) ≡ nat_lt n m
     less_by n m = elim (cases_lt n m) [
@@ -86,9 +86,9 @@ module _ {V : Type 0} where
         → ((if nat_lt (cond (not b) (1 + n) 0) (suc m) then Some (cond (not b) (1 + n) 0) else None) >>= entry_at (e ∷ more))
         ≡ (if b then Some (0, e.1) else later ((if nat_lt n m then Some n else None) >>= entry_at more))
     found_by n m true = rw (lt-ltb 0 (suc m) (omega arith)) refl
-    found_by n m false = behind_by n (nat_lt (1 + n) (suc m)) (nat_lt n m) (less_by n m)
+    found_by n m false = less_by_one n (nat_lt (1 + n) (suc m)) (nat_lt n m) (less_by n m)
 
-    -- the first entry, where it has the name, or else what is found behind it
+    -- the first entry, where it has the name, or else what is found after it
     pub found_cons : (name : Text) → found name (e ∷ more) ≡ (if bytes_eq name e.0 then Some (0, e.1) else later (found name more))
     found_cons name =
         found_by (position_or_len (bytes_eq name) (map (λ e. e.0) more)) (length (map (λ e. e.0) more)) (bytes_eq name e.0)

@@ -1,4 +1,4 @@
--- A text that is refused behind its tokens has no modules.
+-- A text that is refused after its tokens has no modules.
 use Rattle.std.proofs.Common.{◌≡◌, ℕ, Bool, List, None, Ok, ap, ◌∙◌}
 use Rattle.text_forms.specs.Refusals.{tokens_refused, unless}
 use Rattle.text_forms.specs.Stops.{IsRefusal}

@@ -1,5 +1,5 @@
 /// What may come next in a netlist.
-#[derive(Clone, Copy, Debug, PartialEq, Eq)]
+#[derive(Clone, Copy)]
 pub enum Context {
     /// The start of the text: a module.
     Start,

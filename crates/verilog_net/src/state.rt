@@ -364,7 +364,7 @@ impl<'a> Progress<'a> {
         // Its bytes are kept once for all instances of a statement.
         let cell = self.cell.shared()?;
         let name = Name::copied(alloc, self.instance)?;
-        // A list of just their number: to shrink the other one would leave a hole behind each instance.
+        // A list of just their number: to shrink the other one would leave a hole after each instance.
         let mut pins = Vec::with_capacity(alloc, self.pins.len())?;
         pins.append(&mut self.pins)?;
         self.instances.push(Instance {
