@@ -27,8 +27,8 @@ pub(crate) fn is_done(worker: &Worker) -> bool
     matches!(worker.stage, Stage::Finished)
 }
 
-/// Makes the steps in which a worker loads the rest of the words of the read list of its net, one a step, from the first
-/// word of a net on. The last of them evaluates the net, unless a look tells what that gives.
+/// Makes the steps in which a worker loads the rest of the words of the read list of its net, one a step, from the
+/// first word of a net on. The last of them evaluates the net, unless a look tells what that gives.
 fn load_rest<B: Board>(
     board: &mut B,
     worker: &mut Worker,

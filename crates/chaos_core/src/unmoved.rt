@@ -103,8 +103,8 @@ pub fn closed_where(
     closed_where_grouped(design, &[], lists, marks, windows, from, to)
 }
 
-/// The same, where groups of the design's tables are known, as `table_groups` finds them. It looks from the last of these
-/// nets down, since what a round left unsteady is mostly far from the inputs.
+/// The same, where groups of the design's tables are known, as `table_groups` finds them. It looks from the last of
+/// these nets down, since what a round left unsteady is mostly far from the inputs.
 pub fn closed_where_grouped(
     design: &Design,
     groups: &[usize],

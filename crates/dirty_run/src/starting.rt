@@ -22,8 +22,8 @@ use std::alloc::Global;
 use std::thread::Threads;
 use xt_model::{Design, Direction, NoMemory, Windows};
 
-/// A run by marks from a fitting start, by workers in threads of their own on a board that they share, one alone too. The
-/// readers are those of the read lists, and serve every run on them. In all else it is as [`settle_dirty_from`].
+/// A run by marks from a fitting start, by workers in threads of their own on a board that they share, one alone too.
+/// The readers are those of the read lists, and serve every run on them. In all else it is as [`settle_dirty_from`].
 pub fn settle_dirty_among<R: Threads + Sync, G: Gate>(
     rt: &R,
     alloc: Global,
