@@ -1,6 +1,6 @@
 -- What an index of a netlist keeps.
-use Rattle.std.specs.Prelude.{◌≡◌, ℕ, ◌≤◌, List, length, map, position, bytes_eq, IfSome}
-use Rattle.std.specs.List.{AllZip}
+use Rattle.std.specs.Prelude.{◌≡◌, ℕ, ◌≤◌, List, length, map, position, bytes_eq}
+use Rattle.std.specs.List.{All, AllZip}
 use Rattle.name_numbers.specs.Names.{Text, value_of}
 use Rattle.verilog_net.specs.declared.netlist.Instance.{Instance}
 use Rattle.verilog_net.specs.declared.netlist.Netlist.{Netlist}
@@ -27,7 +27,7 @@ pub record HaveWires (pins wires : List (Text × Wire)) : Type 0 where
 
 -- what is kept of the pins of an instance: of many pins a table
 abbrev pub AreWired : List (Text × Wire) → PinWires → Type 0
-AreWired pins w = IfSome w.table (HaveWires pins)
+AreWired pins w = All (HaveWires pins) w.tables.items
 
 -- what is kept beside a netlist: the first bit of each net, the names of the bits, the numbers of the instances and
 -- the wires of each

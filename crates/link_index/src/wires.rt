@@ -44,11 +44,11 @@ fn first_wire(pins: &[(Name, Wire)], name: &[u8]) -> Option<Wire>
     None
 }
 
-/// What the pins of one instance are connected to, by name. Of few pins there is no table, which would take hundreds of
-/// bytes: they are looked through.
+/// What the pins of one instance are connected to, by name: a list of one table, or of none where there are few pins,
+/// since a table would take hundreds of bytes: these are looked through.
 #[derive(Drop)]
 pub struct PinWires<'a> {
-    table: Option<Named<'a, Wire>>,
+    tables: Vec<Named<'a, Wire>>,
 }
 
 impl<'a> PinWires<'a> {
@@ -61,10 +61,13 @@ impl<'a> PinWires<'a> {
         ensures { IfOk result (AreWired pins.entry.now) }
     {
         if pins.len() <= FEW_PINS {
-            return Ok(PinWires { table: None });
+            return Ok(PinWires {
+                tables: Vec::new(alloc),
+            });
         }
-        let table = wires_of(alloc, key, pins)?;
-        Ok(PinWires { table: Some(table) })
+        let mut tables = Vec::with_capacity(alloc, 1)?;
+        tables.push(wires_of(alloc, key, pins)?)?;
+        Ok(PinWires { tables })
     }
 
     /// What the first of these pins that has a name is connected to.
@@ -72,7 +75,7 @@ impl<'a> PinWires<'a> {
         requires { AreWired pins.now self.now }
         ensures { result ≡ value_of name.entry.now pins.entry.now }
     {
-        match &self.table {
+        match self.tables.first() {
             Some(table) => table.get(name).copied(),
             None => first_wire(pins, name),
         }

@@ -245,14 +245,16 @@ impl<'a> CellGroups<'a> {
         requires { cell < length cells.now.cells }
         ensures { IfOk result (λ g. (c : Cell) → slice_get cells.now.cells cell ≡ Some c → AreAllGroups c g) }
     {
+        let pins = &cells.library().cells.as_slice()[cell].pins;
+        let of = Vec::with_capacity(alloc, pins.len())?;
         let mut groups = CellGroups {
             groups: Vec::new(alloc),
-            of: Vec::new(alloc),
+            of,
         };
-        let pins = &cells.library().cells.as_slice()[cell].pins;
         for place in 0..pins.len() {
             groups.add(alloc, cells, cell, pins, place)?;
         }
+        groups.groups.shrink_to_fit();
         Ok(groups)
     }
 }
@@ -263,8 +265,9 @@ impl<'a> Related<'a> {
     pub fn new(alloc: Global, cells: &CellIndex<'a>) -> Result<Related<'a>, AllocError>
         ensures { IfOk result (λ r. AreKept cells.now r.cells.items) }
     {
-        let mut made = Vec::new(alloc);
-        for cell in 0..cells.library().cells.len() {
+        let count = cells.library().cells.len();
+        let mut made = Vec::with_capacity(alloc, count)?;
+        for cell in 0..count {
             made.push(CellGroups::of_cell(alloc, cells, cell)?)?;
         }
         Ok(Related { cells: made })

@@ -8,12 +8,12 @@ use Rattle.link_pins.proofs.related.Related.new.Goals as goal
 
 pub loop-cell-init : goal.loop-cell-init
 loop-cell-init c = record {
-  count = ap length c.new-made.ensures.items;
-  all = λ i x g there at. absurd (none-some g (sym (ap (λ l. slice_get l i) c.new-made.ensures.items) ∙ at));
+  count = ap length c.in_ok-made.ensures.items;
+  all = λ i x g there at. absurd (none-some g (sym (ap (λ l. slice_get l i) c.in_ok-made.ensures.items) ∙ at));
 }
 
 pub of_cell-requires : goal.of_cell-requires
-of_cell-requires c = omega (arith, c.loop-cell-test.true, c.len-cell-end.ensures, ap (λ (l : Library). length l.cells) c.library.ensures)
+of_cell-requires c = omega (arith, c.loop-cell-test.true, c.len-count.ensures, ap (λ (l : Library). length l.cells) c.library.ensures)
 
 pub loop-cell-preserved : goal.loop-cell-preserved
 loop-cell-preserved c = record {
@@ -27,4 +27,4 @@ loop-cell-preserved c = record {
 pub returns : goal.returns
 returns c =
     all_kept c.args.cells.now c.loop-cell.made.items
-    (omega (arith, c.loop-cell.invariant.count, c.loop-cell-test.false, c.len-cell-end.ensures, ap (λ (l : Library). length l.cells) c.library.ensures)) c.loop-cell.invariant.all
+    (omega (arith, c.loop-cell.invariant.count, c.loop-cell-test.false, c.len-count.ensures, ap (λ (l : Library). length l.cells) c.library.ensures)) c.loop-cell.invariant.all
