@@ -1,7 +1,7 @@
 //! The sinks of nets.
 
 ghost use Rattle.std.specs.Prelude.{◌≡◌, ◌<◌, ◌++◌, [], ◌∷◌, length, map, filter, Some, IsSome, IfSome, IfOk, OnOk};
-ghost use Rattle.std.specs.List.{slice_get};
+ghost use Rattle.std.specs.List.{All, slice_get};
 ghost use Rattle.std.specs.Option.{IsSomeAnd};
 ghost use Rattle.liberty_cells.specs.declared.library.Library.{Library};
 ghost use Rattle.verilog_net.specs.Bits.{Bit, bits};
@@ -80,6 +80,49 @@ impl NetSinks {
     }
 }
 
+/// How many input pins each net has, or the greatest number of 32 bits.
+fn input_counts<'a>(
+    alloc: Global,
+    cells: &CellIndex<'a>,
+    nets: &NetIndex<'a>,
+    pins: &[PinOn],
+) -> Result<Vec<u32>, AllocError>
+    requires sound { IsSoundNetlist nets.now }
+    requires pins { ArePins cells.now nets.now pins.now }
+    ensures { IfOk result (λ v. length v.items ≡ length (bits nets.now.nets)) }
+{
+    let mut counts: Vec<u32> = vec![in alloc; 0; nets.count() as usize]?;
+    for pin in pins {
+        if pin.is_input(cells) {
+            let net = pin.net as usize;
+            let count = counts[net].saturating_add(1);
+            counts[net] = count;
+        }
+    }
+    Ok(counts)
+}
+
+/// No sink on each net, with room for as many as there are input pins.
+fn no_sinks<'a>(
+    alloc: Global,
+    cells: &CellIndex<'a>,
+    nets: &NetIndex<'a>,
+    pins: &[PinOn],
+) -> Result<Vec<NetSinks>, AllocError>
+    requires sound { IsSoundNetlist nets.now }
+    requires pins { ArePins cells.now nets.now pins.now }
+    ensures count { IfOk result (λ v. length v.items ≡ length (bits nets.now.nets)) }
+    ensures none { IfOk result (λ v. All (λ row. row.sinks.items ≡ []) v.items) }
+{
+    let counts = input_counts(alloc, cells, nets, pins)?;
+    let mut rows = Vec::with_capacity(alloc, counts.len())?;
+    for count in &counts {
+        let sinks = Vec::with_capacity(alloc, *count as usize)?;
+        rows.push(NetSinks { sinks })?;
+    }
+    Ok(rows)
+}
+
 /// The sinks that pins are, on all nets.
 fn pin_sinks<'a>(
     alloc: Global,
@@ -92,12 +135,7 @@ fn pin_sinks<'a>(
     ensures sinks { IfOk result (λ s. ArePinSinks nets.now.nets (pins_of cells.now nets.now) s.nets.items) }
     ensures places { IfOk result (λ s. ArePlaces (pins_of cells.now nets.now) s.places.items) }
 {
-    let mut rows = Vec::with_capacity(alloc, nets.count() as usize)?;
-    for _ in 0..nets.count() {
-        rows.push(NetSinks {
-            sinks: Vec::new(alloc),
-        })?;
-    }
+    let mut rows = no_sinks(alloc, cells, nets, pins)?;
     let mut places = Vec::with_capacity(alloc, pins.len())?;
     for pin in pins {
         let place = rows[pin.net as usize].add(alloc, cells, nets, *pin)?;

@@ -1,9 +1,10 @@
-use Rattle.std.proofs.Common.{◌≡◌, ℕ, ◌+◌, ◌<◌, ◌∙◌, length, take, set, get_or, Some, refl, ap, subst, arith}
+use Rattle.std.proofs.Common.{◌≡◌, ℕ, ◌+◌, ◌<◌, ◌∙◌, [], length, take, set, get_or, Some, refl, sym, ap, subst, arith}
 use Rattle.std.specs.Prelude.{is_some}
 use Rattle.std.specs.List.{slice_get}
 use Rattle.std.proofs.lemmas.List.{length_push}
-use Rattle.std.proofs.lemmas.Option.{slice_get-get_or, slice_get_read, slice_get_within}
+use Rattle.std.proofs.lemmas.Option.{same_Some, slice_get-get_or, slice_get_read, slice_get_within}
 use Rattle.link_rules.specs.Pins.{Connected, pins}
+use Rattle.link_pins.specs.declared.sinks.NetSinks.{NetSinks}
 use Rattle.link_pins.specs.Rows.{ArePinSinks}
 use Rattle.link_pins.specs.Seen.{connected_at, HasShortNames}
 use Rattle.link_pins.proofs.PinLaws.{nothing, parts_of, to_some}
@@ -14,8 +15,12 @@ use Rattle.link_pins.proofs.sinks.pin_sinks.Goals as goal
 pub loop-pin-init : goal.loop-pin-init
 loop-pin-init c = record {
   sinks = record {
-    count = omega (arith, c.loop.invariant.count, c.loop-test.false, c.loop.auto.counter-end, c.count-end.ensures.value);
-    each = c.loop.invariant.empty;
+    count = c.in_ok-rows.ensures.count;
+    each = λ net row at.
+        let rows = c.in_ok-rows.rows.items in
+        let lt = slice_get_within rows net row at in
+        let here : get_or rows net row ≡ row = same_Some (get_or rows net row) row (sym (slice_get-get_or rows net row lt) ∙ at) in
+        subst (λ (r : NetSinks). r.sinks.items ≡ []) here (c.in_ok-rows.ensures.none net row lt);
   };
   count = ap length c.in_ok-places.ensures.items;
   each = λ k d lt at. absurd (omega arith);
@@ -63,9 +68,9 @@ loop-pin-preserved c =
       sinks =
           subst (λ (n : ℕ). ArePinSinks c.args.nets.now.nets (take (c.loop-pin.pin-index + 1) cs) (set c.loop-pin.rows.items n c.add.new.self)) net
           (sink_added cs c.loop-pin.pin-index k.0 k.1 c.args.nets.now.nets c.loop-pin.rows.items c.index_mut.result.now c.add.new.self c.loop-pin.invariant.sinks at_net (c.in_ok-place.ensures.sinks k.0 k.2));
-      count = omega (arith, ap length c.in_ok-push-2.ensures.items, length_push c.loop-pin.places.items c.in_ok-place.place, c.loop-pin.invariant.count);
+      count = omega (arith, ap length c.in_ok-push.ensures.items, length_push c.loop-pin.places.items c.in_ok-place.place, c.loop-pin.invariant.count);
       each =
-          places_more cs c.loop-pin.pin-index k.0 c.loop-pin.places.items c.push-in-loop-pin.new.self.items c.in_ok-place.place k.1 c.loop-pin.invariant.count c.in_ok-push-2.ensures.items
+          places_more cs c.loop-pin.pin-index k.0 c.loop-pin.places.items c.push.new.self.items c.in_ok-place.place k.1 c.loop-pin.invariant.count c.in_ok-push.ensures.items
           (place_is (take c.loop-pin.pin-index cs) k.0.net c.index_mut.result.now.sinks.items c.in_ok-place.place (c.loop-pin.invariant.sinks.each k.0.net c.index_mut.result.now at_net) place)
           c.loop-pin.invariant.each;
     }

@@ -1,15 +1,8 @@
-use Rattle.std.proofs.Common.{◌≡◌, ℕ, ◌<◌, [], length, take, Some, get_or}
+use Rattle.std.proofs.Common.{◌≡◌, ℕ, ◌<◌, length, take, Some, get_or}
 use Rattle.std.specs.List.{slice_get}
 use Rattle.link_rules.specs.Pins.{Connected, pins}
-use Rattle.link_pins.specs.declared.sinks.NetSinks.{NetSinks}
 use Rattle.link_pins.specs.Rows.{inputs_in, ArePinSinks}
 use Rattle.link_pins.proofs.sinks.pin_sinks.Given as goal
-
-abbrev pub invariant-loop : goal.invariant-loop
-invariant-loop l = record {
-  count : length l.rows.items ≡ l.counter;
-  empty : (net : ℕ) (row : NetSinks) → slice_get l.rows.items net ≡ Some row → row.sinks.items ≡ [];
-}
 
 abbrev pub invariant-loop-pin : goal.invariant-loop-pin
 invariant-loop-pin l = record {
