@@ -59,7 +59,7 @@ pub fn build<'a>(
     requires { Decides index.now top.now (built top.now) None }
     ensures { IfOk result (λ flat. Builds index.now top.entry.now (built top.entry.now) (Ok flat)) }
 {
-    let mut growing = Growing::with_room(alloc, tally.ranges().len(), tally.met())?;
+    let mut growing = Growing::with_room(alloc, tally.ranges().len(), tally.cells())?;
     let mut path = Vec::new(alloc);
     let mut stack = Stack::new(alloc);
     stack.push(enter_top(alloc, &mut growing, top)?)?;

@@ -49,10 +49,11 @@ fn count_nets(
     Ok(())
 }
 
-/// Counts the names of instances of cells below a path of this length.
+/// Counts instances of cells below a path of this length, and their names.
 fn count_names(tally: &mut Tally, path: usize, cells: &[Instance]) -> Result<(), AllocError>
     ensures { OnOk result (tally.new ≡ tally.old) }
 {
+    tally.count_cells(cells.len());
     let mut rest = cells;
     'cells: while let [cell, more @ ..] = rest {
         tally.count_name(path.saturating_add(cell.name.bytes().len()))?;

@@ -29,10 +29,11 @@ use xt_model::Code;
 /// limits of instances and nets, which are 262,144 of each (nets by bits), as each instance of a module is met; `V5`,
 /// at the last line, two nets, two bits or two instances with one name; `V1`, at the last line, a name of more than
 /// 1,024 bytes. Limits are decided before anything is built. Where a name has more than 1,024 bytes, and all names of
-/// nets and of instances of cells together have more than 64 MB and four times the bytes that the names of modules, of
-/// their nets and of their instances have in the text, that is want of memory, before any of them is made. Takes time
-/// linear in the modules and in the flat netlist, where an instance of a module counts with the declarations of the
-/// module and its own pins, and memory linear in the same.
+/// nets and of instances of cells together have more than 64 MB and four times the bytes of the text, that is want of
+/// memory, before any of them is made. The bytes of the text are taken as those that it has at least: of the names of
+/// modules, of their nets, of their instances and of the pins of these, each pin with four marks and each instance with
+/// two. Takes time linear in the modules and in the flat netlist, where an instance of a module counts with the
+/// declarations of the module and its own pins, and memory linear in the same.
 #[tactic(auto, unfolding(crate::specs::Meaning::FlatMeans))]
 pub fn flatten(alloc: Global, modules: &Modules, last_line: u32) -> Result<Netlist, FlatFault>
     ensures { AnswersFlat result (FlatMeans modules.now.list last_line) }
