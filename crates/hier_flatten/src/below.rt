@@ -85,7 +85,6 @@ pub fn add_cells(
     let mut rest = cells;
     'cells: while let [instance, more @ ..] = rest {
         let cell = cell_below(alloc, growing, path, frame, instance)?;
-        growing.count_name(cell.name.bytes().len())?;
         growing.add_instance(cell)?;
         rest = more;
     }
@@ -140,7 +139,6 @@ fn add_own(
         return Ok(());
     };
     let name = name_below(alloc, path, name)?;
-    growing.count_name(name.bytes().len())?;
     growing.add_net(
         name,
         Net {

@@ -8,6 +8,7 @@ use crate::below::{Frame, add_cells, enter, enter_top};
 use crate::growing::Growing;
 use crate::index::Index;
 use crate::stack::Stack;
+use crate::tally::Tally;
 use std::alloc::{AllocError, Global};
 use verilog_net::Netlist;
 
@@ -48,12 +49,17 @@ fn step<'a>(
     Ok(())
 }
 
-/// The flat nets and instances of the top, which passes no limit.
-pub fn build<'a>(alloc: Global, index: &Index<'a>, top: &'a Netlist) -> Result<Growing, AllocError>
+/// The flat nets and instances of the top, which passes no limit; `tally` has their numbers.
+pub fn build<'a>(
+    alloc: Global,
+    index: &Index<'a>,
+    top: &'a Netlist,
+    tally: &Tally,
+) -> Result<Growing, AllocError>
     requires { Decides index.now top.now (built top.now) None }
     ensures { IfOk result (λ flat. Builds index.now top.entry.now (built top.entry.now) (Ok flat)) }
 {
-    let mut growing = Growing::new(alloc);
+    let mut growing = Growing::with_room(alloc, tally.ranges().len(), tally.cells())?;
     let mut path = Vec::new(alloc);
     let mut stack = Stack::new(alloc);
     stack.push(enter_top(alloc, &mut growing, top)?)?;

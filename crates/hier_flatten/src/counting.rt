@@ -11,12 +11,13 @@ use crate::stack::Stack;
 use crate::tally::Tally;
 use name_numbers::NameTable;
 use std::alloc::{AllocError, Global};
-use verilog_net::{Net, Netlist, Wire};
+use verilog_net::{Instance, Net, Netlist, Wire};
 use xt_model::LimitKind;
 
-/// Counts a net of a module, if it has no connection.
+/// Counts a net of a module below a path of this length, if it has no connection.
 fn count_own(
     tally: &mut Tally,
+    path: usize,
     net: Option<(&[u8], &Net)>,
     wire: Option<Wire>,
 ) -> Result<(), AllocError>
@@ -24,20 +25,39 @@ fn count_own(
       ranges = tally.old.ranges ++ ranges_of (own_at [] (option_map (λ e. (e.0.now, e.1.now)) net.entry) wire);
     }) }
 {
-    if let (Some((_, net)), Some(Wire::Open)) = (net, wire) {
+    if let (Some((name, net)), Some(Wire::Open)) = (net, wire) {
+        tally.count_name(path.saturating_add(name.len()))?;
         tally.add_net(net.range)?;
     }
     Ok(())
 }
 
-/// Counts the nets of a module that have no connection.
-fn count_nets(tally: &mut Tally, nets: &NameTable<Net>, wires: &[Wire]) -> Result<(), AllocError>
+/// Counts the nets of a module below a path of this length that have no connection.
+fn count_nets(
+    tally: &mut Tally,
+    path: usize,
+    nets: &NameTable<Net>,
+    wires: &[Wire],
+) -> Result<(), AllocError>
     ensures { OnOk result (tally.new ≡ record tally.old {
       ranges = tally.old.ranges ++ ranges_of (own_nets [] nets.now wires.now);
     }) }
 {
     for number in 0..nets.len() {
-        count_own(tally, nets.get(number), wire_at(wires, number))?;
+        count_own(tally, path, nets.get(number), wire_at(wires, number))?;
+    }
+    Ok(())
+}
+
+/// Counts instances of cells below a path of this length, and their names.
+fn count_names(tally: &mut Tally, path: usize, cells: &[Instance]) -> Result<(), AllocError>
+    ensures { OnOk result (tally.new ≡ tally.old) }
+{
+    tally.count_cells(cells.len());
+    let mut rest = cells;
+    'cells: while let [cell, more @ ..] = rest {
+        tally.count_name(path.saturating_add(cell.name.bytes().len()))?;
+        rest = more;
     }
     Ok(())
 }
@@ -56,8 +76,9 @@ fn step<'a>(
         (work index.now tally.new stack.new < work index.now tally.old (frame.entry ∷ stack.old)) }
 {
     let count = index.cells_before(frame.rest);
+    let (cells, rest) = frame.rest.split_at(count);
+    count_names(tally, frame.path, cells)?;
     tally.meet(count)?;
-    let (_, rest) = frame.rest.split_at(count);
     let [instance, more @ ..] = rest else {
         return Ok(None);
     };
@@ -69,7 +90,7 @@ fn step<'a>(
     }
     let (below, wires) = frame_below(alloc, tally.ranges(), &frame, instance, module)?;
     tally.meet(1)?;
-    count_nets(tally, &module.nets, wires.as_slice())?;
+    count_nets(tally, below.path, &module.nets, wires.as_slice())?;
     stack.push(Frame {
         rest: more,
         ..frame
@@ -78,22 +99,23 @@ fn step<'a>(
     Ok(None)
 }
 
-/// The limit that the flat netlist of the top passes.
+/// Counts the flat netlist of the top. Answers the limit that it passes.
 pub fn passed_limit<'a>(
     alloc: Global,
     index: &Index<'a>,
     top: &'a Netlist,
+    tally: &mut Tally,
 ) -> Result<Option<LimitKind>, AllocError>
-    requires { HasHierarchy index.now top.now.instances }
+    requires top { HasHierarchy index.now top.now.instances }
+    requires tally { tally.old ≡ record { ranges = []; met = 0 } }
     ensures { IfOk result (Decides index.now top.entry.now (built top.entry.now)) }
 {
-    let mut tally = Tally::new(alloc);
     let mut stack = Stack::new(alloc);
     let (frame, wires) = top_frame(alloc, top)?;
-    count_nets(&mut tally, &top.nets, wires.as_slice())?;
+    count_nets(tally, frame.path, &top.nets, wires.as_slice())?;
     stack.push(frame)?;
     'frames: while let Some(frame) = stack.pop() {
-        let passed = step(alloc, index, &mut tally, &mut stack, frame)?;
+        let passed = step(alloc, index, tally, &mut stack, frame)?;
         if passed.is_some() {
             return Ok(passed);
         }

@@ -9,6 +9,7 @@ use crate::fault::FlatFault;
 use crate::fits::misfit;
 use crate::index::Index;
 use crate::names::with_names;
+use crate::tally::Tally;
 use crate::tops::top_of;
 use std::alloc::Global;
 use verilog_net::{Modules, Netlist};
@@ -27,9 +28,12 @@ use xt_model::Code;
 /// contains itself at some depth; `V9`, at the last line, modules of which not exactly one is instanced by none; the
 /// limits of instances and nets, which are 262,144 of each (nets by bits), as each instance of a module is met; `V5`,
 /// at the last line, two nets, two bits or two instances with one name; `V1`, at the last line, a name of more than
-/// 1,024 bytes. Limits are decided before anything is built. Takes time linear in the modules and in the flat netlist,
-/// where an instance of a module counts with the declarations of the module and its own pins, and memory linear in the
-/// same.
+/// 1,024 bytes. Limits are decided before anything is built. Where a name has more than 1,024 bytes, and all names of
+/// nets and of instances of cells together have more than 64 MB and four times the bytes of the text, that is want of
+/// memory, before any of them is made. The bytes of the text are taken as those that it has at least: of the names of
+/// modules, of their nets, of their instances and of the pins of these, each pin with four marks and each instance with
+/// two. Takes time linear in the modules and in the flat netlist, where an instance of a module counts with the
+/// declarations of the module and its own pins, and memory linear in the same.
 #[tactic(auto, unfolding(crate::specs::Meaning::FlatMeans))]
 pub fn flatten(alloc: Global, modules: &Modules, last_line: u32) -> Result<Netlist, FlatFault>
     ensures { AnswersFlat result (FlatMeans modules.now.list last_line) }
@@ -53,9 +57,10 @@ pub fn flatten(alloc: Global, modules: &Modules, last_line: u32) -> Result<Netli
             code: Code::V9,
         });
     };
-    if let Some(what) = passed_limit(alloc, &index, top)? {
+    let mut tally = Tally::new(alloc, index.modules());
+    if let Some(what) = passed_limit(alloc, &index, top, &mut tally)? {
         return Err(FlatFault::Limit { what });
     }
-    let flat = build(alloc, &index, top)?;
+    let flat = build(alloc, &index, top, &tally)?;
     with_names(alloc, top, flat, last_line)
 }

@@ -1,29 +1,23 @@
 //! The flat netlist as far as it is built.
 
-ghost use Rattle.std.specs.Prelude.{◌≡◌, ◌<◌, ◌^◌, ◌++◌, ◌+◌, ◌∷◌, [], length, OnOk, None};
+ghost use Rattle.std.specs.Prelude.{◌≡◌, ◌<◌, ◌^◌, ◌++◌, ◌+◌, ◌∷◌, [], length, IfOk, OnOk, None};
 ghost use Rattle.hier_flatten.specs.Flat.{counts_of, limit_of, ranges_of};
 
 use std::alloc::{AllocError, Global};
 use std::marker::Model;
 use verilog_net::{Instance, Name, Net};
-use xt_model::limits::MOST_TEXT_NAME;
 
 /// The greatest number of nets that a netlist has names for.
 const MOST_NAMES: usize = 4_294_967_295;
 
-/// How many bytes all names may have together once one of them is too long: four times those of the longest text.
-const MOST_WRITTEN: u64 = 1 << 30;
-
-/// The flat nets and instances so far. `ranges` has the ranges of the nets, `entered` is how many instances of modules
-/// were met, `written` how many bytes the names have, and `has_long` whether one of them is too long.
+/// The flat nets and instances so far. `ranges` has the ranges of the nets, and `entered` is how many instances of
+/// modules were met.
 #[derive(Drop)]
 pub struct Growing {
     nets: Vec<(Name, Net)>,
     instances: Vec<Instance>,
     ranges: Vec<Option<(u32, u32)>>,
     entered: u32,
-    written: u64,
-    has_long: bool,
 }
 
 impl Model for Growing {
@@ -42,18 +36,16 @@ impl Model for Growing {
 }
 
 impl Growing {
-    /// Nothing so far.
-    pub fn new(alloc: Global) -> Growing
-        ensures { result ≡ record { nets = []; instances = []; entered = 0 } }
+    /// Nothing so far, with room for this many nets and instances.
+    pub fn with_room(alloc: Global, nets: usize, instances: usize) -> Result<Growing, AllocError>
+        ensures { IfOk result (λ g. g ≡ record { nets = []; instances = []; entered = 0 }) }
     {
-        Growing {
-            nets: Vec::new(alloc),
-            instances: Vec::new(alloc),
-            ranges: Vec::new(alloc),
+        Ok(Growing {
+            nets: Vec::with_capacity(alloc, nets)?,
+            instances: Vec::with_capacity(alloc, instances)?,
+            ranges: Vec::with_capacity(alloc, nets)?,
             entered: 0,
-            written: 0,
-            has_long: false,
-        }
+        })
     }
 
     /// The ranges of the nets.
@@ -62,19 +54,6 @@ impl Growing {
         ensures few { length result.now < 2 ^ 32 }
     {
         self.ranges.as_slice()
-    }
-
-    /// Counts the bytes of a further name. A netlist with a name that is too long is refused in the end, so its names
-    /// are not made beyond `MOST_WRITTEN` bytes: a path could have as many names as the text has modules.
-    pub fn count_name(&mut self, size: usize) -> Result<(), AllocError>
-        ensures { OnOk result (self.new ≡ self.old) }
-    {
-        self.written = self.written.saturating_add(size as u64);
-        self.has_long = self.has_long || size > MOST_TEXT_NAME;
-        if self.has_long && self.written > MOST_WRITTEN {
-            return Err(AllocError);
-        }
-        Ok(())
     }
 
     /// A further net.

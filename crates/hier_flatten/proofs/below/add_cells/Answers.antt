@@ -10,7 +10,7 @@ cells-preserved c =
     let first = c.args.growing.now in
     let made = flat_instance (ranges_of first.nets) (scope_of c.args.path.now.items c.args.frame.now) in
     let grown : c.add_instance.new.self ≡ record c.cells.growing { instances = c.cells.growing.instances ++ c.in_ok-cell.cell ∷ [] } =
-    c.in_ok-add_instance.ensures ∙ ap (λ (f : Flat). record f { instances = f.instances ++ c.in_ok-cell.cell ∷ [] }) c.in_ok-count_name.ensures in
+    c.in_ok-add_instance.ensures in
     let one : c.in_ok-cell.cell ≡ made c.instance-item.result =
     c.in_ok-cell.ensures.flat
     ∙ (ap (λ n. flat_instance (ranges_of n) (scope_of c.cells.path.items c.args.frame.now) c.instance-item.result) c.cells.invariant.nets

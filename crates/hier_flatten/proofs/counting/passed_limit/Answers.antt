@@ -4,8 +4,8 @@ use Rattle.hier_flatten.proofs.counting.passed_limit.Goals as goal
 
 pub frames-init : goal.frames-init
 frames-init c =
-    count_begun c.args.index.now c.args.top.now c.in_ok-frame.frame c.new-stack.result c.push.new.self c.as_slice.result.now c.new-tally.result c.count_nets.new.tally
-    c.requires c.in_ok-frame.ensures.frame c.new-stack.ensures c.in_ok-push.ensures (c.as_slice.ensures.value ∙ c.in_ok-frame.ensures.wires) c.new-tally.ensures
+    count_begun c.args.index.now c.args.top.now c.in_ok-frame.frame c.new-stack.result c.push.new.self c.as_slice.result.now c.args.tally.now c.count_nets.new.tally
+    c.requires.top c.in_ok-frame.ensures.frame c.new-stack.ensures c.in_ok-push.ensures (c.as_slice.ensures.value ∙ c.in_ok-frame.ensures.wires) c.requires.tally
     c.in_ok-count_nets.ensures
 
 pub frames-preserved : goal.frames-preserved

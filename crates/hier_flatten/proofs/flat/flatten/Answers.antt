@@ -16,8 +16,8 @@ returns-in_default-2 c =
     subst (λ ms. FlatMeans ms c.args.last_line (Err (faults.Refused c.args.last_line V9))) same
     (no_top_means c.in_ok-index.index c.args.last_line (sym c.misfit.ensures ∙ c.in_default.is) ends none)
 
-pub passed_limit-requires : goal.passed_limit-requires
-passed_limit-requires c =
+pub passed_limit-requires-clause-top : goal.passed_limit-requires-clause-top
+passed_limit-requires-clause-top c =
     let ends : (number : ℕ) → IsFinite c.in_ok-index.index number = rw c.if-branch.false at c.in_ok-contains_itself.ensures in
     top_finite c.in_ok-index.index c.args.last_line c.in-Some-2.top.now ends (sym c.in_ok-top.ensures ∙ ap (option_map (λ m. m.now)) c.in-Some-2.is)
 
