@@ -1,6 +1,6 @@
 //! The nets of a design from their pins and their wires.
 
-ghost use Rattle.std.specs.Prelude.{◌≡◌, ◌<◌, ◌^◌, length, map, IfOk};
+ghost use Rattle.std.specs.Prelude.{◌≡◌, ◌<◌, ◌^◌, ◌∷◌, [], length, map, reverse, IfOk, MatchOption};
 ghost use Rattle.std.specs.List.{All};
 ghost use Rattle.xt_model.specs.Names.{IsName};
 ghost use Rattle.elmore_tree.specs.Sums.{IsSinkSums};
@@ -99,20 +99,33 @@ fn net_of(alloc: Global, pins: NetPins, wire: NetWire) -> Result<Net, AllocError
     formed_net(alloc, pins, couplings, form)
 }
 
-/// Nets by their pins with their wires, which are used up one by one.
+/// Takes out the last item. Where the list has much room to spare then, it gives that back.
+fn take_last<T: Drop>(items: &mut Vec<T>) -> Option<T>
+    ensures { MatchOption result (reverse items.old.items ≡ [])
+        (λ x. reverse items.old.items ≡ x ∷ reverse items.new.items) }
+{
+    let last = items.pop()?;
+    if items.len() < items.capacity() / 8 * 7 {
+        items.shrink_to_fit();
+    }
+    Some(last)
+}
+
+/// Nets by their pins with their wires, which are used up one by one: from the end of a list in reverse, so that the
+/// memory of those that are used up is given back.
 pub fn nets_of(
     alloc: Global,
-    circuit: Vec<NetPins>,
-    wires: Vec<NetWire>,
+    mut circuit: Vec<NetPins>,
+    mut wires: Vec<NetWire>,
 ) -> Result<Vec<Net>, AllocError>
     requires { FitAll circuit.items wires.items }
     ensures { IfOk result (λ nets. AreMade circuit.items wires.items nets.items) }
 {
     let mut nets = Vec::with_capacity(alloc, circuit.len())?;
-    let mut left = circuit.into_iter();
-    let mut rest = wires.into_iter();
-    'nets: while let Some(pins) = left.next() {
-        let Some(wire) = rest.next() else {
+    circuit.reverse();
+    wires.reverse();
+    'nets: while let Some(pins) = take_last(&mut circuit) {
+        let Some(wire) = take_last(&mut wires) else {
             unreachable!()
         };
         nets.push(net_of(alloc, pins, wire)?)?;
