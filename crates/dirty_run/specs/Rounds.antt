@@ -4,6 +4,7 @@ use Rattle.std.specs.List.{All}
 use Rattle.xt_model.specs.declared.net.NetId.{NetId}
 use Rattle.xt_model.specs.Parts.{Parts}
 use Rattle.xt_model.specs.Levels.{IsOrder}
+use Rattle.table_box.specs.Groups.{AreGroups}
 use Rattle.chaos_core.specs.declared.setting.Setting.{Setting}
 use Rattle.chaos_core.specs.Rounds.{AreTurns, HasCarried}
 use Rattle.dirty_words.specs.Views.{pass_sent}
@@ -63,9 +64,10 @@ AreMarkedTurns a (suc rounds) p q = (m : List ℕ) × AreTurns a rounds p m × H
 abbrev pub workers_in : DirtyRoom → ℕ
 workers_in room = length room.workers.idle.items
 
--- a room for a run on a design with these read lists: all its workers are idle, and it has windows and words for each
--- net
+-- a room for a run on a design with these read lists: all its workers are idle, it knows groups of the design's tables,
+-- and it has windows and words for each net
 pub record IsRoomFor (d : Parts) (lists : List (List NetId)) (room : DirtyRoom) : Type 0 where
   pub idle : AreIdle lists room.workers
+  pub groups : AreGroups d.tables room.groups.items
   pub count : length room.windows ≡ length d.nets
   pub words : 8 * length d.nets ≤ vec_capacity room.words

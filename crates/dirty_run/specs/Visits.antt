@@ -8,6 +8,7 @@ use Rattle.xt_model.specs.declared.quad.Pair.{Pair}
 use Rattle.xt_model.specs.Parts.{Parts}
 use Rattle.xt_meaning.specs.Barrier.{IsBoundNoFurther}
 use Rattle.xt_meaning.specs.Words.{bound_in, bounds_in, onward, AreNoFurther, further}
+use Rattle.table_box.specs.Groups.{AreGroups}
 use Rattle.net_eval.specs.ReadLists.{AreReadLists}
 use Rattle.chaos_core.specs.Boards.{IsSeen}
 use Rattle.chaos_core.specs.Tasks.{list_of, word_to_load, evaluated, bound_at}
@@ -21,11 +22,12 @@ use Rattle.dirty_words.specs.Boards.{DirtyId}
 use Rattle.dirty_words.specs.Steps.{Published}
 use Rattle.dirty_run.specs.declared.worker.Worker.{Worker}
 
--- a board with the words of a run of this design in this direction, the read lists with which it was opened, and their
--- readers
-pub record IsRun (board : DirtyId) (d : Parts) (lists readers : List (List NetId)) (direction : Direction)
-    : Type 0 where
+-- a board with the words of a run of this design in this direction, groups of its tables, the read lists with which the
+-- board was opened, and their readers
+pub record IsRun (board : DirtyId) (d : Parts) (groups : List ℕ) (lists readers : List (List NetId))
+    (direction : Direction) : Type 0 where
   pub design : board.run.setting.design ≡ d
+  pub grouped : AreGroups d.tables groups
   pub way : board.run.setting.way ≡ direction
   pub own : board.run.lists ≡ lists
   pub whole : AreReadLists d lists

@@ -40,7 +40,8 @@ fn send_out<G>(run: &Run<'_, G>, workers: &mut Workers, first: &mut DirtyPass)
 
 /// One worker's part of a round: it passes the gate, and then draws and visits until it is done.
 fn work<G: Gate>(run: &Run<'_, G>, own: &mut SeatedWorker, number: u32, round: u64)
-    requires run { IsRun run.now.board.now run.now.design.now run.now.lists.now run.now.readers.now run.now.direction }
+    requires run { IsRun run.now.board.now run.now.design.now run.now.groups.now
+        run.now.lists.now run.now.readers.now run.now.direction }
     requires ready { IsReady run.now.board.now run.now.lists.now own.old }
     ensures { HasWorked run.now.board.now run.now.design.now run.now.lists.now own.old own.new }
 {
@@ -56,7 +57,8 @@ fn work_all<R: Threads + Sync, G: Gate>(
     seated: &mut [SeatedWorker],
     round: u64,
 )
-    requires run { IsRun run.now.board.now run.now.design.now run.now.lists.now run.now.readers.now run.now.direction }
+    requires run { IsRun run.now.board.now run.now.design.now run.now.groups.now
+        run.now.lists.now run.now.readers.now run.now.direction }
     requires some { 0 < length seated.old }
     requires few { length seated.old ≤ most_workers }
     requires ready { All (IsReady run.now.board.now run.now.lists.now) seated.old }
@@ -69,7 +71,8 @@ fn work_all<R: Threads + Sync, G: Gate>(
         threads,
         &|place: usize, own: &mut SeatedWorker|
             requires { (place < most_workers)
-                × IsRun run.now.board.now run.now.design.now run.now.lists.now run.now.readers.now run.now.direction
+                × IsRun run.now.board.now run.now.design.now run.now.groups.now
+                run.now.lists.now run.now.readers.now run.now.direction
                 × IsReady run.now.board.now run.now.lists.now own.now }
             ensures { HasWorked run.entry.now.board.now run.entry.now.design.now run.entry.now.lists.now
                 own.entry.now own.exit.now }
@@ -79,7 +82,8 @@ fn work_all<R: Threads + Sync, G: Gate>(
 
 /// Joins the passes of all workers.
 fn take_back<G>(run: &Run<'_, G>, workers: &mut Workers, first: &mut DirtyPass)
-    requires run { IsRun run.now.board.now run.now.design.now run.now.lists.now run.now.readers.now run.now.direction }
+    requires run { IsRun run.now.board.now run.now.design.now run.now.groups.now
+        run.now.lists.now run.now.readers.now run.now.direction }
     requires own { IsOf run.now.board.now first.old }
     requires first { IsFirst first.old.view }
     requires free { IsFree first.old.view }
@@ -115,7 +119,8 @@ pub(crate) fn round<R: Threads + Sync, G: Gate>(
     first: &mut DirtyPass,
     round: u64,
 )
-    requires run { IsRun run.now.board.now run.now.design.now run.now.lists.now run.now.readers.now run.now.direction }
+    requires run { IsRun run.now.board.now run.now.design.now run.now.groups.now
+        run.now.lists.now run.now.readers.now run.now.direction }
     requires own { IsOf run.now.board.now first.old }
     requires alone { IsAlone first.old.view }
     requires free { IsFree first.old.view }

@@ -35,7 +35,8 @@ fn run_rounds<R: Threads + Sync, G: Gate>(
     workers: &mut Workers,
     first: &mut DirtyPass,
 ) -> u64
-    requires run { IsRun run.now.board.now run.now.design.now run.now.lists.now run.now.readers.now run.now.direction }
+    requires run { IsRun run.now.board.now run.now.design.now run.now.groups.now
+        run.now.lists.now run.now.readers.now run.now.direction }
     requires own { IsOf run.now.board.now first.old }
     requires alone { IsAlone first.old.view }
     requires free { IsFree first.old.view }
@@ -108,6 +109,7 @@ pub fn settle_dirty_in<R: Threads + Sync, G: Gate>(
     // The read lists with which the board was opened are those of its design, and a design has one read list a net.
     board.has_read_lists();
     let DirtyRoom {
+        groups,
         workers,
         windows,
         words,
@@ -115,9 +117,11 @@ pub fn settle_dirty_in<R: Threads + Sync, G: Gate>(
     let mut workers = workers;
     let mut windows = windows;
     let mut words = words;
+    let groups = groups.as_slice();
     let run = Run {
         board,
         design,
+        groups,
         lists,
         readers,
         direction,

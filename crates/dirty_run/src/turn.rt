@@ -14,7 +14,8 @@ use xt_model::NetId;
 
 /// The net at the next place, where there is one: draws a number.
 fn next_net<G>(run: &Run<'_, G>, pass: &mut DirtyPass) -> Option<NetId>
-    requires run { IsRun run.now.board.now run.now.design.now run.now.lists.now run.now.readers.now run.now.direction }
+    requires run { IsRun run.now.board.now run.now.design.now run.now.groups.now
+        run.now.lists.now run.now.readers.now run.now.direction }
     requires own { IsOf run.now.board.now pass.old }
     requires late { 0 < late_of pass.old.view.base }
     ensures own { IsOf run.now.board.now pass.new }
@@ -30,7 +31,8 @@ fn next_net<G>(run: &Run<'_, G>, pass: &mut DirtyPass) -> Option<NetId>
 
 /// Draws and visits until a number is drawn that is no place.
 pub(crate) fn run_worker<G>(run: &Run<'_, G>, pass: &mut DirtyPass, worker: &mut Worker)
-    requires run { IsRun run.now.board.now run.now.design.now run.now.lists.now run.now.readers.now run.now.direction }
+    requires run { IsRun run.now.board.now run.now.design.now run.now.groups.now
+        run.now.lists.now run.now.readers.now run.now.direction }
     requires own { IsOf run.now.board.now pass.old }
     requires fresh { pass.old.view.base.drawn ≡ [] }
     requires none { pass.old.view.taken ≡ [] }

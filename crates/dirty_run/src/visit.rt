@@ -6,6 +6,7 @@ ghost use Rattle.std.specs.List.{Contains};
 ghost use Rattle.std.specs.List.Sorted.{IsStrictlyIncreasing};
 ghost use Rattle.xt_model.specs.Quads.{IsPairInRange};
 ghost use Rattle.xt_meaning.specs.Words.{bound_in, number_for};
+ghost use Rattle.table_box.specs.Groups.{AreGroups};
 ghost use Rattle.net_eval.specs.ReadLists.{AreReadLists, ids};
 ghost use Rattle.chaos_core.specs.Boards.{nets_of};
 ghost use Rattle.chaos_core.specs.Tasks.{list_of, evaluated, bound_at};
@@ -17,7 +18,7 @@ ghost use Rattle.dirty_run.specs.Visits.{first_words, fresh_flight, HasLoaded, H
 ghost use Rattle.dirty_run.specs.Visits.{HasVisited, IsPublishing, IsReady, IsRun};
 
 use crate::worker::{Run, Worker};
-use chaos_core::{evaluate, moves_down, number_in};
+use chaos_core::{evaluate_grouped, moves_down, number_in};
 use dirty_words::{DirtyBoard, DirtyPass};
 use net_eval::ReadLists;
 use xt_model::{Design, Direction, NetId, Pair};
@@ -54,11 +55,13 @@ fn load_all(
 /// What the operator makes of a net of the numbers loaded for its read list, with which these numbers begin.
 fn evaluate_loaded(
     design: &Design,
+    groups: &[usize],
     lists: &ReadLists,
     net: NetId,
     loaded: &[u64],
     places: &mut [u32],
 ) -> Pair
+    requires groups { AreGroups design.now.tables groups.now }
     requires there { net.0 < length lists.now }
     requires loaded { IsLoaded design.now (list_of lists.now net.0) net.0 (first_words lists.now net.0 loaded.now) }
     requires room { 8 * length (list_of lists.now net.0) ≤ length loaded.now }
@@ -69,7 +72,14 @@ fn evaluate_loaded(
     ensures count { length places.new ≡ length places.old }
 {
     let reads = lists.of(net);
-    evaluate(design, reads, net, &loaded[..8 * reads.len()], places)
+    evaluate_grouped(
+        design,
+        groups,
+        reads,
+        net,
+        &loaded[..8 * reads.len()],
+        places,
+    )
 }
 
 /// Publishes the next word of the net in flight: whether that moved the word.
@@ -164,7 +174,8 @@ fn pay(board: &DirtyBoard, pass: &mut DirtyPass, readers: &[NetId])
 
 /// Visits a net of which the pass drew the number.
 pub(crate) fn visit<G>(run: &Run<'_, G>, pass: &mut DirtyPass, worker: &mut Worker, net: NetId)
-    requires run { IsRun run.now.board.now run.now.design.now run.now.lists.now run.now.readers.now run.now.direction }
+    requires run { IsRun run.now.board.now run.now.design.now run.now.groups.now
+        run.now.lists.now run.now.readers.now run.now.direction }
     requires own { IsOf run.now.board.now pass.old }
     requires take { CanTake pass.old.view net.0 }
     requires room { HasRoom run.now.lists.now worker.old }
@@ -186,6 +197,7 @@ pub(crate) fn visit<G>(run: &Run<'_, G>, pass: &mut DirtyPass, worker: &mut Work
     );
     let pair = evaluate_loaded(
         run.design,
+        run.groups,
         run.lists,
         net,
         worker.loaded.as_slice(),

@@ -8,13 +8,16 @@ use dirty_words::{DirtyBoard, DirtyPass, Readers};
 use envelope::quiet;
 use net_eval::ReadLists;
 use std::alloc::Global;
+use table_box::table_groups;
 use xt_model::{Design, Direction, NoMemory, Windows};
 
-/// What the workers of a run work on, and the gate that each of them passes before it draws.
+/// What the workers of a run work on, with groups of the design's tables, and the gate that each of them passes before
+/// it draws.
 #[derive(Drop)]
 pub(crate) struct Run<'a, G> {
     pub(crate) board: &'a DirtyBoard,
     pub(crate) design: &'a Design,
+    pub(crate) groups: &'a [usize],
     pub(crate) lists: &'a ReadLists,
     pub(crate) readers: &'a Readers,
     pub(crate) direction: Direction,
@@ -72,9 +75,11 @@ impl Workers {
     }
 }
 
-/// The room of a run: its workers, and the words and the windows in which it ends. It serves a run on one board.
+/// The room of a run: its workers, groups of the design's tables, and the words and the windows in which it ends. It
+/// serves a run on one board.
 #[derive(Drop)]
 pub struct DirtyRoom {
+    pub(crate) groups: Vec<usize>,
     pub(crate) workers: Workers,
     pub(crate) windows: Windows,
     pub(crate) words: Vec<u64>,
@@ -96,7 +101,9 @@ impl DirtyRoom {
         let workers = Workers::new(alloc, lists, workers)?;
         let windows = quiet(alloc, design)?;
         let words = Vec::with_capacity(alloc, 8 * design.nets().len())?;
+        let groups = table_groups(alloc, design.tables())?;
         Ok(DirtyRoom {
+            groups,
             workers,
             windows,
             words,

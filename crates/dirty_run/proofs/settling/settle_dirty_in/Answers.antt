@@ -2,6 +2,7 @@ use Rattle.std.proofs.Common.{◌≡◌, sym, ap, subst, ◌∙◌, List, ℕ, l
 use Rattle.xt_model.specs.declared.direction.Direction.{Direction}
 use Rattle.xt_model.specs.Parts.{Parts}
 use Rattle.xt_meaning.specs.Laws.{IsExtremeFixpoint}
+use Rattle.table_box.specs.Groups.{AreGroups}
 use Rattle.net_eval.specs.ReadLists.{AreReadLists}
 use Rattle.run_laws.proofs.Hulls.{within_greatest}
 use Rattle.chaos_core.specs.Boards.{nets_of}
@@ -17,6 +18,7 @@ run_rounds-rounds-requires-clause-run g c = λ _ _.
     let board = c.args.board.now.run in
     record {
       design = c.requires.design;
+      grouped = subst (AreGroups c.args.design.now.tables) (sym c.as_slice-groups.ensures.value) c.requires.room.groups;
       way = c.requires.direction;
       own = one_list c.args.design.now board.lists c.args.lists.now (subst (λ (d : Parts). AreReadLists d board.lists) c.requires.design c.has_read_lists.ensures) c.requires.lists;
       whole = c.requires.lists;
