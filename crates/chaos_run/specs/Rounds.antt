@@ -6,6 +6,7 @@ use Rattle.xt_model.specs.declared.net.NetId.{NetId}
 use Rattle.xt_model.specs.declared.quad.Pair.{Pair}
 use Rattle.xt_model.specs.Parts.{Parts}
 use Rattle.xt_model.specs.Levels.{IsOrder}
+use Rattle.table_box.specs.Groups.{AreGroups}
 use Rattle.net_eval.specs.ReadLists.{AreReadLists}
 use Rattle.chaos_core.specs.declared.setting.Setting.{Setting}
 use Rattle.chaos_core.specs.Runs.{Ran}
@@ -80,8 +81,9 @@ abbrev pub workers_in : RunRoom → ℕ
 workers_in room = length room.workers.idle.items
 
 -- a room for a run on a design with these read lists: all its workers are idle, and it has windows and a mark for each
--- net
+-- net, and groups of the tables
 pub record IsRoomFor (d : Parts) (lists : List (List NetId)) (room : RunRoom) : Type 0 where
   pub idle : AreIdle lists room.workers
   pub count : length room.windows ≡ length d.nets
   pub marks : length room.marks.items ≡ length d.nets
+  pub groups : AreGroups d.tables room.groups.items

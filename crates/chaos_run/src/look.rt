@@ -9,6 +9,7 @@ ghost use Rattle.xt_model.specs.Quads.{IsBound, IsInRange, IsPairInRange, quad_a
 ghost use Rattle.xt_model.specs.Assign.{quads_of};
 ghost use Rattle.xt_meaning.specs.Barrier.{IsFittingStart, IsWithinEnvelope};
 ghost use Rattle.xt_meaning.specs.Words.{bounds_in, numbers_of};
+ghost use Rattle.table_box.specs.Groups.{AreGroups};
 ghost use Rattle.net_eval.specs.Closing.{IsSteadyAt};
 ghost use Rattle.net_eval.specs.ReadLists.{AreReadLists};
 ghost use Rattle.chaos_core.specs.Boards.{nets_of};
@@ -19,7 +20,7 @@ ghost use Rattle.window_words.specs.Boards.{IsAlone, IsOf};
 ghost use Rattle.window_words.specs.Steps.{IsRested};
 ghost use Rattle.chaos_run.specs.Looks.{quad_from};
 
-use chaos_core::{bound_of, closed_where};
+use chaos_core::{bound_of, closed_where_grouped};
 use net_eval::ReadLists;
 use std::thread::{Threads, join};
 use window_words::{Pass, SharedBoard};
@@ -125,6 +126,7 @@ fn unmark(marks: &mut [bool])
 fn closed_by<R: Threads + Sync>(
     rt: &R,
     design: &Design,
+    groups: &[usize],
     lists: &ReadLists,
     marks: &[bool],
     windows: &Windows,
@@ -132,6 +134,7 @@ fn closed_by<R: Threads + Sync>(
     to: u32,
     shares: u32,
 ) -> bool
+    requires groups { AreGroups design.now.tables groups.now }
     requires lists { AreReadLists design.now lists.now }
     requires look { IsLook design.now lists.now windows.now marks.now }
     requires within { IsWithinEnvelope design.now windows.now }
@@ -141,7 +144,7 @@ fn closed_by<R: Threads + Sync>(
     ensures { IsTrue result ↔ ((n : ℕ) → from ≤ n → n < to → IsSteadyAt design.now windows.now n) }
 {
     if shares <= 1 {
-        return closed_where(design, lists, marks, windows, from, to);
+        return closed_where_grouped(design, groups, lists, marks, windows, from, to);
     }
     let some = shares / 2;
     let rest = shares - some;
@@ -149,21 +152,25 @@ fn closed_by<R: Threads + Sync>(
     let (left, right) = join(
         rt,
         move || -> bool
-            requires { IsSync R.row × AreReadLists design.now lists.now
+            requires { IsSync R.row × AreGroups design.now.tables groups.now × AreReadLists design.now lists.now
                 × IsLook design.now lists.now windows.now marks.now × IsWithinEnvelope design.now windows.now
                 × (from ≤ middle) × (middle ≤ length design.now.nets)
                 × (some ≤ most_workers) }
             ensures { IsTrue result ↔ ((n : ℕ) → from ≤ n → n < middle
                 → IsSteadyAt design.entry.now windows.entry.now n) }
-        { closed_by(rt, design, lists, marks, windows, from, middle, some) },
+        {
+            closed_by(
+                rt, design, groups, lists, marks, windows, from, middle, some,
+            )
+        },
         move || -> bool
-            requires { IsSync R.row × AreReadLists design.now lists.now
+            requires { IsSync R.row × AreGroups design.now.tables groups.now × AreReadLists design.now lists.now
                 × IsLook design.now lists.now windows.now marks.now × IsWithinEnvelope design.now windows.now
                 × (middle ≤ to) × (to ≤ length design.now.nets)
                 × (rest ≤ most_workers) }
             ensures { IsTrue result ↔ ((n : ℕ) → middle ≤ n → n < to
                 → IsSteadyAt design.entry.now windows.entry.now n) }
-        { closed_by(rt, design, lists, marks, windows, middle, to, rest) },
+        { closed_by(rt, design, groups, lists, marks, windows, middle, to, rest) },
     );
     left && right
 }
@@ -175,6 +182,7 @@ pub(crate) fn look<R: Threads + Sync>(
     board: &SharedBoard,
     first: &mut Pass,
     design: &Design,
+    groups: &[usize],
     lists: &ReadLists,
     windows: &mut Windows,
     marks: &mut [bool],
@@ -183,6 +191,7 @@ pub(crate) fn look<R: Threads + Sync>(
     requires own { IsOf board.now first.old }
     requires alone { IsAlone first.old.view }
     requires design { board.now.setting.design ≡ design.now }
+    requires groups { AreGroups design.now.tables groups.now }
     requires lists { AreReadLists design.now lists.now }
     requires count { length windows.old ≡ length design.now.nets }
     requires marks { length marks.old ≡ length design.now.nets }
@@ -201,6 +210,7 @@ pub(crate) fn look<R: Threads + Sync>(
     closed_by(
         rt,
         design,
+        groups,
         lists,
         marks,
         windows,
@@ -217,6 +227,7 @@ pub(crate) fn look_again<R: Threads + Sync>(
     board: &SharedBoard,
     first: &mut Pass,
     design: &Design,
+    groups: &[usize],
     lists: &ReadLists,
     windows: &mut Windows,
     marks: &mut [bool],
@@ -225,6 +236,7 @@ pub(crate) fn look_again<R: Threads + Sync>(
     requires own { IsOf board.now first.old }
     requires alone { IsAlone first.old.view }
     requires design { board.now.setting.design ≡ design.now }
+    requires groups { AreGroups design.now.tables groups.now }
     requires lists { AreReadLists design.now lists.now }
     requires before { IsFittingStart board.now.setting.way design.now windows.old }
     requires marks { length marks.old ≡ length design.now.nets }
@@ -244,6 +256,7 @@ pub(crate) fn look_again<R: Threads + Sync>(
     closed_by(
         rt,
         design,
+        groups,
         lists,
         marks,
         windows,

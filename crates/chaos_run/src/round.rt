@@ -4,13 +4,14 @@ ghost use Rattle.std.specs.Prelude.{◌≡◌, ℕ, ◌+◌, ◌<◌, ◌≤◌,
 ghost use Rattle.std.specs.List.{All, AllZip};
 ghost use Rattle.xt_model.specs.Limits.{most_workers};
 ghost use Rattle.xt_model.specs.Levels.{IsOrder};
+ghost use Rattle.table_box.specs.Groups.{AreGroups};
 ghost use Rattle.chaos_core.specs.Looks.{IsLook};
 ghost use Rattle.chaos_core.specs.Runs.{Ran};
 ghost use Rattle.window_words.specs.Boards.{knowledge_of, IsAlone, IsFirst, IsOf};
 ghost use Rattle.chaos_run.specs.Rounds.{with_out, AreIdle, AreRoomy, IsRun, IsSent, IsReady, HasRun, IsBack};
 
 use crate::workers::{Run, SeatedWorker, Workers};
-use chaos_core::{Gate, Looked, run_looked};
+use chaos_core::{Gate, Looked, run_grouped};
 use std::thread;
 use std::thread::Threads;
 use window_words::{Pass, Seated};
@@ -44,11 +45,13 @@ fn send_out<'a, G>(run: &Run<'a, G>, workers: &mut Workers<'a>, first: &mut Pass
 /// One worker's part of a round: it passes the gate, and then draws and works until it is done.
 fn work<G: Gate>(
     run: &Run<'_, G>,
+    groups: &[usize],
     own: &mut SeatedWorker<'_>,
     number: u32,
     round: u64,
     look: &Looked<'_>,
 )
+    requires groups { AreGroups run.now.design.now.tables groups.now }
     requires run { IsRun run.now.board.now run.now.design.now run.now.lists.now run.now.direction }
     requires look { IsLook run.now.design.now run.now.lists.now look.now.windows.now look.now.marks.now }
     requires ready { IsReady run.now.board.now run.now.lists.now own.old }
@@ -56,10 +59,11 @@ fn work<G: Gate>(
 {
     run.gate.pass(number, round);
     own.worker.reset();
-    run_looked(
+    run_grouped(
         &mut own.seated,
         &mut own.worker,
         run.design,
+        groups,
         run.lists,
         run.direction,
         look,
@@ -71,10 +75,12 @@ fn work<G: Gate>(
 fn work_all<R: Threads + Sync, G: Gate>(
     rt: &R,
     run: &Run<'_, G>,
+    groups: &[usize],
     seated: &mut [SeatedWorker<'_>],
     round: u64,
     look: &Looked<'_>,
 )
+    requires groups { AreGroups run.now.design.now.tables groups.now }
     requires run { IsRun run.now.board.now run.now.design.now run.now.lists.now run.now.direction }
     requires look { IsLook run.now.design.now run.now.lists.now look.now.windows.now look.now.marks.now }
     requires some { 0 < length seated.old }
@@ -88,13 +94,13 @@ fn work_all<R: Threads + Sync, G: Gate>(
         seated,
         threads,
         &|place: usize, own: &mut SeatedWorker<'_>|
-            requires { (place < most_workers)
+            requires { (place < most_workers) × AreGroups run.now.design.now.tables groups.now
                 × IsRun run.now.board.now run.now.design.now run.now.lists.now run.now.direction
                 × IsLook run.now.design.now run.now.lists.now look.now.windows.now look.now.marks.now
                 × IsReady run.now.board.now run.now.lists.now own.now }
             ensures { HasRun run.entry.now.board.now run.entry.now.design.now run.entry.now.lists.now
                 own.entry.now own.exit.now }
-        { work(run, own, place as u32 + 1, round, look) },
+        { work(run, groups, own, place as u32 + 1, round, look) },
     );
 }
 
@@ -128,12 +134,14 @@ fn take_back<'a, G>(run: &Run<'a, G>, workers: &mut Workers<'a>, first: &mut Pas
 pub(crate) fn round<'a, R: Threads + Sync, G: Gate>(
     rt: &R,
     run: &Run<'a, G>,
+    groups: &[usize],
     workers: &mut Workers<'a>,
     first: &mut Pass,
     round: u64,
     windows: &Windows,
     marks: &[bool],
 )
+    requires groups { AreGroups run.now.design.now.tables groups.now }
     requires run { IsRun run.now.board.now run.now.design.now run.now.lists.now run.now.direction }
     requires own { IsOf run.now.board.now first.old }
     requires alone { IsAlone first.old.view }
@@ -152,6 +160,6 @@ pub(crate) fn round<'a, R: Threads + Sync, G: Gate>(
     let look = Looked { windows, marks };
     run.board.restart(first);
     send_out(run, workers, first);
-    work_all(rt, run, workers.seated.as_mut_slice(), round, &look);
+    work_all(rt, run, groups, workers.seated.as_mut_slice(), round, &look);
     take_back(run, workers, first);
 }

@@ -10,6 +10,7 @@ ghost use Rattle.xt_meaning.specs.Laws.{IsExtremeFixpoint};
 ghost use Rattle.xt_meaning.specs.Words.{numbers_of};
 ghost use Rattle.run_laws.specs.Transitions.{Transition, AreConsistent};
 ghost use Rattle.run_laws.specs.Laws.{LieWithin};
+ghost use Rattle.table_box.specs.Groups.{AreGroups};
 ghost use Rattle.net_eval.specs.ReadLists.{AreReadLists};
 ghost use Rattle.chaos_core.specs.Rounds.{AreClosed, AreTurns};
 ghost use Rattle.window_words.specs.Boards.{IsAlone, IsOf};
@@ -30,11 +31,13 @@ use xt_model::{Design, Direction, NoMemory, Windows};
 fn run_rounds<'a, R: Threads + Sync, G: Gate>(
     rt: &R,
     run: &Run<'a, G>,
+    groups: &[usize],
     workers: &mut Workers<'a>,
     first: &mut Pass,
     windows: &mut Windows,
     marks: &mut [bool],
 ) -> u64
+    requires groups { AreGroups run.now.design.now.tables groups.now }
     requires run { IsRun run.now.board.now run.now.design.now run.now.lists.now run.now.direction }
     requires own { IsOf run.now.board.now first.old }
     requires alone { IsAlone first.old.view }
@@ -56,15 +59,15 @@ fn run_rounds<'a, R: Threads + Sync, G: Gate>(
 {
     let shares = workers.idle.as_slice().len() as u32;
     let mut done = look(
-        rt, run.board, first, run.design, run.lists, windows, marks, shares,
+        rt, run.board, first, run.design, groups, run.lists, windows, marks, shares,
     );
     let mut rounds: u64 = 0;
     'rounds: while !done {
         prove!(rounds < run.design.bound());
         rounds += 1;
-        round(rt, run, workers, first, rounds, windows, marks);
+        round(rt, run, groups, workers, first, rounds, windows, marks);
         done = look_again(
-            rt, run.board, first, run.design, run.lists, windows, marks, shares,
+            rt, run.board, first, run.design, groups, run.lists, windows, marks, shares,
         );
     }
     rounds
@@ -105,6 +108,7 @@ pub fn settle_in<'a, R: Threads + Sync, G: Gate>(
         workers,
         windows,
         marks,
+        groups,
     } = room;
     let mut workers = workers;
     let mut windows = windows;
@@ -119,6 +123,7 @@ pub fn settle_in<'a, R: Threads + Sync, G: Gate>(
     let rounds = run_rounds(
         rt,
         &run,
+        groups.as_slice(),
         &mut workers,
         first,
         &mut windows,

@@ -8,6 +8,7 @@ use chaos_core::Worker;
 use envelope::quiet;
 use net_eval::ReadLists;
 use std::alloc::Global;
+use table_box::table_groups;
 use window_words::{Seated, SharedBoard};
 use xt_model::{Design, Direction, NoMemory, Windows};
 
@@ -50,12 +51,14 @@ impl<'a> Workers<'a> {
     }
 }
 
-/// The room of a run: its workers, and windows and marks for the look at its words. It serves a run on one board.
+/// The room of a run: its workers, windows and marks for the look at its words, and the groups of the design's tables.
+/// It serves a run on one board.
 #[derive(Drop)]
 pub struct RunRoom<'a> {
     pub(crate) workers: Workers<'a>,
     pub(crate) windows: Windows,
     pub(crate) marks: Vec<bool>,
+    pub(crate) groups: Vec<usize>,
 }
 
 impl<'a> RunRoom<'a> {
@@ -74,10 +77,12 @@ impl<'a> RunRoom<'a> {
         let workers = Workers::new(alloc, lists, workers)?;
         let windows = quiet(alloc, design)?;
         let marks = vec![in alloc; false; design.nets().len()]?;
+        let groups = table_groups(alloc, design.tables())?;
         Ok(RunRoom {
             workers,
             windows,
             marks,
+            groups,
         })
     }
 }
