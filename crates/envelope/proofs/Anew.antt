@@ -2,9 +2,9 @@
 -- the pass from nothing.
 use Rattle.std.proofs.Common.{◌≡◌, ◌≢◌, ℕ, zero, suc, ◌+◌, ◌<◌, ◌≤◌, ◌&&◌, Bool, true, false, inl, inr, refl, sym, ap, subst, ◌∙◌, List, [], ◌∷◌, length, set, get_or, arith}
 use Rattle.std.specs.Prelude.{Option, Some, None, IfSome, slice_index}
-use Rattle.std.specs.List.{All, AllPass, slice_get, list_all}
+use Rattle.std.specs.List.{All, slice_get, list_all}
 use Rattle.std.proofs.lemmas.Bool.{cases_eq, cases_lt, cases_Bool}
-use Rattle.std.proofs.lemmas.Option.{slice_get_past, slice_get-get_or, slice_get_within, get_or_from_slice_get}
+use Rattle.std.proofs.lemmas.Option.{slice_get_past, slice_get_within, get_or_from_slice_get}
 use Rattle.std.proofs.lemmas.List.{length-set, get_or-set_same, get_or-set_other}
 use Rattle.std.proofs.lemmas.List.Sums.{AllPass-from_list_all}
 use Rattle.xt_model.specs.declared.edge.Edge.{Edge}
@@ -20,7 +20,7 @@ use Rattle.xt_model.specs.Sound.{IsSound, IsSoundNet}
 use Rattle.xt_model.specs.Assign.{assigned, quad_of_pair, words_of, quads_of}
 use Rattle.xt_meaning.specs.Operator.{wire_range, widest_operator}
 use Rattle.xt_meaning.specs.Overlap.{all_overlap}
-use Rattle.xt_meaning.specs.Envelope.{keeps, net_tests, first_over}
+use Rattle.xt_meaning.specs.Envelope.{net_tests, first_over}
 use Rattle.xt_meaning.specs.Laws.{quiet_windows}
 use Rattle.xt_meaning.proofs.Growth.{wired}
 use Rattle.xt_meaning.proofs.Words.{quads_of_words}

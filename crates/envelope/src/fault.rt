@@ -13,7 +13,7 @@ pub enum What {
 }
 
 /// A quantity of a net, in fs, that passes its limit.
-#[derive(Clone, Copy, Debug, PartialEq, Eq)]
+#[derive(Clone, Copy)]
 pub(crate) struct Excess {
     pub net: NetId,
     pub what: What,

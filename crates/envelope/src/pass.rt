@@ -13,8 +13,9 @@ ghost use Rattle.envelope.specs.Firsts.{IsFaultOfEnvelope};
 use crate::fault::EnvelopeFault;
 use crate::limits::test_pair;
 use crate::start::quiet;
-use net_eval::eval_widest;
+use net_eval::eval_widest_grouped;
 use std::alloc::Global;
+use table_box::table_groups;
 use xt_model::{Design, Direction, NetId, Windows};
 
 /// The windows that the operator gives back where everything overlaps, or the first limit that they pass, with
@@ -37,8 +38,9 @@ pub fn envelope(alloc: Global, design: &Design) -> Result<Windows, EnvelopeFault
         → IfErr result (λ fault. fault ≡ EnvelopeFault.NoMemory) }
 {
     let mut windows = quiet(alloc, design)?;
+    let groups = table_groups(alloc, design.tables())?;
     for net in design.order() {
-        let pair = eval_widest(design, NetId(*net), &windows);
+        let pair = eval_widest_grouped(design, groups.as_slice(), NetId(*net), &windows);
         test_pair(design, &windows, NetId(*net), &pair)?;
         windows.set(*net as usize, pair);
     }

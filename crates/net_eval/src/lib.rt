@@ -12,5 +12,5 @@ mod reads;
 mod tables;
 
 pub use closing::{closed, closed_part, closed_part_grouped};
-pub use operator::{eval, eval_grouped, eval_widest};
+pub use operator::{eval, eval_grouped, eval_widest, eval_widest_grouped};
 pub use reads::{ReadLists, read_lists};

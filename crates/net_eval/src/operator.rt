@@ -58,9 +58,27 @@ pub fn eval_widest<V: Bounds>(design: &Design, net: NetId, view: &V) -> Pair
     ensures fall { result.fall ≡ widest_operator design.now (quads_of (V.bound_of view.now)) net.0 Fall }
     ensures range { IsPairInRange result }
 {
+    eval_widest_grouped(design, &[], net, view)
+}
+
+/// The same, where groups of the design's tables are known, as for [`eval_grouped`].
+pub fn eval_widest_grouped<V: Bounds>(
+    design: &Design,
+    groups: &[usize],
+    net: NetId,
+    view: &V,
+) -> Pair
+    requires groups { AreGroups design.now.tables groups.now }
+    requires net { net.0 < length design.now.nets }
+    requires words { HoldsOfReads (HasNet (V.has view.now)) design.now net.0 }
+    requires room { ReadsFit design.now (quads_of (V.bound_of view.now)) net.0 }
+    ensures rise { result.rise ≡ widest_operator design.now (quads_of (V.bound_of view.now)) net.0 Rise }
+    ensures fall { result.fall ≡ widest_operator design.now (quads_of (V.bound_of view.now)) net.0 Fall }
+    ensures range { IsPairInRange result }
+{
     let evaluation = Evaluation {
         design,
-        groups: &[],
+        groups,
         overlaps: Overlaps::All,
         view,
         number: net,

@@ -11,7 +11,7 @@ use miller_bits::{Overlaps, Victim, wire_ranges};
 use xt_model::{Bounds, Design, Edge, NetId, Quad, TimingArc};
 
 /// An edge of a sink pin: the window of its net, and the least and the greatest delay of the wire to the pin, in fs.
-#[derive(Clone, Copy, Debug)]
+#[derive(Clone, Copy)]
 pub(crate) struct PinEdge {
     pub window: Quad,
     pub least_wire: i128,
@@ -19,7 +19,7 @@ pub(crate) struct PinEdge {
 }
 
 /// A sink pin of a net, at both edges.
-#[derive(Clone, Copy, Debug)]
+#[derive(Clone, Copy)]
 pub(crate) struct Pin {
     net: u32,
     sink: u32,

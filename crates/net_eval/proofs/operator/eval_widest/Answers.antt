@@ -1,6 +1,5 @@
 use Rattle.net_eval.proofs.Steady.{no_groups}
-use Rattle.net_eval.proofs.Rooms.{ready_net}
 use Rattle.net_eval.proofs.operator.eval_widest.Goals as goal
 
-pub invariant_of-evaluation : goal.invariant_of-evaluation
-invariant_of-evaluation g c = ready_net _ _ _ c.args.net.0 c.net.result.now (no_groups _) c.net.ensures.whole c.net.ensures.there c.requires.words c.requires.room
+pub eval_widest_grouped-requires-clause-groups : goal.eval_widest_grouped-requires-clause-groups
+eval_widest_grouped-requires-clause-groups g c = no_groups _
