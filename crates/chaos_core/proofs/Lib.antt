@@ -28,3 +28,4 @@ mod Deciding
 mod Telling
 mod Listing
 mod Recalled
+mod Sparing

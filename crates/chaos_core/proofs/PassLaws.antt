@@ -1,9 +1,9 @@
 -- A net over which a round passes has the words that an evaluation would give it.
-use Rattle.std.proofs.Common.{◌≡◌, ℕ, zero, suc, ◌+◌, ◌*◌, ◌/◌, ◌%◌, ◌<◌, ◌≤◌, inl, inr, refl, sym, ap, subst, ◌∙◌, List, length, set, ℤ, arith}
-use Rattle.std.specs.Prelude.{slice_index}
-use Rattle.std.specs.List.{All}
+use Rattle.std.proofs.Common.{◌≡◌, ℕ, zero, suc, ◌+◌, ◌*◌, ◌/◌, ◌%◌, ◌<◌, ◌≤◌, inl, inr, refl, sym, ap, subst, ◌∙◌, List, set, ℤ, arith}
+use Rattle.std.specs.Prelude.{Option, Some}
+use Rattle.std.specs.List.{All, slice_get}
 use Rattle.std.proofs.lemmas.Int.{ints}
-use Rattle.std.proofs.lemmas.List.{get_or_default, set-get_or}
+use Rattle.std.proofs.lemmas.List.{set-get_or}
 use Rattle.xt_model.specs.declared.direction.Direction.{Direction}
 use Rattle.xt_model.specs.declared.edge.Edge.{Edge}
 use Rattle.xt_model.specs.declared.edge.Edge.TheVariants.{Rise, Fall}
@@ -12,7 +12,7 @@ use Rattle.xt_model.specs.declared.quad.Quad.{Quad}
 use Rattle.xt_model.specs.Quads.{IsBound, IsInRange, IsPairInRange}
 use Rattle.xt_model.specs.Parts.{Parts}
 use Rattle.xt_model.specs.Sound.{IsSound}
-use Rattle.xt_model.specs.Assign.{assigned, edge_of, side_of, word_number, words_of, quads_of}
+use Rattle.xt_model.specs.Assign.{assigned, edge_of, quad_of_pair, side_of, word_number, words_of, quads_of}
 use Rattle.xt_meaning.specs.Operator.{operator, step}
 use Rattle.xt_meaning.specs.Barrier.{IsWithinEnvelope}
 use Rattle.xt_meaning.specs.Fixpoint.{IsWindows}
@@ -34,10 +34,6 @@ use Rattle.chaos_core.proofs.Stages.{bound_in_range, side_in_range}
 use Rattle.chaos_core.proofs.Starting.{words_here, onward_here}
 
 -- ---- words of a pair
--- a number that is found at a place is the number there
-pub number_found : (words : List ℕ) (word number : ℕ) → word < length words → slice_index words word ≡ number → number_at words word ≡ number
-number_found words word number h e = get_or_default words word _ 0 h ∙ e
-
 further_same : (way : Direction) (side m : ℕ) → further way side m m ≡ m
 further_same way side m = elim (further_one way side m m) [ inl e ↦ e | inr e ↦ e ]
 
@@ -59,6 +55,20 @@ published_else way net pair words (suc n) w h other =
     number_else (published way net pair words n) (8 * net + n) _ w (λ e. other (omega (arith, e, h))) ∙ published_else way net pair words n w (omega arith) other
 
 -- ---- words and windows
+number_back_there : (m : ℕ) → number_for (bound_in m) ≡ m
+number_back_there m = omega (arith, ints)
+
+-- a net has the words of its windows
+pub pair_held : (words : List ℕ) (v : List Pair) (n : ℕ) (p : Pair) → All IsPairInRange v → numbers_of v ≡ words → slice_get v n ≡ Some p → HoldPair words n p
+pair_held words v n p range is at i h =
+    let word = 8 * n + i in
+    let a : word / 8 ≡ n = omega (arith, h) in
+    let b : word / 4 % 2 ≡ i / 4 = omega (arith, h) in
+    let c : word % 4 ≡ i % 4 = omega arith in
+    let there : words_of (assigned v) word ≡ bound_at p i = rw (a, b, c) (ap (λ (o : Option Pair). side_of (quad_of_pair o (edge_of (i / 4))) (i % 4)) at) in
+    let here : bounds_in words word ≡ bound_at p i = ap (λ (f : ℕ → ℤ). f word) (words_here words v range is) ∙ there in
+    sym (number_back_there (number_at words word)) ∙ ap number_for here
+
 -- a net that has the words that the operator makes is given back
 module _ (d : Parts) (words : List ℕ) (v : List Pair) (n : ℕ) (in_range : All IsPairInRange v) (is : numbers_of v ≡ words) (hold : HoldPair words n (made_of d words n)) (range : IsPairInRange (made_of d words n)) where
   at_word : (i : ℕ) → i < 8 → words_of (step d v) (8 * n + i) ≡ words_of (assigned v) (8 * n + i)

@@ -5,7 +5,8 @@ use Rattle.std.specs.Int.{int_div_euclid}
 use Rattle.std.specs.List.{All, Contains, slice_get}
 use Rattle.std.proofs.lemmas.Bool.{cases_lt, cases_eq}
 use Rattle.std.proofs.lemmas.Int.{ints}
-use Rattle.std.proofs.lemmas.List.{get_or_past, get_or-set_same, get_or-set_other, length-replicate, length-set}
+use Rattle.std.proofs.lemmas.List.{get_or_default, get_or_past, get_or-set_same, get_or-set_other, length-replicate, length-set, same_lists}
+use Rattle.std.proofs.lemmas.List.Elements.{All-set}
 use Rattle.xt_model.specs.declared.direction.Direction.{Direction}
 use Rattle.xt_model.specs.declared.direction.Direction.TheVariants.{Widen, Narrow}
 use Rattle.xt_model.specs.declared.edge.Edge.{Edge}
@@ -18,17 +19,21 @@ use Rattle.xt_model.specs.declared.quad.Pair.{Pair}
 use Rattle.xt_model.specs.Quads.{IsPairInRange, IsWithin, is_live, quad_at}
 use Rattle.xt_model.specs.Parts.{Parts}
 use Rattle.xt_model.specs.Sound.{IsSound, IsSoundNet, IsSoundCoupling}
-use Rattle.xt_model.specs.Assign.{Assignment, word_number, words_of, quads_of}
+use Rattle.xt_model.specs.Assign.{Assignment, assigned, edge_of, side_of, word_number, words_of, quads_of}
 use Rattle.xt_meaning.specs.Operator.{operator}
 use Rattle.xt_meaning.specs.Overlap.{IsRealPeriod, active_from, active_to, overlaps, ranges_meet}
 use Rattle.xt_meaning.specs.Barrier.{IsBoundNoFurther, IsNoFurther}
-use Rattle.xt_meaning.specs.Words.{AreNoFurther, bound_in, bounds_in, further, number_at, number_for, onward}
-use Rattle.xt_meaning.proofs.Words.{word_net}
-use Rattle.xt_meaning.proofs.Numbers.{bound_there, numbers_order, windows_by_words, words_of_quads}
+use Rattle.xt_meaning.specs.Fixpoint.{IsWindows}
+use Rattle.xt_meaning.specs.Reads.{HoldsOfReads}
+use Rattle.xt_meaning.specs.Words.{AreNoFurther, bound_in, bounds_in, further, number_at, number_for, numbers_of, onward, quiet_number}
+use Rattle.xt_meaning.proofs.Words.{quads_of_words, word_net}
+use Rattle.xt_meaning.proofs.Numbers.{bound_there, numbers_count, numbers_each, numbers_order, windows_by_words, words_of_quads}
 use Rattle.xt_meaning.proofs.Meeting.{overlaps_mono}
 use Rattle.xt_meaning.proofs.Order.{same_quad, within_refl}
 use Rattle.xt_meaning.proofs.Extremes.{same_pair}
+use Rattle.miller_bits.specs.Views.{HasNet}
 use Rattle.net_eval.specs.ReadLists.{ids, reads_of}
+use Rattle.net_eval.specs.Room.{ReadsWithinEnvelope}
 use Rattle.net_eval.proofs.Steady.{has_sink}
 use Rattle.chaos_core.specs.Tasks.{bound_at, list_of}
 use Rattle.chaos_core.specs.Alike.{AreDecidedAlike, HaveSameAnswers, IsFedAlike}
@@ -40,9 +45,11 @@ use Rattle.chaos_core.specs.Passes.{HoldPair}
 use Rattle.chaos_core.specs.TurnMarks.{AreListed, AreMarks, AreMarksOf, AreTold, HaveTold, IsHeld, IsMetAlike, IsSettledNet, IsUnseen, Marks}
 use Rattle.chaos_core.proofs.Deciding.{same_where_decided}
 use Rattle.chaos_core.proofs.Loads.{bound_onward}
+use Rattle.chaos_core.proofs.OnlyWorker.{view_made, view_room, view_words}
 use Rattle.chaos_core.proofs.PassLaws.{published_else}
 use Rattle.chaos_core.proofs.Sight.{number_else, number_here}
 use Rattle.chaos_core.proofs.Stages.{bound_in_range}
+use Rattle.chaos_core.proofs.Starting.{words_here}
 
 -- ---- whether two windows overlap does not depend on their order
 le_swapped : (x y : ℤ) → int_le (neg_ℤ x) y ≡ int_le (neg_ℤ y) x
@@ -311,15 +318,6 @@ quad_made : (d : Parts) (words : List ℕ) (n : ℕ) (e : Edge) → quad_at (mad
 quad_made d words n Rise = refl
 quad_made d words n Fall = refl
 
-pub moves_further : (a : Setting) (d : Parts) (way : Direction) (words numbers : List ℕ) (n : ℕ) (before pair : Pair) → a.design ≡ d → a.way ≡ way → numbers ≡ words → AreKept a words
-    → ((e : Edge) → quad_at before e ≡ quads_of (bounds_in numbers) n e) → pair ≡ made_of d words n → (e : Edge) → IsNoFurther way (quad_at before e) (quad_at pair e)
-moves_further a d way words numbers n before pair own to same kept is made e =
-    let W = quads_of (bounds_in words) in
-    let there : IsNoFurther way (W n e) (operator d W n e) = subst (λ (x : Parts). IsNoFurther way (W n e) (operator x W n e)) own (subst (λ (y : Direction). IsNoFurther y (W n e) (operator a.design W n e)) to (further_made a.way a.design words kept.fits n e)) in
-    let at : quad_at before e ≡ W n e = is e ∙ ap (λ ws. quads_of (bounds_in ws) n e) same in
-    let made_at : quad_at pair e ≡ operator d W n e = ap (λ (p : Pair). quad_at p e) made ∙ quad_made d words n e in
-    subst (λ (q : Quad). IsNoFurther way q (quad_at pair e)) (sym at) (subst (λ (q : Quad). IsNoFurther way (W n e) q) (sym made_at) there)
-
 -- ---- turns that move nothing
 -- a later turn leaves what is settled
 pub marks_later : (d : Parts) (words : List ℕ) (m : Marks) (turn : ℕ) → m.turn ≤ turn → AreMarks d words m → AreMarks d words (record m { turn = turn })
@@ -442,22 +440,115 @@ module _ (a : Setting) (words : List ℕ) (net : ℕ) (pair : Pair) (kept : AreK
   pub published_held : HoldPair (published a.way net pair words 8) net pair
   published_held i h = published_first 8 (omega arith) i h
 
--- a net that moves, in the words of the code
-pub marks_moved : (b : Memory) (d : Parts) (later : List ℕ) (net : ℕ) (pair : Pair) (way : Direction) (m told seen end : Marks) → AreKept b.setting b.words → b.setting.design ≡ d → b.setting.way ≡ way → net < length d.nets
-    → IsPairInRange pair → pair ≡ made_of d b.words net → AreMarks d b.words m → HaveTold d (quads_of (bounds_in b.words)) net pair m.turn m.answers told.answers → told ≡ record m { answers = told.answers }
-    → seen ≡ record told { seen = set told.seen net told.turn } → end ≡ record seen { moved = set seen.moved net seen.turn } → later ≡ published way net pair b.words 8 → AreMarks d later end
-marks_moved b d later net pair way m told seen end kept own to there range made are tells first second third words =
+-- ---- windows whose numbers are in the words
+same_number : (m n : ℕ) → bound_in m ≡ bound_in n → m ≡ n
+same_number m n e = omega (arith, ints, e)
+
+same_words : (xs ys : List ℕ) → length xs ≡ length ys → ((word : ℕ) → bounds_in xs word ≡ bounds_in ys word) → xs ≡ ys
+same_words xs ys count h = same_lists xs ys count (λ k x below.
+    get_or_default xs k x (quiet_number (k % 2)) below
+    ∙ (same_number (number_at xs k) (number_at ys k) (h k) ∙ get_or_default ys k (quiet_number (k % 2)) x (omega (arith, count, below))))
+
+set_there : (v : List Pair) (n : ℕ) (p : Pair) (e : Edge) → n < length v → assigned (set v n p) n e ≡ quad_at p e
+set_there [] n p e h = absurd (omega (arith, h))
+set_there (q ∷ v) zero p e h = refl
+set_there (q ∷ v) (suc n) p e h = set_there v n p e (omega (arith, h))
+
+set_else : (v : List Pair) (n m : ℕ) (p : Pair) (e : Edge) → (m ≡ n → ⊥) → assigned (set v n p) m e ≡ assigned v m e
+set_else [] n m p e other = refl
+set_else (q ∷ v) zero zero p e other = absurd (other refl)
+set_else (q ∷ v) zero (suc m) p e other = refl
+set_else (q ∷ v) (suc n) zero p e other = refl
+set_else (q ∷ v) (suc n) (suc m) p e other = set_else v n m p e (λ k. other (ap suc k))
+
+-- the windows that the words stand for
+quad_here : (words : List ℕ) (v : List Pair) → All IsPairInRange v → numbers_of v ≡ words → (n : ℕ) (e : Edge) → quads_of (bounds_in words) n e ≡ assigned v n e
+quad_here words v range is n e = ap (λ (f : ℕ → ℤ). quads_of f n e) (words_here words v range is) ∙ quads_of_words (assigned v) n e
+
+quads_here : (words : List ℕ) (v : List Pair) → All IsPairInRange v → numbers_of v ≡ words → quads_of (bounds_in words) ≡ assigned v
+quads_here words v range is = λ i n e. quad_here words v range is n e i
+
+-- they are a view of the words
+module _ (b : Memory) (d : Parts) (net : ℕ) (v : List Pair) (is : numbers_of v ≡ b.words) (range : All IsPairInRange v) (own : b.setting.design ≡ d) (kept : AreKept b.setting b.words) (there : net < length d.nets) where
+  eight_each : 8 * length v ≡ length b.words
+  eight_each = let n = numbers_count v in let e = ap length is in omega (arith, n, e)
+
+  pub windows_here : IsWindows d v
+  windows_here = record {
+    count = (let n = eight_each in let c = kept.seen.count in let e = ap (λ (x : Parts). length x.nets) own in omega (arith, n, c, e));
+    in_range = range;
+  }
+
+  pub windows_reach : HoldsOfReads (HasNet (λ word. word < 8 * length v)) d net
+  windows_reach = subst (λ (n : ℕ). HoldsOfReads (HasNet (λ word. word < n)) d net) (sym eight_each) (view_words b d net b.words refl own kept there)
+
+  pub windows_room : ReadsWithinEnvelope d (quads_of (words_of (assigned v))) net
+  windows_room = subst (λ (f : ℕ → ℤ). ReadsWithinEnvelope d (quads_of f) net) (words_here b.words v range is) (view_room b d net b.words refl own kept there)
+
+  pub windows_made : (pair : Pair) → pair.rise ≡ operator d (quads_of (words_of (assigned v))) net Rise → pair.fall ≡ operator d (quads_of (words_of (assigned v))) net Fall → pair ≡ made_of d b.words net
+  windows_made pair rise fall =
+      let at : (e : Edge) → operator d (quads_of (words_of (assigned v))) net e ≡ operator d (quads_of (bounds_in b.words)) net e =
+      λ e. ap (λ (f : ℕ → ℤ). operator d (quads_of f) net e) (sym (words_here b.words v range is)) in
+      view_made b d net b.words refl own kept there pair (rise ∙ at Rise) (fall ∙ at Fall)
+
+-- a net moves on from its windows to what the operator makes
+pub moves_further : (b : Memory) (d : Parts) (way : Direction) (v : List Pair) (n : ℕ) (pair : Pair) → AreKept b.setting b.words → b.setting.design ≡ d → b.setting.way ≡ way → IsWindows d v → numbers_of v ≡ b.words
+    → pair ≡ made_of d b.words n → (e : Edge) → IsNoFurther way (assigned v n e) (quad_at pair e)
+moves_further b d way v n pair kept own to windows is made e =
     let a = b.setting in
-    let there_a : net < nets_of a = rw own there in
-    let made_a : pair ≡ made_of a.design b.words net = rw own made in
-    let held_a = published_held a b.words net pair kept there_a made_a range in
-    let held : HoldPair later net pair = subst (λ ws. HoldPair ws net pair) (sym words) (subst (λ (w : Direction). HoldPair (published w net pair b.words 8) net pair) to held_a) in
-    let same : (w : ℕ) → (w / 8 ≡ net → ⊥) → number_at later w ≡ number_at b.words w = λ w other. ap (λ ws. number_at ws w) words ∙ published_else way net pair b.words 8 w (omega arith) other in
-    let sound : IsSound d = subst IsSound own kept.seen.sound in
-    let is : end ≡ record { turn = m.turn; moved = set m.moved net m.turn; answers = told.answers; seen = set m.seen net m.turn } =
-    third ∙ ap (λ (x : Marks). record x { moved = set x.moved net x.turn }) (second ∙ ap (λ (x : Marks). record x { seen = set x.seen net x.turn }) first) in
-    subst (AreMarks d later) (sym is)
-    (marks_after b.words later net pair same held (pair_bounds a b.words net pair kept there_a made_a range) d sound there m m.turn told.answers are (omega arith) tells made range)
+    let W = quads_of (bounds_in b.words) in
+    let there : IsNoFurther way (W n e) (operator d W n e) =
+    subst (λ (x : Parts). IsNoFurther way (W n e) (operator x W n e)) own (subst (λ (y : Direction). IsNoFurther y (W n e) (operator a.design W n e)) to (further_made a.way a.design b.words kept.fits n e)) in
+    let made_at : quad_at pair e ≡ operator d W n e = ap (λ (p : Pair). quad_at p e) made ∙ quad_made d b.words n e in
+    subst (λ (q : Quad). IsNoFurther way q (quad_at pair e)) (quad_here b.words v windows.in_range is n e) (subst (λ (q : Quad). IsNoFurther way (W n e) q) (sym made_at) there)
+
+-- ---- a net that moves, in the words of the code
+module _ (b : Memory) (d : Parts) (later : List ℕ) (net : ℕ) (pair : Pair) (way : Direction) (kept : AreKept b.setting b.words) (own : b.setting.design ≡ d) (to : b.setting.way ≡ way) (there : net < length d.nets)
+    (range : IsPairInRange pair) (made : pair ≡ made_of d b.words net) (words : later ≡ published way net pair b.words 8) where
+  there_own : net < nets_of b.setting
+  there_own = rw own there
+
+  made_own : pair ≡ made_of b.setting.design b.words net
+  made_own = rw own made
+
+  held_later : HoldPair later net pair
+  held_later =
+      let held = published_held b.setting b.words net pair kept there_own made_own range in
+      subst (λ ws. HoldPair ws net pair) (sym words) (subst (λ (w : Direction). HoldPair (published w net pair b.words 8) net pair) to held)
+
+  same_later : (w : ℕ) → (w / 8 ≡ net → ⊥) → number_at later w ≡ number_at b.words w
+  same_later w other = ap (λ ws. number_at ws w) words ∙ published_else way net pair b.words 8 w (omega arith) other
+
+  bounds_later : (i : ℕ) → i < 8 → bound_in (number_for (bound_at pair i)) ≡ bound_at pair i
+  bounds_later = pair_bounds b.setting b.words net pair kept there_own made_own range
+
+  pub marks_moved : (v : List Pair) (m told seen end : Marks) → IsWindows d v → numbers_of v ≡ b.words → AreMarks d b.words m → HaveTold d (assigned v) net pair m.turn m.answers told.answers
+      → told ≡ record m { answers = told.answers } → seen ≡ record told { seen = set told.seen net told.turn } → end ≡ record seen { moved = set seen.moved net seen.turn } → AreMarks d later end
+  marks_moved v m told seen end windows here are tells first second third =
+      let sound : IsSound d = subst IsSound own kept.seen.sound in
+      let told_here = subst (λ (W : Assignment). HaveTold d W net pair m.turn m.answers told.answers) (sym (quads_here b.words v windows.in_range here)) tells in
+      let is : end ≡ record { turn = m.turn; moved = set m.moved net m.turn; answers = told.answers; seen = set m.seen net m.turn } =
+      third ∙ ap (λ (x : Marks). record x { moved = set x.moved net x.turn }) (second ∙ ap (λ (x : Marks). record x { seen = set x.seen net x.turn }) first) in
+      subst (AreMarks d later) (sym is) (marks_after b.words later net pair same_later held_later bounds_later d sound there m m.turn told.answers are (omega arith) told_here made range)
+
+  -- the windows of the words after it
+  pub windows_moved : (v w : List Pair) → IsWindows d v → numbers_of v ≡ b.words → w ≡ set v net pair → numbers_of w ≡ later
+  windows_moved v w windows is moved =
+      let now : List Pair = set v net pair in
+      let inside : net < length v = let c = windows.count in omega (arith, c, there) in
+      let in_now : All IsPairInRange now = All-set IsPairInRange v net pair range windows.in_range in
+      let each : (m : ℕ) (f : Edge) → assigned now m f ≡ quads_of (bounds_in later) m f = λ m f. elim (cases_eq m net) [
+        | inl e ↦
+            let P : ℕ → Type 0 = λ x. assigned now x f ≡ quads_of (bounds_in later) x f in
+            subst P (sym e) (set_there v net pair f inside ∙ sym (window_there b.words later net pair same_later held_later bounds_later f))
+        | inr ne ↦
+            set_else v net m pair f ne ∙ (sym (quad_here b.words v windows.in_range is m f) ∙ window_else b.words later net pair same_later held_later bounds_later m f ne)
+      ] in
+      let count : length (numbers_of now) ≡ length later =
+      let n = numbers_count now in let l = length-set v net pair in let k = numbers_count v in let e = ap length is in let o = ap length words in let p = published_count way net pair b.words 8 in omega (arith, n, l, k, e, o, p) in
+      subst (λ (x : List Pair). numbers_of x ≡ later) (sym moved)
+      (same_words (numbers_of now) later count
+      (λ word. numbers_each now word in_now ∙ (ap (λ (q : Quad). side_of q (word % 4)) (each (word / 8) (edge_of (word / 4 % 2))) ∙ words_of_quads (bounds_in later) word)))
 
 -- the input nets of a sound net are there
 pub inputs_there : (d : Parts) (n : ℕ) (net : Net) (count : ℕ) → count ≡ length d.nets → IsSoundNet d n net → All (λ a. a.from.0 < count) net.arcs

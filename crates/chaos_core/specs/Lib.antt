@@ -12,3 +12,4 @@ pub mod Passes
 pub mod Alike
 pub mod TurnMarks
 pub mod Knowing
+pub mod Spared

@@ -76,8 +76,8 @@ impl Known {
         }
     }
 
-    /// Makes one round, loads the windows that are then in the words, and answers whether the words are closed. Takes
-    /// no memory.
+    /// Makes one round, brings the windows whose numbers are in the words with them, and answers whether the words are
+    /// closed. Takes no memory.
     pub fn round(
         &mut self,
         board: &mut MemoryBoard,
@@ -98,6 +98,7 @@ impl Known {
         requires few { length workers.old ≤ most_workers }
         requires rooms { All (HasRoom lists.now) workers.old }
         requires windows { length windows.old ≡ length design.now.nets }
+        requires numbers { numbers_of windows.old ≡ board.old.words }
         requires known { IsKnown design.now (length workers.old) board.old.words self.old }
         ensures setting { board.new.setting ≡ board.old.setting }
         ensures count { length workers.new ≡ length workers.old }
@@ -114,9 +115,8 @@ impl Known {
         match self {
             Known::Turns(marks, listed) => {
                 round_alone(
-                    board, design, groups, lists, listed, direction, source, marks,
+                    board, windows, design, groups, lists, listed, direction, source, marks,
                 );
-                board.load_into(windows);
                 closed_by(design, groups, marks, windows)
             }
             Known::Moves(before, unmoved) => {

@@ -2,15 +2,17 @@
 
 ghost use Rattle.std.specs.Prelude.{◌≡◌, ◌*◌, ◌/◌, ◌<◌, ◌≤◌, length, slice_set};
 ghost use Rattle.std.specs.List.{All, Contains};
-ghost use Rattle.xt_model.specs.Quads.{IsPairInRange};
+ghost use Rattle.xt_model.specs.declared.edge.Edge.{Edge};
+ghost use Rattle.xt_model.specs.Quads.{IsPairInRange, quad_at};
 ghost use Rattle.xt_meaning.specs.Words.{bound_in, top_number};
 ghost use Rattle.table_box.specs.Groups.{AreGroups};
 ghost use Rattle.net_eval.specs.ReadLists.{ids};
+ghost use Rattle.chaos_core.specs.Spared.{loaded_quads};
 ghost use Rattle.chaos_core.specs.Tasks.{evaluated, loaded_bounds, place_of};
 ghost use Rattle.chaos_core.specs.Views.{ArePlaces, IsLoaded, Rises};
 
 use net_eval::eval_grouped;
-use xt_model::{Bounds, Design, NetId, Pair};
+use xt_model::{Bounds, Design, Edge, NetId, Pair, window};
 
 /// The bound that a number of a word denotes: from 0 to 2^63, and the bound is 2^62 less.
 pub fn bound_of(number: u64) -> i64
@@ -30,7 +32,7 @@ fn set_place(places: &mut [u32], net: u32, place: usize)
 }
 
 /// Gives each net of a read list its place there, which is no greater than its number, since the list rises.
-fn set_places(places: &mut [u32], reads: &[NetId])
+pub(crate) fn set_places(places: &mut [u32], reads: &[NetId])
     requires rising { Rises (ids reads.now) }
     requires inside { All (λ net. net.0 < length places.old) reads.now }
     ensures places { ArePlaces (ids reads.now) places.new }
@@ -43,10 +45,10 @@ fn set_places(places: &mut [u32], reads: &[NetId])
 
 /// The numbers loaded for a read list, eight for each of its nets, and the place of each there.
 #[derive(Drop)]
-struct LoadedWords<'a> {
-    reads: &'a [NetId],
-    numbers: &'a [u64],
-    places: &'a [u32],
+pub(crate) struct LoadedWords<'a> {
+    pub(crate) reads: &'a [NetId],
+    pub(crate) numbers: &'a [u64],
+    pub(crate) places: &'a [u32],
     ghost whole: { length numbers.now ≡ 8 * length reads.now },
     ghost range: { All (λ n. n ≤ top_number) numbers.now },
     ghost placed: { ArePlaces (ids reads.now) places.now },
@@ -54,12 +56,25 @@ struct LoadedWords<'a> {
 
 impl<'a> LoadedWords<'a> {
     /// The place of a net in the read list.
-    fn place(&self, net: usize) -> usize
+    pub(crate) fn place(&self, net: usize) -> usize
         requires { Contains (ids self.now.reads.now) net }
         ensures place { result ≡ place_of (ids self.now.reads.now) net }
         ensures inside { result < length self.now.reads.now }
     {
         self.places[net] as usize
+    }
+
+    /// The windows of a net of the read list.
+    pub(crate) fn pair(&self, net: NetId) -> Pair
+        requires read { Contains (ids self.now.reads.now) net.0 }
+        ensures value { (e : Edge)
+            → quad_at result e ≡ loaded_quads (ids self.now.reads.now) self.now.numbers.now net.0 e }
+        ensures range { IsPairInRange result }
+    {
+        Pair {
+            rise: window(self, net, Edge::Rise),
+            fall: window(self, net, Edge::Fall),
+        }
     }
 }
 
@@ -69,7 +84,8 @@ impl<'a> Bounds for LoadedWords<'a> {
     ghost bound_of = { λ view word. loaded_bounds (ids view.reads.now) view.numbers.now word };
 
     fn bound(&self, word: usize) -> i64 {
-        bound_of(self.numbers[8 * self.place(word / 8) + word % 8])
+        let from = 8 * self.place(word / 8);
+        bound_of(self.numbers[from..from + 8][word % 8])
     }
 }
 

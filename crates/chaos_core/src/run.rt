@@ -221,36 +221,9 @@ pub fn run_worker<B: Board>(
     run_by(board, worker, design, &[], lists, direction, None);
 }
 
-/// A run as by [`run_worker`]. Where the last look knows that the operator gives the windows of a net back, and the
-/// numbers that the worker loads for its read list are those of the look's windows, it does not evaluate the net.
-pub fn run_looked<B: Board>(
-    board: &mut B,
-    worker: &mut Worker,
-    design: &Design,
-    lists: &ReadLists,
-    direction: Direction,
-    look: &Looked<'_>,
-)
-    requires design { (B.knows board.old).setting.design ≡ design.now }
-    requires direction { (B.knows board.old).setting.way ≡ direction }
-    requires lists { AreReadLists design.now lists.now }
-    requires look { IsLook design.now lists.now look.now.windows.now look.now.marks.now }
-    requires fits { IsFitting (B.knows board.old) lists.now worker.old }
-    requires idle { task_of worker.old ≡ idle }
-    requires fresh { (B.knows board.old).drawn ≡ [] }
-    requires late { 0 < (B.knows board.old).late }
-    ensures ran { (order : List ℕ) → IsOrder design.now.nets order → Ran order (B.knows board.old) (B.knows board.new) }
-    ensures steps { (order : List ℕ) → IsOrder design.now.nets order
-        → (count : ℕ) × AreSteps design.now lists.now order count
-        (B.knows board.old) (task_of worker.old) (B.knows board.new) (task_of worker.new) }
-    ensures done { task_of worker.new ≡ done }
-    ensures room { room_of worker.new ≡ room_of worker.old }
-    ensures places { places_of worker.new ≡ places_of worker.old }
-{
-    run_grouped(board, worker, design, &[], lists, direction, look);
-}
-
-/// The same, where groups of the design's tables are known, as `table_groups` finds them.
+/// A run as by [`run_worker`], where groups of the design's tables are known, as `table_groups` finds them. Where the
+/// last look knows that the operator gives the windows of a net back, and the numbers that the worker loads for its
+/// read list are those of the look's windows, it does not evaluate the net.
 pub fn run_grouped<B: Board>(
     board: &mut B,
     worker: &mut Worker,

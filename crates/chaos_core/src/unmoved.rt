@@ -84,27 +84,9 @@ fn is_steady(
 }
 
 /// Whether the operator gives windows back at each net from number `from` to before number `to`, where it does so at
-/// each net that is marked with all nets of its read list. Evaluates none of these.
-pub fn closed_where(
-    design: &Design,
-    lists: &ReadLists,
-    marks: &[bool],
-    windows: &Windows,
-    from: u32,
-    to: u32,
-) -> bool
-    requires lists { AreReadLists design.now lists.now }
-    requires look { IsLook design.now lists.now windows.now marks.now }
-    requires within { IsWithinEnvelope design.now windows.now }
-    requires order { from ≤ to }
-    requires end { to ≤ length design.now.nets }
-    ensures { IsTrue result ↔ ((n : ℕ) → from ≤ n → n < to → IsSteadyAt design.now windows.now n) }
-{
-    closed_where_grouped(design, &[], lists, marks, windows, from, to)
-}
-
-/// The same, where groups of the design's tables are known, as `table_groups` finds them. It looks from the last of
-/// these nets down, since what a round left unsteady is mostly far from the inputs.
+/// each net that is marked with all nets of its read list, and where groups of the design's tables are known, as
+/// `table_groups` finds them. Evaluates none of the nets that are marked so. It looks from the last of these nets down,
+/// since what a round left unsteady is mostly far from the inputs.
 pub fn closed_where_grouped(
     design: &Design,
     groups: &[usize],

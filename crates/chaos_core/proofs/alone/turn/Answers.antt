@@ -1,8 +1,10 @@
-use Rattle.std.proofs.Common.{◌≡◌, sym, refl, ◌∙◌, ap, subst, length, arith}
-use Rattle.std.specs.Prelude.{Option, IfSome}
+use Rattle.std.proofs.Common.{◌≡◌, ℕ, sym, refl, ◌∙◌, ap, subst, List, length, arith}
+use Rattle.std.specs.Prelude.{Option, Some, IfSome}
+use Rattle.std.specs.List.{All, slice_get}
 use Rattle.xt_model.specs.declared.net.Net.{Net}
 use Rattle.xt_model.specs.declared.quad.Pair.{Pair}
 use Rattle.xt_model.specs.Quads.{IsPairInRange}
+use Rattle.xt_meaning.specs.Words.{numbers_of}
 use Rattle.net_eval.specs.ReadLists.{reads_of}
 use Rattle.chaos_core.specs.Tasks.{list_of}
 use Rattle.chaos_core.specs.OnlyWorker.{made_of}
@@ -10,9 +12,13 @@ use Rattle.chaos_core.specs.Passes.{HoldPair}
 use Rattle.chaos_core.specs.TurnMarks.{AreMarks, IsSettledNet, Marks}
 use Rattle.chaos_core.proofs.Places.{ids_count}
 use Rattle.chaos_core.proofs.OnlyWorker.{turn_there}
-use Rattle.chaos_core.proofs.PassLaws.{published_same}
+use Rattle.chaos_core.proofs.PassLaws.{pair_held, published_same}
 use Rattle.chaos_core.proofs.Telling.{inputs_there, marks_begun, marks_seen}
 use Rattle.chaos_core.proofs.alone.turn.Goals as goal
+
+-- a net whose windows are a pair has its words
+same_held : (words : List ℕ) (v : List Pair) (n : ℕ) (p pair : Pair) → All IsPairInRange v → numbers_of v ≡ words → slice_get v n ≡ Some p → p ≡ pair → HoldPair words n pair
+same_held words v n p pair range is at same = subst (λ (q : Pair). HoldPair words n q) same (pair_held words v n p range is at)
 
 pub of-requires : goal.of-requires
 of-requires c = let n = c.requires.lists.count in let h = c.requires.net in omega (arith, n, h)
@@ -49,31 +55,28 @@ returns-then-is_settled-clause-turn c = λ order place h at.
 pub returns-then-is_settled-clause-marks : goal.returns-then-is_settled-clause-marks
 returns-then-is_settled-clause-marks c = marks_begun c.args.design.now c.args.board.now.words c.args.marks.now c.begin_turn.new.self c.begin_turn.ensures.later c.begin_turn.ensures.rest c.requires.marks
 
-pub hold_pair-requires-clause-net : goal.hold_pair-requires-clause-net
-hold_pair-requires-clause-net c = c.made-pair.ensures.fits.there
-
-pub hold_pair-requires-clause-range : goal.hold_pair-requires-clause-range
-hold_pair-requires-clause-range c = c.made-pair.ensures.fits.range
+pub pair-requires : goal.pair-requires
+pair-requires c = let n = c.made-pair.ensures.windows.count in let h = c.requires.net in omega (arith, n, h)
 
 pub note_look-requires : goal.note_look-requires
 note_look-requires c = let n = (marks_begun c.args.design.now c.args.board.now.words c.args.marks.now c.begin_turn.new.self c.begin_turn.ensures.later c.begin_turn.ensures.rest c.requires.marks).counts.seen in let h = c.requires.net in omega (arith, n, h)
 
-pub returns-then-hold_pair-clause-turn : goal.returns-then-hold_pair-clause-turn
-returns-then-hold_pair-clause-turn c = λ order place h at.
+pub returns-then-same-clause-turn : goal.returns-then-same-clause-turn
+returns-then-same-clause-turn c = λ order place h at.
     let b = c.args.board.now in
     let lists = c.args.lists.now in
     let net = c.args.net.0 in
     let size : length c.of.result.now ≡ length (list_of lists net) = ap length c.of.ensures ∙ sym (ids_count (reads_of lists net)) in
     turn_there b c.args.design.now lists order place net (length c.of.result.now) c.made-pair.result c.args.direction c.args.source.now.state _ _ _ _ c.requires.design c.requires.direction c.requires.lists
     c.requires.lists.sound h c.requires.net at size c.pick_only.ensures c.pick_only-2.ensures c.pick_only-3.ensures c.made-pair.ensures.value
-    (sym (published_same c.args.direction net c.made-pair.result b.words 8 (omega arith) (c.hold_pair.ensures c.if-hold_pair.true)))
+    (sym (published_same c.args.direction net c.made-pair.result b.words 8 (omega arith) (same_held c.args.board.now.words c.args.windows.now c.args.net.0 c.pair.result c.made-pair.result c.made-pair.ensures.windows.in_range c.requires.numbers c.pair.ensures.value (c.same.ensures.0 c.if-same.true))))
 
-pub returns-then-hold_pair-clause-marks : goal.returns-then-hold_pair-clause-marks
-returns-then-hold_pair-clause-marks c =
+pub returns-then-same-clause-marks : goal.returns-then-same-clause-marks
+returns-then-same-clause-marks c =
     let d = c.args.design.now in
     let words = c.args.board.now.words in
     let net = c.args.net.0 in
-    let hold : HoldPair words net (made_of d words net) = subst (λ (p : Pair). HoldPair words net p) c.made-pair.ensures.value (c.hold_pair.ensures c.if-hold_pair.true) in
+    let hold : HoldPair words net (made_of d words net) = subst (λ (p : Pair). HoldPair words net p) c.made-pair.ensures.value (same_held c.args.board.now.words c.args.windows.now c.args.net.0 c.pair.result c.made-pair.result c.made-pair.ensures.windows.in_range c.requires.numbers c.pair.ensures.value (c.same.ensures.0 c.if-same.true)) in
     subst (AreMarks d words) (sym c.note_look.ensures) (marks_seen d words c.begin_turn.new.self net (marks_begun c.args.design.now c.args.board.now.words c.args.marks.now c.begin_turn.new.self c.begin_turn.ensures.later c.begin_turn.ensures.rest c.requires.marks) (record { hold = hold; range = subst IsPairInRange c.made-pair.ensures.value c.made-pair.ensures.fits.range }))
 
 pub move_to-requires-clause-kept : goal.move_to-requires-clause-kept

@@ -3,8 +3,7 @@ use Rattle.std.specs.Prelude.{slice_index}
 use Rattle.std.proofs.lemmas.Bool.{cases_lt}
 use Rattle.std.proofs.lemmas.List.{get_or_default}
 use Rattle.xt_model.specs.declared.net.NetId.{NetId}
-use Rattle.xt_model.specs.Assign.{quads_of}
-use Rattle.xt_meaning.specs.Words.{bounds_in}
+use Rattle.xt_model.specs.Assign.{assigned}
 use Rattle.net_eval.specs.ReadLists.{ids}
 use Rattle.chaos_core.specs.TurnMarks.{AreTold, Marks, MeetAlike}
 use Rattle.chaos_core.proofs.Places.{id_at, ids_count}
@@ -22,7 +21,7 @@ loop-other-preserved c =
     let later = c.tell_one.new.marks.answers in
     let turn = c.args.marks.now.turn in
     let none : NetId = record { 0 = 0 } in
-    let Alike : ℕ → Type 0 = λ m. MeetAlike moved.period moved.inner.now moved.outer.now (quads_of (bounds_in c.args.view.now.numbers.now)) m in
+    let Alike : ℕ → Type 0 = λ m. MeetAlike moved.period moved.inner.now moved.outer.now (assigned c.args.windows.now) m in
     let same : c.loop-other.marks.turn ≡ turn = ap (λ (m : Marks). m.turn) inv.rest in
     let each : AreTold turn before later = subst (λ t. AreTold t before later) same one.each in
     record {
@@ -47,5 +46,5 @@ returns-clause-others c = λ m has.
     let inside = has.1 in
     let past = c.loop-other-test.false in
     let at : slice_index reads has.0 ≡ m = get_or_default reads has.0 0 m has.1 ∙ has.2 in
-    subst (λ (y : ℕ). MeetAlike moved.period moved.inner.now moved.outer.now (quads_of (bounds_in c.args.view.now.numbers.now)) y ⊎ (slice_index c.loop-other.marks.answers y ≡ c.args.marks.now.turn)) at
+    subst (λ (y : ℕ). MeetAlike moved.period moved.inner.now moved.outer.now (assigned c.args.windows.now) y ⊎ (slice_index c.loop-other.marks.answers y ≡ c.args.marks.now.turn)) at
     (c.loop-other.invariant.others has.0 (omega (arith, n, inside, past)))

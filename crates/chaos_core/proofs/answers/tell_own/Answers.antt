@@ -5,8 +5,7 @@ use Rattle.std.proofs.lemmas.Bool.{cases_lt}
 use Rattle.std.proofs.lemmas.List.{get_or_default}
 use Rattle.xt_model.specs.declared.net.Coupling.{Coupling}
 use Rattle.xt_model.specs.declared.net.Net.{Net}
-use Rattle.xt_model.specs.Assign.{quads_of}
-use Rattle.xt_meaning.specs.Words.{bounds_in}
+use Rattle.xt_model.specs.Assign.{assigned}
 use Rattle.chaos_core.specs.TurnMarks.{AreTold, Marks, MeetAlike}
 use Rattle.chaos_core.proofs.Telling.{told_still, told_twice}
 use Rattle.chaos_core.proofs.answers.tell_own.Goals as goal
@@ -25,7 +24,7 @@ loop-coupling-preserved c =
     let before = c.loop-coupling.marks.answers in
     let later = c.tell_one.new.marks.answers in
     let turn = c.args.marks.now.turn in
-    let Alike : Coupling → Type 0 = λ x. MeetAlike moved.period moved.inner.now moved.outer.now (quads_of (bounds_in c.args.view.now.numbers.now)) x.to.0 in
+    let Alike : Coupling → Type 0 = λ x. MeetAlike moved.period moved.inner.now moved.outer.now (assigned c.args.windows.now) x.to.0 in
     let same : c.loop-coupling.marks.turn ≡ turn = ap (λ (m : Marks). m.turn) inv.rest in
     let each : AreTold turn before later = subst (λ t. AreTold t before later) same one.each in
     record {
@@ -45,6 +44,6 @@ pub returns-clause-own : goal.returns-clause-own
 returns-clause-own c =
     let moved = c.args.moved.now in
     let turn = c.args.marks.now.turn in
-    let P : Coupling → Type 0 = λ k. MeetAlike moved.period moved.inner.now moved.outer.now (quads_of (bounds_in c.args.view.now.numbers.now)) k.to.0 ⊎ (slice_index c.loop-coupling.marks.answers c.args.net.0 ≡ turn) in
+    let P : Coupling → Type 0 = λ k. MeetAlike moved.period moved.inner.now moved.outer.now (assigned c.args.windows.now) k.to.0 ⊎ (slice_index c.loop-coupling.marks.answers c.args.net.0 ≡ turn) in
     let all : All P c.as_slice-coupling-items.result.now = λ i k lt. let past = c.loop-coupling-test.false in c.loop-coupling.invariant.own i k (omega (arith, lt, past)) in
     subst (λ (o : Option Net). IfSome o (λ n. All P n.couplings)) (sym c.net-own.ensures.there) (subst (λ (ks : List Coupling). All P ks) c.as_slice-coupling-items.ensures all)

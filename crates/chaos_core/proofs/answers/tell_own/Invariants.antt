@@ -1,8 +1,7 @@
 use Rattle.std.proofs.Common.{◌≡◌, ℕ, ◌<◌, ◌⊎◌, get_or}
 use Rattle.std.specs.Prelude.{slice_index}
 use Rattle.xt_model.specs.declared.net.Coupling.{Coupling}
-use Rattle.xt_model.specs.Assign.{quads_of}
-use Rattle.xt_meaning.specs.Words.{bounds_in}
+use Rattle.xt_model.specs.Assign.{assigned}
 use Rattle.chaos_core.specs.TurnMarks.{AreTold, MeetAlike}
 use Rattle.chaos_core.proofs.answers.tell_own.Given as goal
 
@@ -10,6 +9,6 @@ abbrev pub invariant-loop-coupling : goal.invariant-loop-coupling
 invariant-loop-coupling l = record {
   told : AreTold l.initial.marks.turn l.initial.marks.answers l.marks.answers;
   rest : l.marks ≡ record l.initial.marks { answers = l.marks.answers };
-  own : (i : ℕ) (k : Coupling) → i < l.coupling-index → MeetAlike l.moved.period l.moved.inner.now l.moved.outer.now (quads_of (bounds_in l.view.numbers.now)) (get_or l.coupling-items i k).to.0
+  own : (i : ℕ) (k : Coupling) → i < l.coupling-index → MeetAlike l.moved.period l.moved.inner.now l.moved.outer.now (assigned l.windows) (get_or l.coupling-items i k).to.0
       ⊎ (slice_index l.marks.answers l.net.0 ≡ l.initial.marks.turn);
 }

@@ -31,6 +31,9 @@ round-done-requires-clause-kept g c = let inv = c.rounds.invariant in subst (λ 
 pub round-done-requires-clause-windows : goal.round-done-requires-clause-windows
 round-done-requires-clause-windows g c = c.rounds.invariant.fits.windows.count
 
+pub round-done-requires-clause-numbers : goal.round-done-requires-clause-numbers
+round-done-requires-clause-numbers g c = c.rounds.invariant.numbers
+
 pub round-done-requires-clause-known : goal.round-done-requires-clause-known
 round-done-requires-clause-known g c =
     let inv = c.rounds.invariant in subst (λ (n : ℕ). IsKnown c.args.design.now n c.rounds.board.words c.rounds.known) (sym inv.count) inv.known
