@@ -9,3 +9,4 @@ mod Rounds
 mod Still
 mod Ended
 mod OneList
+mod Noting

@@ -11,9 +11,11 @@ use Rattle.xt_model.specs.Parts.{Parts}
 use Rattle.dirty_words.specs.declared.view.DirtyView.{DirtyView}
 use Rattle.dirty_words.specs.Views.{pass_sent, with_pass_out}
 use Rattle.dirty_words.specs.Boards.{DirtyId, DirtyHolding, IsFirst, IsFree}
+use Rattle.dirty_run.specs.declared.notes.Before.{Before}
 use Rattle.dirty_run.specs.declared.worker.Worker.{Worker}
 use Rattle.dirty_run.specs.declared.worker.SeatedWorker.{SeatedWorker}
 use Rattle.dirty_run.specs.declared.worker.Workers.{Workers}
+use Rattle.dirty_run.specs.Notes.{AreNotes}
 use Rattle.dirty_run.specs.Visits.{HasRoom}
 use Rattle.dirty_run.specs.Turns.{with_out, HasRun}
 use Rattle.dirty_run.specs.Rounds.{AreRoomy, IsSent, HasWorked, IsBack}
@@ -70,12 +72,12 @@ module _ (v w : DirtyView) (count : ℕ) (sending : IsSending v count w) where
 sent_same : (v w : DirtyView) (count : ℕ) → w ≡ with_out v count → pass_sent w ≡ pass_sent v
 sent_same v w count is = ap pass_sent is
 
-pub sent_later : (lists : List (List NetId)) (first later : DirtyHolding) (count : ℕ) (xs : List SeatedWorker) → later.table ≡ first.table → later.view ≡ with_out first.view count → All (IsSent lists first) xs → All (IsSent lists later) xs
-sent_later lists first later count xs table view sent k d h =
-    let s = sent k d h in
+pub sent_later : (d : Parts) (lists : List (List NetId)) (first later : DirtyHolding) (count : ℕ) (xs : List SeatedWorker) → later.table ≡ first.table → later.view ≡ with_out first.view count → All (IsSent d lists first) xs → All (IsSent d lists later) xs
+sent_later d lists first later count xs table view sent k e h =
+    let s = sent k e h in
     record { table = s.table ∙ sym table; view = s.view ∙ sym (sent_same first.view later.view count view); room = s.room }
 
-pub all_back : (board : DirtyId) (d : Parts) (lists : List (List NetId)) (first : DirtyHolding) (xs ys : List SeatedWorker) → All (IsSent lists first) xs → AllZip (HasWorked board d lists) xs ys
+pub all_back : (board : DirtyId) (d : Parts) (lists : List (List NetId)) (first : DirtyHolding) (xs ys : List SeatedWorker) → All (IsSent d lists first) xs → AllZip (HasWorked board d lists) xs ys
     → All (IsBack board d lists first) ys
 all_back board d lists first xs ys sent ran k e h =
     let long = AllZip-long (HasWorked board d lists) xs ys ran in
@@ -89,23 +91,35 @@ all_back board d lists first xs ys sent ran k e h =
     }
 
 -- a worker that goes out leaves its room
-pub roomy_out : (lists : List (List NetId)) (v w : Workers) → length v.idle.items ≡ length w.idle.items + 1 → length w.seated.items ≡ length v.seated.items + 1
-    → vec_capacity w.idle ≡ vec_capacity v.idle → vec_capacity w.seated ≡ vec_capacity v.seated → All (HasRoom lists) w.idle.items → AreRoomy lists v → AreRoomy lists w
-roomy_out lists v w popped pushed idle seated rooms roomy =
+pub roomy_out : (d : Parts) (lists : List (List NetId)) (v w : Workers) → w.before ≡ v.before → length v.idle.items ≡ length w.idle.items + 1 → length w.seated.items ≡ length v.seated.items + 1
+    → vec_capacity w.idle ≡ vec_capacity v.idle → vec_capacity w.seated ≡ vec_capacity v.seated → All (HasRoom d lists) w.idle.items → AreRoomy d lists v → AreRoomy d lists w
+roomy_out d lists v w before popped pushed idle seated rooms roomy =
     let all = roomy.all in
     let passes = roomy.passes in
-    record { all = omega (arith, popped, pushed, idle, all); passes = omega (arith, popped, pushed, seated, passes); rooms = rooms }
+    let count = roomy.count in
+    let same : length w.before.notes.items ≡ length v.before.notes.items = ap (λ (b : Before). length b.notes.items) before in
+    record {
+      all = omega (arith, popped, pushed, idle, all);
+      passes = omega (arith, popped, pushed, seated, passes);
+      rooms = rooms;
+      before = subst (λ (b : Before). All (AreNotes d lists) b.notes.items) (sym before) roomy.before;
+      count = omega (arith, popped, pushed, same, count);
+    }
 
 -- a worker that comes back leaves its room
-pub roomy_back : (lists : List (List NetId)) (v w : Workers) (worker : Worker) (x : SeatedWorker) → w.idle.items ≡ v.idle.items ++ worker ∷ [] → v.seated.items ≡ w.seated.items ++ x ∷ []
-    → vec_capacity w.idle ≡ vec_capacity v.idle → vec_capacity w.seated ≡ vec_capacity v.seated → HasRoom lists worker → AreRoomy lists v → AreRoomy lists w
-roomy_back lists v w worker x pushed popped idle seated room roomy =
+pub roomy_back : (d : Parts) (lists : List (List NetId)) (v w : Workers) (worker : Worker) (x : SeatedWorker) → w.before ≡ v.before → w.idle.items ≡ v.idle.items ++ worker ∷ [] → v.seated.items ≡ w.seated.items ++ x ∷ []
+    → vec_capacity w.idle ≡ vec_capacity v.idle → vec_capacity w.seated ≡ vec_capacity v.seated → HasRoom d lists worker → AreRoomy d lists v → AreRoomy d lists w
+roomy_back d lists v w worker x before pushed popped idle seated room roomy =
     let a = ap length pushed ∙ length-append v.idle.items (worker ∷ []) in
     let b = ap length popped ∙ length-append w.seated.items (x ∷ []) in
     let all = roomy.all in
     let passes = roomy.passes in
+    let count = roomy.count in
+    let same : length w.before.notes.items ≡ length v.before.notes.items = ap (λ (b : Before). length b.notes.items) before in
     record {
       all = omega (arith, a, b, idle, all);
       passes = omega (arith, a, b, seated, passes);
-      rooms = subst (All (HasRoom lists)) (sym pushed) (All-push (HasRoom lists) v.idle.items worker roomy.rooms room);
+      rooms = subst (All (HasRoom d lists)) (sym pushed) (All-push (HasRoom d lists) v.idle.items worker roomy.rooms room);
+      before = subst (λ (b : Before). All (AreNotes d lists) b.notes.items) (sym before) roomy.before;
+      count = omega (arith, a, b, same, count);
     }

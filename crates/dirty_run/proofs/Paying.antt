@@ -1,10 +1,9 @@
 -- Debts are paid one after another; and the parts of a visit together.
-use Rattle.std.proofs.Common.{◌≡◌, ◌≢◌, ◌↔◌, ℕ, zero, suc, ◌+◌, ◌*◌, ◌%◌, ◌<◌, Bool, true, inl, inr, refl, sym, ap, subst, ◌∙◌, List, [], ◌∷◌, ◌++◌, length, take, drop, get_or, Contains, arith}
+use Rattle.std.proofs.Common.{◌≡◌, ◌≢◌, ◌↔◌, ℕ, zero, suc, ◌+◌, ◌*◌, ◌%◌, ◌<◌, Bool, true, inl, inr, refl, sym, ap, subst, ◌∙◌, List, [], ◌∷◌, ◌++◌, length, drop, get_or, Contains, arith}
 use Rattle.std.specs.Prelude.{IsTrue, IsFalse}
 use Rattle.std.specs.List.{range_with_len}
 use Rattle.std.specs.List.Sorted.{IsStrictlyIncreasing}
-use Rattle.std.proofs.Math.Seq.{take-length}
-use Rattle.std.proofs.lemmas.List.{take-append-le, at_drop_more, get_or-drop, length-drop, get_or_default}
+use Rattle.std.proofs.lemmas.List.{at_drop_more, get_or-drop, length-drop, get_or_default}
 use Rattle.std.proofs.lemmas.List.FromFn.{length-range_with_len, get_or-range_with_len}
 use Rattle.std.proofs.lemmas.List.Kept.{AllPairs-from_increasing, IsStrictlyIncreasing-filter}
 use Rattle.std.proofs.lemmas.List.Elements.{Contains-append_right, Contains-append_cases}
@@ -224,14 +223,6 @@ module _ (r : Run) (v : DirtyView) (own : run_of v ≡ r) (d : Parts) (lists : L
   pub own_pair : (net : ℕ) (numbers : List ℕ) (pair : Pair) → pair ≡ evaluated d (list_of lists net) numbers net → pair ≡ evaluated v.base.setting.design (list_of v.lists net) numbers net
   own_pair net numbers pair is =
       is ∙ (ap (λ (x : Parts). evaluated x (list_of lists net) numbers net) (sym own_design) ∙ ap (λ (ls : List (List NetId)). evaluated v.base.setting.design (list_of ls net) numbers net) (sym own_lists))
-
--- what was evaluated, by what the code calls it
-pub evaluated_here : (d : Parts) (reads : List ℕ) (net : ℕ) (given numbers : List ℕ) (pair : Pair) → pair ≡ evaluated d reads given net → given ≡ numbers → pair ≡ evaluated d reads numbers net
-evaluated_here d reads net given numbers pair is same = is ∙ ap (λ ns. evaluated d reads ns net) same
-
--- numbers that were written over all of some are then read
-pub written_all : (len : ℕ) (numbers before : List ℕ) → len ≡ length numbers → take len (numbers ++ drop (length numbers) before) ≡ numbers
-written_all len numbers before e = take-append-le len numbers (drop (length numbers) before) (omega (arith, e)) ∙ (ap (λ n. take n numbers) e ∙ take-length numbers)
 
 -- where no mark was taken, the net was not found marked
 pub lacks_found : (v : DirtyView) (net : ℕ) (w : DirtyView) → Took v net 0 w → Contains v.found net → ⊥

@@ -1,3 +1,4 @@
+pub mod Notes
 pub mod Visits
 pub mod Turns
 pub mod Rounds

@@ -21,6 +21,7 @@ use Rattle.dirty_words.specs.Readers.{AreReaders}
 use Rattle.dirty_words.specs.Boards.{DirtyId}
 use Rattle.dirty_words.specs.Steps.{Published}
 use Rattle.dirty_run.specs.declared.worker.Worker.{Worker}
+use Rattle.dirty_run.specs.Notes.{AreNotes}
 
 -- a board with the words of a run of this design in this direction, groups of its tables, the read lists with which the
 -- board was opened, and their readers
@@ -37,9 +38,9 @@ pub record IsRun (board : DirtyId) (d : Parts) (groups : List ℕ) (lists reader
 abbrev pub first_words : List (List NetId) → ℕ → List ℕ → List ℕ
 first_words lists net numbers = take (8 * length (list_of lists net)) numbers
 
--- room for the words of each read list, and a place for each net
-pub record HasRoom (lists : List (List NetId)) (worker : Worker) : Type 0 where
-  pub room : (net : ℕ) → 8 * length (list_of lists net) ≤ length worker.loaded.items
+-- room for the words of each read list after what is noted, and a place for each net
+pub record HasRoom (d : Parts) (lists : List (List NetId)) (worker : Worker) : Type 0 where
+  pub notes : AreNotes d lists worker.notes
   pub places : length lists ≤ length worker.places.items
 
 -- some word moved
@@ -87,6 +88,13 @@ pub record IsLoading (u : DirtyView) (net : ℕ) (numbers : List ℕ) (w : Dirty
 pub record HasLoaded (u : DirtyView) (net : ℕ) (numbers : List ℕ) (w : DirtyView) : Type 0 where
   pub loading : IsLoading u net numbers w
   pub whole : length numbers ≡ 8 * length (list_of u.lists net)
+
+-- from u to w, some numbers were loaded for the net in flight, and this is what the operator makes of it of them
+pub record HasEvaluated (u : DirtyView) (d : Parts) (lists : List (List NetId)) (net : ℕ) (pair : Pair) (w : DirtyView)
+    : Type 0 where
+  pub numbers : List ℕ
+  pub loaded : HasLoaded u net numbers w
+  pub value : pair ≡ evaluated d (list_of lists net) numbers net
 
 -- ---- publishing
 -- a flight with its whole read list loaded, of which nothing is published, and what the operator makes of it

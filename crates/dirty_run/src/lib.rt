@@ -3,6 +3,7 @@
 #![tactic(auto)]
 
 mod look;
+mod notes;
 mod round;
 mod settling;
 mod starting;

@@ -40,7 +40,7 @@ fn run_rounds<R: Threads + Sync, G: Gate>(
     requires own { IsOf run.now.board.now first.old }
     requires alone { IsAlone first.old.view }
     requires free { IsFree first.old.view }
-    requires idle { AreIdle run.now.lists.now workers.old }
+    requires idle { AreIdle run.now.design.now run.now.lists.now workers.old }
     requires some { 0 < length workers.old.idle.items }
     requires few { length workers.old.idle.items ≤ most_workers }
     ensures own { IsOf run.now.board.now first.new }

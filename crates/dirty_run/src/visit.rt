@@ -2,7 +2,7 @@
 //! moved, its readers are marked.
 
 ghost use Rattle.std.specs.Prelude.{◌≡◌, ℕ, ◌*◌, ◌%◌, ◌<◌, ◌≤◌, ◌↔◌, List, [], length, slice_index, Some};
-ghost use Rattle.std.specs.List.{Contains};
+ghost use Rattle.std.specs.List.{All, Contains};
 ghost use Rattle.std.specs.List.Sorted.{IsStrictlyIncreasing};
 ghost use Rattle.xt_model.specs.Quads.{IsPairInRange};
 ghost use Rattle.xt_meaning.specs.Words.{bound_in, number_for};
@@ -14,14 +14,17 @@ ghost use Rattle.chaos_core.specs.Views.{IsLoaded};
 ghost use Rattle.dirty_words.specs.declared.view.Flight.{Flight};
 ghost use Rattle.dirty_words.specs.Boards.{IsOf};
 ghost use Rattle.dirty_words.specs.Steps.{CanTake, IsNextToPublish};
-ghost use Rattle.dirty_run.specs.Visits.{first_words, fresh_flight, HasLoaded, HasPaid, HasPublished, HasRoom};
+ghost use Rattle.dirty_run.specs.Notes.{AreNotes};
+ghost use Rattle.dirty_run.specs.Visits.{first_words, fresh_flight, HasEvaluated, HasLoaded, HasPaid};
+ghost use Rattle.dirty_run.specs.Visits.{HasPublished, HasRoom};
 ghost use Rattle.dirty_run.specs.Visits.{HasVisited, IsPublishing, IsReady, IsRun};
 
+use crate::notes::Before;
 use crate::worker::{Run, Worker};
-use chaos_core::{evaluate_grouped, moves_down, number_in};
+use chaos_core::{evaluate_grouped, evaluate_noted, moves_down, number_in};
 use dirty_words::{DirtyBoard, DirtyPass};
 use net_eval::ReadLists;
-use xt_model::{Design, Direction, NetId, Pair};
+use xt_model::{Direction, NetId, Pair};
 
 /// Loads all words of the read list of the net in flight.
 fn load_all(
@@ -52,34 +55,72 @@ fn load_all(
     }
 }
 
-/// What the operator makes of a net of the numbers loaded for its read list, with which these numbers begin.
-fn evaluate_loaded(
-    design: &Design,
-    groups: &[usize],
-    lists: &ReadLists,
+/// What the operator makes of a net of the numbers loaded for its read list, with which these numbers begin: as noted
+/// in the round before, where what decides it is the same, and else by an evaluation.
+fn evaluate_loaded<G>(
+    run: &Run<'_, G>,
+    before: &Before,
     net: NetId,
     loaded: &[u64],
     places: &mut [u32],
 ) -> Pair
-    requires groups { AreGroups design.now.tables groups.now }
-    requires there { net.0 < length lists.now }
-    requires loaded { IsLoaded design.now (list_of lists.now net.0) net.0 (first_words lists.now net.0 loaded.now) }
-    requires room { 8 * length (list_of lists.now net.0) ≤ length loaded.now }
-    requires places { length design.now.nets ≤ length places.old }
-    ensures value { result
-        ≡ evaluated design.now (list_of lists.now net.0) (first_words lists.now net.0 loaded.now) net.0 }
+    requires groups { AreGroups run.now.design.now.tables run.now.groups.now }
+    requires before { All (AreNotes run.now.design.now run.now.lists.now) before.now.notes.items }
+    requires there { net.0 < length run.now.lists.now }
+    requires loaded { let numbers = first_words run.now.lists.now net.0 loaded.now in
+        IsLoaded run.now.design.now (list_of run.now.lists.now net.0) net.0 numbers }
+    requires room { 8 * length (list_of run.now.lists.now net.0) ≤ length loaded.now }
+    requires places { length run.now.design.now.nets ≤ length places.old }
+    ensures value { let numbers = first_words run.now.lists.now net.0 loaded.now in
+        result ≡ evaluated run.now.design.now (list_of run.now.lists.now net.0) numbers net.0 }
     ensures range { IsPairInRange result }
     ensures count { length places.new ≡ length places.old }
 {
-    let reads = lists.of(net);
-    evaluate_grouped(
-        design,
-        groups,
+    let reads = run.lists.of(net);
+    let numbers = &loaded[..8 * reads.len()];
+    let Some(noted) = before.recall(run, net) else {
+        return evaluate_grouped(run.design, run.groups, reads, net, numbers, places);
+    };
+    evaluate_noted(
+        run.design,
+        run.groups,
         reads,
         net,
-        &loaded[..8 * reads.len()],
+        numbers,
         places,
+        noted.numbers,
+        noted.pair,
     )
+}
+
+/// Loads all words of the read list of the net in flight, and gives what the operator makes of the net of them. Notes
+/// both.
+fn evaluate<G>(
+    run: &Run<'_, G>,
+    before: &Before,
+    pass: &mut DirtyPass,
+    worker: &mut Worker,
+    net: NetId,
+) -> Pair
+    requires run { IsRun run.now.board.now run.now.design.now run.now.groups.now
+        run.now.lists.now run.now.readers.now run.now.direction }
+    requires before { All (AreNotes run.now.design.now run.now.lists.now) before.now.notes.items }
+    requires own { IsOf run.now.board.now pass.old }
+    requires fresh { pass.old.view.flight ≡ Some (fresh_flight net.0) }
+    requires there { net.0 < nets_of pass.old.view.base.setting }
+    requires room { HasRoom run.now.design.now run.now.lists.now worker.old }
+    ensures own { IsOf run.now.board.now pass.new }
+    ensures evaluated { HasEvaluated pass.old.view run.now.design.now run.now.lists.now net.0 result pass.new.view }
+    ensures range { IsPairInRange result }
+    ensures room { HasRoom run.now.design.now run.now.lists.now worker.new }
+{
+    let used = worker.notes.used;
+    let free = &mut worker.notes.numbers.as_mut_slice()[used..];
+    load_all(run.board, pass, run.lists, net, free);
+    let loaded = &worker.notes.numbers.as_slice()[used..];
+    let pair = evaluate_loaded(run, before, net, loaded, worker.places.as_mut_slice());
+    worker.notes.note(run, net, &pair);
+    pair
 }
 
 /// Publishes the next word of the net in flight: whether that moved the word.
@@ -173,36 +214,29 @@ fn pay(board: &DirtyBoard, pass: &mut DirtyPass, readers: &[NetId])
 }
 
 /// Visits a net of which the pass drew the number.
-pub(crate) fn visit<G>(run: &Run<'_, G>, pass: &mut DirtyPass, worker: &mut Worker, net: NetId)
+pub(crate) fn visit<G>(
+    run: &Run<'_, G>,
+    before: &Before,
+    pass: &mut DirtyPass,
+    worker: &mut Worker,
+    net: NetId,
+)
     requires run { IsRun run.now.board.now run.now.design.now run.now.groups.now
         run.now.lists.now run.now.readers.now run.now.direction }
+    requires before { All (AreNotes run.now.design.now run.now.lists.now) before.now.notes.items }
     requires own { IsOf run.now.board.now pass.old }
     requires take { CanTake pass.old.view net.0 }
-    requires room { HasRoom run.now.lists.now worker.old }
+    requires room { HasRoom run.now.design.now run.now.lists.now worker.old }
     ensures own { IsOf run.now.board.now pass.new }
     ensures visited { HasVisited pass.old.view net.0 pass.new.view }
-    ensures room { HasRoom run.now.lists.now worker.new }
+    ensures room { HasRoom run.now.design.now run.now.lists.now worker.new }
 {
     // What the pass has seen, where the mark was not set.
     pass.respects();
     if !run.board.take(pass, net) {
         return;
     }
-    load_all(
-        run.board,
-        pass,
-        run.lists,
-        net,
-        worker.loaded.as_mut_slice(),
-    );
-    let pair = evaluate_loaded(
-        run.design,
-        run.groups,
-        run.lists,
-        net,
-        worker.loaded.as_slice(),
-        worker.places.as_mut_slice(),
-    );
+    let pair = evaluate(run, before, pass, worker, net);
     if publish_all(run.board, pass, run.direction, net, &pair) {
         pay(run.board, pass, run.readers.of(net));
     }

@@ -18,8 +18,8 @@ take_back-requires-clause-back g c =
     let xs = c.send_out.new.workers.seated.items in
     let ys = c.work_all.new.seated in
     let ran : AllZip (HasWorked board d lists) xs ys = subst (λ (zs : List SeatedWorker). AllZip (HasWorked board d lists) zs ys) c.as_mut_slice.ensures.value c.work_all.ensures in
-    let sent : All (IsSent lists c.send_out.new.first) xs =
-    sent_later lists c.restart.new.first c.send_out.new.first (length c.args.workers.now.idle.items) xs (c.send_out.ensures.own.table ∙ sym c.restart.ensures.own.table) c.send_out.ensures.view c.send_out.ensures.sent in
+    let sent : All (IsSent d lists c.send_out.new.first) xs =
+    sent_later d lists c.restart.new.first c.send_out.new.first (length c.args.workers.now.idle.items) xs (c.send_out.ensures.own.table ∙ sym c.restart.ensures.own.table) c.send_out.ensures.view c.send_out.ensures.sent in
     let back = all_back board d lists c.send_out.new.first xs ys sent ran in
     subst (All (IsBack board d lists c.send_out.new.first)) (sym (slice_back c.send_out.new.workers.seated.len xs ys c.send_out.new.workers.seated.ok.0 (AllZip-long (HasWorked board d lists) xs ys ran))) back
 

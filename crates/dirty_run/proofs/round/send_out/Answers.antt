@@ -1,4 +1,4 @@
-use Rattle.std.proofs.Common.{rules, ◌≡◌, ◌+◌, ◌∷◌, [], sym, ap, subst, ◌∙◌, length, length-append, arith}
+use Rattle.std.proofs.Common.{rules, refl, ◌≡◌, ◌+◌, ◌∷◌, [], sym, ap, subst, ◌∙◌, length, length-append, arith}
 use Rattle.std.proofs.lemmas.List.Elements.{All-push, All-pop}
 use Rattle.std.specs.List.{All}
 use Rattle.std.specs.Prelude.{Some}
@@ -17,7 +17,7 @@ passes-init g c =
       own = c.requires.own;
       sending = subst (λ n. IsSending v n v) (sym none) (none_sent v);
       count = omega (arith, none);
-      sent = subst (All (IsSent c.args.run.now.lists.now c.args.first.now)) (sym c.requires.idle.none) (λ k d h. absurd (omega (arith, h)));
+      sent = subst (All (IsSent c.args.run.now.design.now c.args.run.now.lists.now c.args.first.now)) (sym c.requires.idle.none) (λ k d h. absurd (omega (arith, h)));
       roomy = c.requires.idle.roomy;
     }
 
@@ -40,6 +40,7 @@ split-pass-requires g c =
 
 pub passes-preserved : goal.passes-preserved
 passes-preserved g c =
+    let d = c.args.run.now.design.now in
     let lists = c.args.run.now.lists.now in
     let v = c.args.first.now.view in
     let w = c.passes.first.view in
@@ -50,8 +51,8 @@ passes-preserved g c =
     let pushed = c.push_reserved.ensures.items in
     let long : length c.push_reserved.new.self.items ≡ n + 1 = ap length pushed ∙ length-append c.passes.workers.seated.items (seated ∷ []) in
     let popped : length c.passes.workers.idle.items ≡ length c.pop.new.self.items + 1 = ap length c.in-Some.ensures.items ∙ length-append c.pop.new.self.items (c.in-Some.worker ∷ []) in
-    let both = All-pop (HasRoom lists) c.passes.workers.idle.items c.pop.new.self.items (Some c.in-Some.worker) c.in-Some.ensures.items inv.roomy.rooms in
-    let sent : IsSent lists c.args.first.now seated = record {
+    let both = All-pop (HasRoom d lists) c.passes.workers.idle.items c.pop.new.self.items (Some c.in-Some.worker) c.in-Some.ensures.items inv.roomy.rooms in
+    let sent : IsSent d lists c.args.first.now seated = record {
       table = c.split-pass.ensures.own_other.table ∙ sym c.requires.own.table;
       view = c.split-pass.ensures.view_other ∙ sends_next v w n inv.sending;
       room = both.1;
@@ -60,8 +61,8 @@ passes-preserved g c =
       own = c.split-pass.ensures.own;
       sending = subst (λ m. IsSending v m x) (sym long) (sending_more v w n inv.sending x c.split-pass.ensures.view);
       count = let count = inv.count in omega (arith, count, long, popped);
-      sent = subst (All (IsSent lists c.args.first.now)) (sym pushed) (All-push (IsSent lists c.args.first.now) c.passes.workers.seated.items seated inv.sent sent);
-      roomy = roomy_out lists c.passes.workers (record { idle = c.pop.new.self; seated = c.push_reserved.new.self }) popped long c.pop.ensures.capacity c.push_reserved.ensures.capacity both.0 inv.roomy;
+      sent = subst (All (IsSent d lists c.args.first.now)) (sym pushed) (All-push (IsSent d lists c.args.first.now) c.passes.workers.seated.items seated inv.sent sent);
+      roomy = roomy_out d lists c.passes.workers (record { idle = c.pop.new.self; seated = c.push_reserved.new.self; before = c.passes.workers.before }) refl popped long c.pop.ensures.capacity c.push_reserved.ensures.capacity both.0 inv.roomy;
     }
 
 pub returns-clause-view : goal.returns-clause-view

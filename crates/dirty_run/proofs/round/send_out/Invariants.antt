@@ -10,8 +10,8 @@ invariant-passes g l = record {
   own : IsOf l.run.board.now l.first;
   sending : IsSending l.initial.first.view (length l.workers.seated.items) l.first.view;
   count : length l.workers.idle.items + length l.workers.seated.items ≡ length l.initial.workers.idle.items;
-  sent : All (IsSent l.run.lists.now l.initial.first) l.workers.seated.items;
-  roomy : AreRoomy l.run.lists.now l.workers;
+  sent : All (IsSent l.run.design.now l.run.lists.now l.initial.first) l.workers.seated.items;
+  roomy : AreRoomy l.run.design.now l.run.lists.now l.workers;
 }
 
 abbrev pub decreases-passes : goal.decreases-passes

@@ -1,4 +1,4 @@
-use Rattle.std.proofs.Common.{rules, ◌≡◌, ℕ, ◌+◌, sym, ap, subst, length, arith}
+use Rattle.std.proofs.Common.{rules, refl, ◌≡◌, ℕ, ◌+◌, sym, ap, subst, length, arith}
 use Rattle.std.specs.Prelude.{Some}
 use Rattle.std.proofs.lemmas.List.Elements.{All-pop}
 use Rattle.dirty_run.specs.declared.worker.SeatedWorker.{SeatedWorker}
@@ -61,7 +61,7 @@ passes-preserved g c =
           let e : length c.passes.workers.idle.items + 1 ≡ length c.push_reserved.new.self.items = search rules in
           subst (λ (n : ℕ). HasGathered order n first.view later.view) e more;
       back = both.0;
-      roomy = roomy_back c.args.run.now.lists.now c.passes.workers (record { idle = c.push_reserved.new.self; seated = c.pop.new.self }) x.worker x c.push_reserved.ensures.items c.in-Some.ensures.items c.push_reserved.ensures.capacity c.pop.ensures.capacity both.1.room inv.roomy;
+      roomy = roomy_back c.args.run.now.design.now c.args.run.now.lists.now c.passes.workers (record { idle = c.push_reserved.new.self; seated = c.pop.new.self; before = c.passes.workers.before }) x.worker x refl c.push_reserved.ensures.items c.in-Some.ensures.items c.push_reserved.ensures.capacity c.pop.ensures.capacity both.1.room inv.roomy;
     }
 
 pub returns-clause-gathered : goal.returns-clause-gathered

@@ -15,7 +15,7 @@ invariant-passes g l = record {
   count : length l.workers.idle.items + length l.workers.seated.items ≡ length l.initial.workers.seated.items;
   gathered : (order : List ℕ) → IsOrder l.run.design.now.nets order → HasGathered order (length l.workers.idle.items) l.initial.first.view l.first.view;
   back : All (IsBack l.run.board.now l.run.design.now l.run.lists.now l.initial.first) l.workers.seated.items;
-  roomy : AreRoomy l.run.lists.now l.workers;
+  roomy : AreRoomy l.run.design.now l.run.lists.now l.workers;
 }
 
 abbrev pub decreases-passes : goal.decreases-passes

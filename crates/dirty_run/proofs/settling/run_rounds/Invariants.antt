@@ -12,7 +12,7 @@ invariant-rounds g l = record {
   own : IsOf l.run.board.now l.first;
   alone : IsAlone l.first.view;
   free : IsFree l.first.view;
-  idle : AreIdle l.run.lists.now l.workers;
+  idle : AreIdle l.run.design.now l.run.lists.now l.workers;
   count : length l.workers.idle.items ≡ length l.fn.workers.idle.items;
   last : HasLast l.any l.first.view;
   kept : AreKept l.run.board.now.run.setting l.first.view.base.seen;

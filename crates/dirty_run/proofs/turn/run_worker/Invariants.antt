@@ -12,7 +12,7 @@ invariant-places g l = record {
   own : IsOf l.run.board.now l.pass;
   turned : (order : List ℕ) → IsOrder l.run.design.now.nets order → HasTurned order l.fn.pass.view l.pass.view;
   free : IsFree l.pass.view;
-  room : HasRoom l.run.lists.now l.worker;
+  room : HasRoom l.run.design.now l.run.lists.now l.worker;
   few : above l.pass.view.base.drawn ≤ length l.run.design.now.nets;
   late : 0 < late_of l.pass.view.base;
 }

@@ -1,13 +1,11 @@
-use Rattle.std.proofs.Common.{rules, ◌≡◌, ◌↔◌, Bool, refl, sym, ap, subst, ◌∙◌, List, ℕ, length, Contains}
+use Rattle.std.proofs.Common.{◌↔◌, Bool, refl, sym, subst, List, Contains}
 use Rattle.std.specs.List.Sorted.{IsStrictlyIncreasing}
 use Rattle.xt_model.specs.declared.net.NetId.{NetId}
 use Rattle.net_eval.specs.ReadLists.{ids}
-use Rattle.chaos_core.specs.Tasks.{list_of}
-use Rattle.chaos_core.specs.Views.{IsLoaded}
 use Rattle.dirty_words.specs.declared.view.Flight.{Flight}
 use Rattle.dirty_words.specs.Steps.{mark_of, Took}
-use Rattle.dirty_run.specs.Visits.{first_words, IsPublishing}
-use Rattle.dirty_run.proofs.Paying.{evaluated_here, written_all, own_lists, own_design, own_inside, own_pair, whole_here, lacks_found, took_nets, loaded_whole, ready_now, owes_now, readers_rise, visited_missed, visited_still, visited_moved}
+use Rattle.dirty_run.specs.Visits.{IsPublishing}
+use Rattle.dirty_run.proofs.Paying.{own_lists, own_inside, own_pair, whole_here, lacks_found, ready_now, owes_now, readers_rise, visited_missed, visited_still, visited_moved}
 use Rattle.dirty_run.proofs.visit.visit.Goals as goal
 
 pub returns-then-not-take-clause-visited : goal.returns-then-not-take-clause-visited
@@ -18,24 +16,6 @@ returns-then-not-take-clause-visited g c =
     let took = subst (λ (b : Bool). Took v net (mark_of b) w) c.if-not-take.true c.take.ensures.took in
     visited_missed v net w c.respects.ensures (lacks_found v net w took) (took.missed refl)
 
-pub evaluate_loaded-pair-requires-clause-loaded : goal.evaluate_loaded-pair-requires-clause-loaded
-evaluate_loaded-pair-requires-clause-loaded g c =
-    let run = c.requires.run in
-    let r = c.args.run.now.board.now.run in
-    let d = c.args.run.now.design.now in
-    let lists = c.args.run.now.lists.now in
-    let v = c.args.pass.now.view in
-    let net = c.args.net.0 in
-    let u = c.take.new.pass.view in
-    let w = c.load_all.new.pass.view in
-    let items = first_words lists net c.load_all.new.loaded in
-    let took = subst (λ (b : Bool). Took v net (mark_of b) u) c.if-not-take.false c.take.ensures.took in
-    let one = loaded_whole u net items w d lists c.load_all.ensures.loaded (own_design r u c.take.ensures.own.run d lists run.design run.own run.whole) (own_lists r u c.take.ensures.own.run d lists run.design run.own run.whole) run.whole
-    (took_nets v net u took c.requires.take.there) in
-    let all : c.args.worker.now.loaded.len ≡ length c.load_all.new.loaded = search rules in
-    let back = written_all c.args.worker.now.loaded.len c.load_all.new.loaded c.args.worker.now.loaded.items all in
-    subst (λ (ns : List ℕ). IsLoaded d (list_of lists net) net (first_words lists net ns)) (sym (c.as_slice.ensures.value ∙ back)) one
-
 pub publish_all-requires-clause-ready : goal.publish_all-requires-clause-ready
 publish_all-requires-clause-ready g c =
     let run = c.requires.run in
@@ -45,14 +25,12 @@ publish_all-requires-clause-ready g c =
     let v = c.args.pass.now.view in
     let net = c.args.net.0 in
     let u = c.take.new.pass.view in
-    let w = c.load_all.new.pass.view in
-    let items = first_words lists net c.load_all.new.loaded in
-    let pair = c.evaluate_loaded-pair.result in
-    let all : c.args.worker.now.loaded.len ≡ length c.load_all.new.loaded = search rules in
-    let back = written_all c.args.worker.now.loaded.len c.load_all.new.loaded c.args.worker.now.loaded.items all in
-    let is = evaluated_here d (list_of lists net) net (first_words lists net c.as_slice.result.now) items pair c.evaluate_loaded-pair.ensures.value (ap (first_words lists net) (c.as_slice.ensures.value ∙ back)) in
+    let w = c.evaluate-pair.new.pass.view in
+    let made = c.evaluate-pair.ensures.evaluated in
+    let items = made.numbers in
+    let pair = c.evaluate-pair.result in
     let f : Flight = record { net = net; numbers = items; published = 0 } in
-    let ready = ready_now u net items w pair c.load_all.ensures.loaded (own_pair r u c.take.ensures.own.run d lists run.design run.own run.whole net items pair is) in
+    let ready = ready_now u net items w pair made.loaded (own_pair r u c.take.ensures.own.run d lists run.design run.own run.whole net items pair made.value) in
     (f, ready)
 
 pub pay-requires-clause-once : goal.pay-requires-clause-once
@@ -73,19 +51,17 @@ pay-requires-clause-owed g c =
     let v = c.args.pass.now.view in
     let net = c.args.net.0 in
     let u = c.take.new.pass.view in
-    let w = c.load_all.new.pass.view in
-    let items = first_words lists net c.load_all.new.loaded in
-    let pair = c.evaluate_loaded-pair.result in
-    let all : c.args.worker.now.loaded.len ≡ length c.load_all.new.loaded = search rules in
-    let back = written_all c.args.worker.now.loaded.len c.load_all.new.loaded c.args.worker.now.loaded.items all in
-    let is = evaluated_here d (list_of lists net) net (first_words lists net c.as_slice.result.now) items pair c.evaluate_loaded-pair.ensures.value (ap (first_words lists net) (c.as_slice.ensures.value ∙ back)) in
+    let w = c.evaluate-pair.new.pass.view in
+    let made = c.evaluate-pair.ensures.evaluated in
+    let items = made.numbers in
+    let pair = c.evaluate-pair.result in
     let f : Flight = record { net = net; numbers = items; published = 0 } in
-    let ready = ready_now u net items w pair c.load_all.ensures.loaded (own_pair r u c.take.ensures.own.run d lists run.design run.own run.whole net items pair is) in
+    let ready = ready_now u net items w pair made.loaded (own_pair r u c.take.ensures.own.run d lists run.design run.own run.whole net items pair made.value) in
     let took = subst (λ (b : Bool). Took v net (mark_of b) u) c.if-not-take.false c.take.ensures.took in
     let x = c.publish_all.new.pass.view in
     let published = c.publish_all.ensures.published f ready.flight in
     let readers = c.args.run.now.readers.now in
-    let same = own_lists r w c.load_all.ensures.own.run d lists run.design run.own run.whole in
+    let same = own_lists r w c.evaluate-pair.ensures.own.run d lists run.design run.own run.whole in
     let inside = own_inside r v c.requires.own.run d lists run.design run.own run.whole net c.requires.take.there in
     let did = subst (λ (b : Bool). IsPublishing w net pair f 8 b x) c.if-publish_all.true published in
     λ m. subst (λ (rs : List NetId). Contains x.owed m ↔ Contains (ids rs) m) (sym c.of.ensures) (owes_now w net pair f x lists readers did same run.reversed inside m)
@@ -99,20 +75,18 @@ returns-then-publish_all-clause-visited g c =
     let v = c.args.pass.now.view in
     let net = c.args.net.0 in
     let u = c.take.new.pass.view in
-    let w = c.load_all.new.pass.view in
-    let items = first_words lists net c.load_all.new.loaded in
-    let pair = c.evaluate_loaded-pair.result in
-    let all : c.args.worker.now.loaded.len ≡ length c.load_all.new.loaded = search rules in
-    let back = written_all c.args.worker.now.loaded.len c.load_all.new.loaded c.args.worker.now.loaded.items all in
-    let is = evaluated_here d (list_of lists net) net (first_words lists net c.as_slice.result.now) items pair c.evaluate_loaded-pair.ensures.value (ap (first_words lists net) (c.as_slice.ensures.value ∙ back)) in
+    let w = c.evaluate-pair.new.pass.view in
+    let made = c.evaluate-pair.ensures.evaluated in
+    let items = made.numbers in
+    let pair = c.evaluate-pair.result in
     let f : Flight = record { net = net; numbers = items; published = 0 } in
-    let ready = ready_now u net items w pair c.load_all.ensures.loaded (own_pair r u c.take.ensures.own.run d lists run.design run.own run.whole net items pair is) in
+    let ready = ready_now u net items w pair made.loaded (own_pair r u c.take.ensures.own.run d lists run.design run.own run.whole net items pair made.value) in
     let took = subst (λ (b : Bool). Took v net (mark_of b) u) c.if-not-take.false c.take.ensures.took in
     let x = c.publish_all.new.pass.view in
     let published = c.publish_all.ensures.published f ready.flight in
     let whole = whole_here r v c.requires.own.run d lists run.design run.own run.whole in
-    let made = own_pair r v c.requires.own.run d lists run.design run.own run.whole net items pair is in
-    visited_moved v net c.requires.take whole u (took.taken refl) items w c.load_all.ensures.loaded pair made c.publish_all.result x published c.if-publish_all.true c.pay.new.pass.view c.pay.ensures.paid
+    let own = own_pair r v c.requires.own.run d lists run.design run.own run.whole net items pair made.value in
+    visited_moved v net c.requires.take whole u (took.taken refl) items w made.loaded pair own c.publish_all.result x published c.if-publish_all.true c.pay.new.pass.view c.pay.ensures.paid
 
 pub returns-else-publish_all-clause-visited : goal.returns-else-publish_all-clause-visited
 returns-else-publish_all-clause-visited g c =
@@ -123,17 +97,15 @@ returns-else-publish_all-clause-visited g c =
     let v = c.args.pass.now.view in
     let net = c.args.net.0 in
     let u = c.take.new.pass.view in
-    let w = c.load_all.new.pass.view in
-    let items = first_words lists net c.load_all.new.loaded in
-    let pair = c.evaluate_loaded-pair.result in
-    let all : c.args.worker.now.loaded.len ≡ length c.load_all.new.loaded = search rules in
-    let back = written_all c.args.worker.now.loaded.len c.load_all.new.loaded c.args.worker.now.loaded.items all in
-    let is = evaluated_here d (list_of lists net) net (first_words lists net c.as_slice.result.now) items pair c.evaluate_loaded-pair.ensures.value (ap (first_words lists net) (c.as_slice.ensures.value ∙ back)) in
+    let w = c.evaluate-pair.new.pass.view in
+    let made = c.evaluate-pair.ensures.evaluated in
+    let items = made.numbers in
+    let pair = c.evaluate-pair.result in
     let f : Flight = record { net = net; numbers = items; published = 0 } in
-    let ready = ready_now u net items w pair c.load_all.ensures.loaded (own_pair r u c.take.ensures.own.run d lists run.design run.own run.whole net items pair is) in
+    let ready = ready_now u net items w pair made.loaded (own_pair r u c.take.ensures.own.run d lists run.design run.own run.whole net items pair made.value) in
     let took = subst (λ (b : Bool). Took v net (mark_of b) u) c.if-not-take.false c.take.ensures.took in
     let x = c.publish_all.new.pass.view in
     let published = c.publish_all.ensures.published f ready.flight in
     let whole = whole_here r v c.requires.own.run d lists run.design run.own run.whole in
-    let made = own_pair r v c.requires.own.run d lists run.design run.own run.whole net items pair is in
-    visited_still v net c.requires.take whole u (took.taken refl) items w c.load_all.ensures.loaded pair made c.publish_all.result x published c.if-publish_all.false
+    let own = own_pair r v c.requires.own.run d lists run.design run.own run.whole net items pair made.value in
+    visited_still v net c.requires.take whole u (took.taken refl) items w made.loaded pair own c.publish_all.result x published c.if-publish_all.false

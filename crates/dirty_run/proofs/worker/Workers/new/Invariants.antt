@@ -7,5 +7,5 @@ abbrev pub invariant-loop-number : goal.invariant-loop-number
 invariant-loop-number l = record {
   count : length l.idle.items ≡ l._number;
   room : l.count ≤ vec_capacity l.idle;
-  rooms : All (HasRoom l.lists) l.idle.items;
+  rooms : All (HasRoom l.design l.lists) l.idle.items;
 }
