@@ -13,7 +13,7 @@ use Rattle.spef_read.specs.declared.item.Separator.TheVariants as separators
 use Rattle.spef_read.specs.declared.item.Quantity.{Quantity}
 use Rattle.spef_read.specs.declared.item.Quantity.TheVariants as quantities
 use Rattle.spef_read.specs.declared.marks.Marks.{Marks}
-use Rattle.spef_read.specs.declared.parasitics.Name.{Name}
+use Rattle.spef_read.specs.declared.parasitics.NameId.{NameId}
 use Rattle.spef_read.specs.declared.parasitics.CapText.{CapText}
 use Rattle.spef_read.specs.declared.parasitics.ResText.{ResText}
 use Rattle.spef_read.specs.declared.parasitics.WireText.{WireText}
@@ -33,11 +33,11 @@ use Rattle.spef_read.proofs.WholeNames.{IsWhole, IsGraphicMap, whole_name_is, pa
 -- ---- what is true of a state
 
 -- the name is one of n
-abbrev pub IsOf : ℕ → Name → Type 0
+abbrev pub IsOf : ℕ → NameId → Type 0
 IsOf n name = name.number < n
 
 -- the name is one of n, or the first where there is none
-abbrev pub IsNear : ℕ → Name → Type 0
+abbrev pub IsNear : ℕ → NameId → Type 0
 IsNear n name = name.number ≤ n - 1
 
 pub record IsCap (n : ℕ) (c : CapText) : Type 0 where
@@ -58,8 +58,8 @@ pub record IsWire (n : ℕ) (w : WireText) : Type 0 where
 
 -- by the parts of a state that count, so that it is the same where others change: the marks, the name map, the names and
 -- nets, and of the net that is being read its name, its total, its elements, and the nodes of its next element
-pub record AreFineParts (delimiter : ℕ) (map : NameMap) (names : Names) (nets : List WireText) (net : Name) (total : ℤ)
-    (caps : List CapText) (resistors : List ResText) (first : Name) (second : Option Name) (res : Name) : Type 0 where
+pub record AreFineParts (delimiter : ℕ) (map : NameMap) (names : Names) (nets : List WireText) (net : NameId) (total : ℤ)
+    (caps : List CapText) (resistors : List ResText) (first : NameId) (second : Option NameId) (res : NameId) : Type 0 where
   pub printable : IsGraphic delimiter
   pub mapped : IsGraphicMap map
   pub named : AllByRecursion (λ e. IsWhole e.0) names
@@ -73,8 +73,8 @@ pub record AreFineParts (delimiter : ℕ) (map : NameMap) (names : Names) (nets 
   pub res_to : IsNear (length names) res
 
 -- what is true of each part is true of all
-fine_of : {delimiter : ℕ} {map : NameMap} {names : Names} {nets : List WireText} {net : Name} {total : ℤ} {caps : List CapText}
-    {resistors : List ResText} {first : Name} {second : Option Name} {res : Name}
+fine_of : {delimiter : ℕ} {map : NameMap} {names : Names} {nets : List WireText} {net : NameId} {total : ℤ} {caps : List CapText}
+    {resistors : List ResText} {first : NameId} {second : Option NameId} {res : NameId}
     → IsGraphic delimiter → IsGraphicMap map → AllByRecursion (λ e. IsWhole e.0) names
     → AllByRecursion (IsWire (length names)) nets → IsNear (length names) net → IsQuantity total
     → AllByRecursion (IsCap (length names)) caps → AllByRecursion (IsRes (length names)) resistors → IsNear (length names) first
@@ -105,7 +105,7 @@ pub nothing_fine : IsFine nothing
 nothing_fine = fine_of refl tt tt tt (omega arith) zero_is tt tt (omega arith) tt (omega arith)
 
 -- ---- more names
-of_more : (n m : ℕ) → n ≤ m → (o : Option Name) → IfSome o (IsOf n) → IfSome o (IsOf m)
+of_more : (n m : ℕ) → n ≤ m → (o : Option NameId) → IfSome o (IsOf n) → IfSome o (IsOf m)
 of_more n m le None h = tt
 of_more n m le (Some x) h = omega (arith, h)
 
@@ -211,7 +211,7 @@ module _ (s s' : State) (h : IsFine s) where
 
 -- ---- nodes
 -- a name that has been entered, and the state after it
-pub record IsEntered (s : State) (x : Name × State) : Type 0 where
+pub record IsEntered (s : State) (x : NameId × State) : Type 0 where
   pub fine : IsFine x.1
   pub there : IsOf (length x.1.names) x.0
   pub grows : length s.names ≤ length x.1.names
@@ -227,16 +227,16 @@ module _ (s : State) (h : IsFine s) where
         grows = omega (arith, further);
       }
 
-  node_by : (r : Result Text Code) (x : Name × State) → ((name : Text) → r ≡ Ok name → IsWhole name) → enter s r ≡ Ok x → IsEntered s x
+  node_by : (r : Result Text Code) (x : NameId × State) → ((name : Text) → r ≡ Ok name → IsWhole name) → enter s r ≡ Ok x → IsEntered s x
   node_by (Err code) x g e = absurd (cc)
   node_by (Ok name) x g e = kept (IsEntered s) e (entered_by name (found name s.names) refl (g name refl))
 
-  pub node_is : (word : Text) → AreGraphic word → (x : Name × State) → node word s ≡ Ok x → IsEntered s x
+  pub node_is : (word : Text) → AreGraphic word → (x : NameId × State) → node word s ≡ Ok x → IsEntered s x
   unfolding node
   node_is word g x e = node_by (whole_name s.marks s.map word) x (λ name at. whole_name_is s.marks s.map word name h.mapped g at) e
 
   module _ (s' : State) where
-    first_by : (r : Result (Name × State) Code) → ((x : Name × State) → r ≡ Ok x → IsEntered s x) → first_as r ≡ Ok s' → Leads s s'
+    first_by : (r : Result (NameId × State) Code) → ((x : NameId × State) → r ≡ Ok x → IsEntered s x) → first_as r ≡ Ok s' → Leads s s'
     first_by (Err code) g e = absurd (cc)
     first_by (Ok x) g e =
         let i = g x refl in
@@ -248,7 +248,7 @@ module _ (s : State) (h : IsFine s) where
     pub first_leads : (word : Text) → AreGraphic word → first_node word s ≡ Ok s' → Leads s s'
     first_leads word g e = first_by (node word s) (node_is word g) e
 
-    cap_second_by : (r : Result (Name × State) Code) → ((x : Name × State) → r ≡ Ok x → IsEntered s x) → cap_second_as r ≡ Ok s' → Leads s s'
+    cap_second_by : (r : Result (NameId × State) Code) → ((x : NameId × State) → r ≡ Ok x → IsEntered s x) → cap_second_as r ≡ Ok s' → Leads s s'
     cap_second_by (Err code) g e = absurd (cc)
     cap_second_by (Ok x) g e =
         let i = g x refl in
@@ -259,7 +259,7 @@ module _ (s : State) (h : IsFine s) where
     pub cap_node_leads : (word : Text) → AreGraphic word → cap_node word s ≡ Ok s' → Leads s s'
     cap_node_leads word g e = cap_second_by (node word s) (node_is word g) e
 
-    res_second_by : (r : Result (Name × State) Code) → ((x : Name × State) → r ≡ Ok x → IsEntered s x) → res_second_as r ≡ Ok s' → Leads s s'
+    res_second_by : (r : Result (NameId × State) Code) → ((x : NameId × State) → r ≡ Ok x → IsEntered s x) → res_second_as r ≡ Ok s' → Leads s s'
     res_second_by (Err code) g e = absurd (cc)
     res_second_by (Ok x) g e =
         let i = g x refl in

@@ -1,6 +1,6 @@
 -- The grammar of a SPEF text as tables of forms: what may come next in each context, its item, and where the text
 -- goes on. Forms are cut where something is meant, so that each refusal is met at a form's last token.
-use Rattle.std.specs.Prelude.{ℕ, Bool, true, false, List, [], ◌∷◌, Option, Some, None, Result, codes}
+use Rattle.std.specs.Prelude.{◌≡◌, ℕ, Bool, true, false, List, [], ◌∷◌, Option, Some, None, Result, codes}
 use Rattle.std.specs.Prelude.{if◌then◌else◌}
 use Rattle.std.specs.Str.{bytes_eq}
 use Rattle.text_forms.specs.Forms.{Token, Form, Whole, Refusal, Misfits, text_at, form_at}
@@ -110,6 +110,11 @@ fits ValueWord s = is_value_sort s
 fits NodeWord s = is_node s
 fits Passed s = is_passed s
 fits InConnection s = is_in_connection s
+
+-- if there is a next token, it does not fit the slot
+abbrev pub IsMisfit : Slot → Tokens → Type 0
+IsMisfit slot [] = Unit {0}
+IsMisfit slot (t ∷ ts) = fits slot t.sort ≡ false
 
 -- the code of a token that does not fit: of the text's end, of any other
 abbrev pub misfit : Sort → Code

@@ -1,7 +1,7 @@
 -- What the forms of a SPEF text mean, one after another. A state has what the header and the name map said, the nets
 -- that ended, and of the net that is being read what its section said so far.
 use Rattle.std.specs.Prelude.{ℕ, Bool, ◌||◌, ◌&&◌, List, [], ◌∷◌, ◌++◌, length, drop, codes, ◌==◌}
-use Rattle.std.specs.Prelude.{ℤ, pos, neg_ℤ, int_le, ◌+ℤ◌, ◌≤ℤ◌, Option, Some, None, is_some, Result, Ok, Err}
+use Rattle.std.specs.Prelude.{ℤ, pos, int_le, ◌+ℤ◌, Option, Some, None, is_some, Result, Ok, Err}
 use Rattle.std.specs.Prelude.{if◌then◌else◌}
 use Rattle.std.specs.Str.{str_eq_ignore_ascii_case}
 use Rattle.name_numbers.specs.Names.{found, with_value}
@@ -14,7 +14,7 @@ use Rattle.spef_read.specs.declared.item.Separator.TheVariants as separators
 use Rattle.spef_read.specs.declared.item.Quantity.{Quantity}
 use Rattle.spef_read.specs.declared.item.Quantity.TheVariants as quantities
 use Rattle.spef_read.specs.declared.marks.Marks.{Marks}
-use Rattle.spef_read.specs.declared.parasitics.Name.{Name}
+use Rattle.spef_read.specs.declared.parasitics.NameId.{NameId}
 use Rattle.spef_read.specs.declared.parasitics.CapText.{CapText}
 use Rattle.spef_read.specs.declared.parasitics.ResText.{ResText}
 use Rattle.spef_read.specs.declared.parasitics.WireText.{WireText}
@@ -43,17 +43,17 @@ pub record State : Type 0 where
   -- the nets that ended
   pub nets : List WireText
   -- the net that is being read
-  pub net : Name
+  pub net : NameId
   pub total : ℤ
   pub caps : List CapText
   pub resistors : List ResText
   -- the element that is being read: its first node, and the second node of a capacitor and of a resistor
-  pub first : Name
-  pub cap_second : Option Name
-  pub res_second : Name
+  pub first : NameId
+  pub cap_second : Option NameId
+  pub res_second : NameId
 
 -- the first name of a text
-abbrev pub first_name : Name
+abbrev pub first_name : NameId
 first_name = record { number = 0 }
 
 -- nothing has been read
@@ -115,10 +115,6 @@ number_as quantity s None = Err S1
 unfoldable pub unit_number : Quantity → Text → State → Result State Code
 unit_number quantity word s = number_as quantity s (power_of word)
 
--- a power of ten by which values may be counted
-abbrev pub IsScale : ℤ → Type 0
-IsScale k = (neg_ℤ (pos 12) ≤ℤ k) × (k ≤ℤ pos 12)
-
 -- the word is this one, in any case
 abbrev pub is_same : Text → Text → Bool
 is_same word other = str_eq_ignore_ascii_case word other
@@ -170,17 +166,17 @@ pair_as s (Err code) = Err code
 unfoldable pub end_pair : Text → State → Result State Code
 end_pair word s = pair_as s (pair_name s.marks word)
 
-abbrev pub enter_as : Text → State → Option (ℕ × Option ℕ) → Name × State
+abbrev pub enter_as : Text → State → Option (ℕ × Option ℕ) → NameId × State
 enter_as name s (Some entry) = (record { number = entry.0 }, s)
 enter_as name s None = (record { number = length s.names }, record s { names = with_value name None s.names })
 
 -- a name is used: which one of the text's names it is
-abbrev pub enter : State → Result Text Code → Result (Name × State) Code
+abbrev pub enter : State → Result Text Code → Result (NameId × State) Code
 enter s (Ok name) = Ok (enter_as name s (found name s.names))
 enter s (Err code) = Err code
 
 -- the name of a node
-unfoldable pub node : Text → State → Result (Name × State) Code
+unfoldable pub node : Text → State → Result (NameId × State) Code
 node word s = enter s (whole_name s.marks s.map word)
 
 -- ---- nets
@@ -222,7 +218,7 @@ total_as s (Err code) = Err code
 abbrev pub net_total : Text → State → Result State Code
 net_total word s = total_as s (value_of word s.cap_scale)
 
-abbrev pub first_as : Result (Name × State) Code → Result State Code
+abbrev pub first_as : Result (NameId × State) Code → Result State Code
 first_as (Ok e) = Ok (record e.1 { first = e.0; cap_second = None })
 first_as (Err code) = Err code
 
@@ -230,7 +226,7 @@ first_as (Err code) = Err code
 abbrev pub first_node : Text → State → Result State Code
 first_node word s = first_as (node word s)
 
-abbrev pub cap_second_as : Result (Name × State) Code → Result State Code
+abbrev pub cap_second_as : Result (NameId × State) Code → Result State Code
 cap_second_as (Ok e) = Ok (record e.1 { cap_second = Some e.0 })
 cap_second_as (Err code) = Err code
 
@@ -238,7 +234,7 @@ cap_second_as (Err code) = Err code
 abbrev pub cap_node : Text → State → Result State Code
 cap_node word s = cap_second_as (node word s)
 
-abbrev pub res_second_as : Result (Name × State) Code → Result State Code
+abbrev pub res_second_as : Result (NameId × State) Code → Result State Code
 res_second_as (Ok e) = Ok (record e.1 { res_second = e.0 })
 res_second_as (Err code) = Err code
 

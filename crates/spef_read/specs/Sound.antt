@@ -3,14 +3,14 @@ use Rattle.std.specs.Prelude.{◌<◌, [], ◌∷◌, length, IfSome}
 use Rattle.std.specs.List.{All}
 use Rattle.xt_model.specs.Names.{IsName}
 use Rattle.xt_number.specs.Quantities.{IsQuantity}
-use Rattle.spef_read.specs.declared.parasitics.Name.{Name}
+use Rattle.spef_read.specs.declared.parasitics.NameId.{NameId}
 use Rattle.spef_read.specs.declared.parasitics.CapText.{CapText}
 use Rattle.spef_read.specs.declared.parasitics.ResText.{ResText}
 use Rattle.spef_read.specs.declared.parasitics.WireText.{WireText}
 use Rattle.spef_read.specs.declared.parasitics.Parasitics.{Parasitics}
 
 -- the name is there
-abbrev pub IsThere : Parasitics → Name → Type 0
+abbrev pub IsThere : Parasitics → NameId → Type 0
 IsThere p name = name.number < length p.names
 
 pub record IsSoundCap (p : Parasitics) (c : CapText) : Type 0 where

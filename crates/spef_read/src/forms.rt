@@ -15,6 +15,7 @@ use crate::net_forms::{
     cap_second, cap_value, capacitors, connection, connections, lists, net_name, net_total,
     res_second, res_value, resistors, totalled,
 };
+use crate::slots::any_word;
 use crate::sort::Sort;
 use text_forms::{Refused, Term, Terms};
 use xt_model::Code;
@@ -86,14 +87,9 @@ fn brackets<'a>(first: Term<'a, Sort>, terms: &mut Terms<'a, Sort>) -> Result<Fo
     match second.sort {
         Sort::Word => Ok(done(Item::Pair(second.text), second.line, Context::Header)),
         Sort::Bracket => {
-            let third = terms.any()?;
-            match third.sort {
-                Sort::Text | Sort::End => Err(third.refused()),
-                _ => {
-                    let item = Item::Brackets(second.text, third.text);
-                    Ok(done(item, third.line, Context::Header))
-                }
-            }
+            let right = any_word(terms)?;
+            let item = Item::Brackets(second.text, right.text);
+            Ok(done(item, right.line, Context::Header))
         }
         _ => Err(second.refused()),
     }
@@ -116,27 +112,15 @@ fn header_from<'a>(
             Ok(done(Item::Nothing, text.line, Context::Flow))
         }
         Sort::Separator => {
-            let which = separator_of(first.text);
-            let second = terms.any()?;
-            match second.sort {
-                Sort::Text | Sort::End => Err(second.refused()),
-                _ => {
-                    let item = Item::Separator(which, second.text);
-                    Ok(done(item, second.line, Context::Header))
-                }
-            }
+            let mark = any_word(terms)?;
+            let item = Item::Separator(separator_of(first.text), mark.text);
+            Ok(done(item, mark.line, Context::Header))
         }
         Sort::Brackets => brackets(first, terms),
         Sort::Unit => {
-            let quantity = quantity_of(first.text);
-            let second = terms.any()?;
-            match second.sort {
-                Sort::Text | Sort::End => Err(second.refused()),
-                _ => {
-                    let item = Item::UnitNumber(quantity, second.text);
-                    Ok(done(item, second.line, Context::Unit))
-                }
-            }
+            let number = any_word(terms)?;
+            let item = Item::UnitNumber(quantity_of(first.text), number.text);
+            Ok(done(item, number.line, Context::Unit))
         }
         _ => section_from(first, &*terms),
     }
@@ -165,11 +149,8 @@ fn flow<'a>(terms: &mut Terms<'a, Sort>) -> Result<FormRead<'a>, Refused>
 fn unit<'a>(terms: &mut Terms<'a, Sort>) -> Result<FormRead<'a>, Refused>
     ensures { Reads (λ r. (whole_of r, terms.new)) result (first_form unit_forms terms.old) }
 {
-    let first = terms.any()?;
-    match first.sort {
-        Sort::Text | Sort::End => Err(first.refused()),
-        _ => Ok(done(Item::Unit(first.text), first.line, Context::Header)),
-    }
+    let unit = any_word(terms)?;
+    Ok(done(Item::Unit(unit.text), unit.line, Context::Header))
 }
 
 /// In the name map.
@@ -187,11 +168,8 @@ fn pairs<'a>(terms: &mut Terms<'a, Sort>) -> Result<FormRead<'a>, Refused>
 fn pair_name<'a>(terms: &mut Terms<'a, Sort>) -> Result<FormRead<'a>, Refused>
     ensures { Reads (λ r. (whole_of r, terms.new)) result (first_form pair_name_forms terms.old) }
 {
-    let first = terms.any()?;
-    match first.sort {
-        Sort::Text | Sort::End => Err(first.refused()),
-        _ => Ok(done(Item::PairName(first.text), first.line, Context::Pairs)),
-    }
+    let name = any_word(terms)?;
+    Ok(done(Item::PairName(name.text), name.line, Context::Pairs))
 }
 
 /// In a section that is skipped.

@@ -10,10 +10,11 @@ mod names;
 mod net_forms;
 mod parasitics;
 mod read;
+mod slots;
 mod sort;
 mod state;
 mod values;
 mod words;
 
-pub use parasitics::{CapText, Name, Parasitics, ResText, WireText};
+pub use parasitics::{CapText, NameId, Parasitics, ResText, WireText};
 pub use read::read_spef;

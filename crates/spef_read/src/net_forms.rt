@@ -12,6 +12,7 @@ ghost use Rattle.spef_read.specs.View.{whole_of};
 use crate::context::Context;
 use crate::forms::done;
 use crate::item::{FormRead, Item};
+use crate::slots::{any_word, value_word};
 use crate::sort::Sort;
 use text_forms::{Refused, Term, Terms};
 use xt_model::Code;
@@ -61,26 +62,16 @@ fn behind_connections<'a>(
 pub fn net_name<'a>(terms: &mut Terms<'a, Sort>) -> Result<FormRead<'a>, Refused>
     ensures { Reads (λ r. (whole_of r, terms.new)) result (first_form net_name_forms terms.old) }
 {
-    let first = terms.any()?;
-    match first.sort {
-        Sort::Text | Sort::End => Err(first.refused()),
-        _ => Ok(done(Item::NetName(first.text), first.line, Context::NetTotal)),
-    }
+    let name = any_word(terms)?;
+    Ok(done(Item::NetName(name.text), name.line, Context::NetTotal))
 }
 
 /// The total capacitance of a net.
 pub fn net_total<'a>(terms: &mut Terms<'a, Sort>) -> Result<FormRead<'a>, Refused>
     ensures { Reads (λ r. (whole_of r, terms.new)) result (first_form net_total_forms terms.old) }
 {
-    let first = terms.any()?;
-    match first.sort {
-        Sort::Digits | Sort::Value => Ok(done(
-            Item::Total(first.text),
-            first.line,
-            Context::Totalled,
-        )),
-        _ => Err(first.refused()),
-    }
+    let total = value_word(terms)?;
+    Ok(done(Item::Total(total.text), total.line, Context::Totalled))
 }
 
 /// The lists of a net, or its end, from the first token on.
@@ -149,15 +140,9 @@ pub fn capacitors<'a>(terms: &mut Terms<'a, Sort>) -> Result<FormRead<'a>, Refus
     let first = terms.any()?;
     match first.sort {
         Sort::Digits => {
-            let second = terms.any()?;
-            match second.sort {
-                Sort::Text | Sort::End => Err(second.refused()),
-                _ => Ok(done(
-                    Item::FirstNode(second.text),
-                    second.line,
-                    Context::CapSecond,
-                )),
-            }
+            let node = any_word(terms)?;
+            let item = Item::FirstNode(node.text);
+            Ok(done(item, node.line, Context::CapSecond))
         }
         _ => behind_capacitors(first, &*terms),
     }
@@ -183,15 +168,8 @@ pub fn cap_second<'a>(terms: &mut Terms<'a, Sort>) -> Result<FormRead<'a>, Refus
 pub fn cap_value<'a>(terms: &mut Terms<'a, Sort>) -> Result<FormRead<'a>, Refused>
     ensures { Reads (λ r. (whole_of r, terms.new)) result (first_form cap_value_forms terms.old) }
 {
-    let first = terms.any()?;
-    match first.sort {
-        Sort::Digits | Sort::Value => Ok(done(
-            Item::CapValue(first.text),
-            first.line,
-            Context::Capacitors,
-        )),
-        _ => Err(first.refused()),
-    }
+    let value = value_word(terms)?;
+    Ok(done(Item::CapValue(value.text), value.line, Context::Capacitors))
 }
 
 /// A resistor, or what comes after the last one.
@@ -201,15 +179,9 @@ pub fn resistors<'a>(terms: &mut Terms<'a, Sort>) -> Result<FormRead<'a>, Refuse
     let first = terms.any()?;
     match first.sort {
         Sort::Digits => {
-            let second = terms.any()?;
-            match second.sort {
-                Sort::Text | Sort::End => Err(second.refused()),
-                _ => Ok(done(
-                    Item::FirstNode(second.text),
-                    second.line,
-                    Context::ResSecond,
-                )),
-            }
+            let node = any_word(terms)?;
+            let item = Item::FirstNode(node.text);
+            Ok(done(item, node.line, Context::ResSecond))
         }
         _ => closing_from(first, &*terms),
     }
@@ -219,24 +191,14 @@ pub fn resistors<'a>(terms: &mut Terms<'a, Sort>) -> Result<FormRead<'a>, Refuse
 pub fn res_second<'a>(terms: &mut Terms<'a, Sort>) -> Result<FormRead<'a>, Refused>
     ensures { Reads (λ r. (whole_of r, terms.new)) result (first_form res_second_forms terms.old) }
 {
-    let first = terms.any()?;
-    match first.sort {
-        Sort::Text | Sort::End => Err(first.refused()),
-        _ => Ok(done(Item::ResNode(first.text), first.line, Context::ResValue)),
-    }
+    let node = any_word(terms)?;
+    Ok(done(Item::ResNode(node.text), node.line, Context::ResValue))
 }
 
 /// After the second node of a resistor.
 pub fn res_value<'a>(terms: &mut Terms<'a, Sort>) -> Result<FormRead<'a>, Refused>
     ensures { Reads (λ r. (whole_of r, terms.new)) result (first_form res_value_forms terms.old) }
 {
-    let first = terms.any()?;
-    match first.sort {
-        Sort::Digits | Sort::Value => Ok(done(
-            Item::ResValue(first.text),
-            first.line,
-            Context::Resistors,
-        )),
-        _ => Err(first.refused()),
-    }
+    let value = value_word(terms)?;
+    Ok(done(Item::ResValue(value.text), value.line, Context::Resistors))
 }

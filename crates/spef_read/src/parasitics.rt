@@ -9,30 +9,30 @@ use xt_model::Row;
 
 /// A name, by its number among the names of its text.
 #[derive(Clone, Copy, Debug, PartialEq, Eq)]
-pub struct Name {
+pub struct NameId {
     pub number: u32,
 }
 
 /// A capacitor from a node to ground, or to the node `b`. `value` is its capacitance in aF.
 #[derive(Clone, Copy, Debug, PartialEq, Eq)]
 pub struct CapText {
-    pub a: Name,
-    pub b: Option<Name>,
+    pub a: NameId,
+    pub b: Option<NameId>,
     pub value: i64,
 }
 
 /// A resistor between two nodes. `value` is its resistance in mΩ.
 #[derive(Clone, Copy, Debug, PartialEq, Eq)]
 pub struct ResText {
-    pub a: Name,
-    pub b: Name,
+    pub a: NameId,
+    pub b: NameId,
     pub value: i64,
 }
 
 /// A net with its total capacitance in aF, its capacitors and its resistors, in the order of the text.
 #[derive(Debug, Drop)]
 pub struct WireText {
-    pub name: Name,
+    pub name: NameId,
     pub total: i64,
     pub caps: Row<CapText>,
     pub resistors: Row<ResText>,
@@ -51,7 +51,7 @@ pub struct Parasitics {
 
 impl Parasitics {
     /// The bytes of a name, in two parts.
-    pub fn parts(&self, name: Name) -> Option<NameParts<'_>>
+    pub fn parts(&self, name: NameId) -> Option<NameParts<'_>>
         ensures { option_map whole result ≡ slice_get (map (λ e. e.0) self.now.names) name.number }
     {
         match self.names.get(name.number) {

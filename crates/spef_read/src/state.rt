@@ -15,7 +15,7 @@ use crate::item::{FormRead, Item, Quantity, Separator};
 use crate::map::NameMap;
 use crate::marks::Marks;
 use crate::names::{pair_name, whole_name};
-use crate::parasitics::{CapText, Name, Parasitics, ResText, WireText};
+use crate::parasitics::{CapText, NameId, Parasitics, ResText, WireText};
 use crate::sort::Sort;
 use crate::values::{unit_power, value_of};
 use crate::words::without_zeros;
@@ -39,20 +39,21 @@ pub struct Progress<'a> {
     index: &'a [u8],
     names: PrefixedTable<Option<u32>>,
     nets: Vec<WireText>,
-    net: Name,
+    net: NameId,
     total: i64,
     caps: Vec<CapText>,
     resistors: Vec<ResText>,
-    first: Name,
-    cap_second: Option<Name>,
-    res_second: Name,
+    first: NameId,
+    cap_second: Option<NameId>,
+    res_second: NameId,
     /// The name that was made last.
     made: PrefixedName,
 }
 
 impl<'a> Model for Progress<'a> {
     ghost use Rattle.std.specs.Prelude.{IfSome, pos, neg_ℤ, ◌≤ℤ◌};
-    ghost use Rattle.spef_read.specs.Meaning.{State, IsScale};
+    ghost use Rattle.spef_read.specs.Meaning.{State};
+    ghost use Rattle.xt_number.specs.Quantities.{IsScale};
 
     ghost Value = { State };
 
@@ -110,7 +111,7 @@ impl<'a> Progress<'a> {
     pub fn new(alloc: Global, key: TextKey) -> Progress<'a>
         ensures { result ≡ nothing }
     {
-        let first = Name { number: 0 };
+        let first = NameId { number: 0 };
         Progress {
             marks: Marks {
                 divider: b'/',
@@ -254,16 +255,16 @@ impl<'a> Progress<'a> {
 
     /// The name of a node.
     #[tactic(auto, unfolding(crate::specs::Meaning::node))]
-    fn node(&mut self, alloc: Global, word: &'a [u8]) -> Result<Name, Stop>
+    fn node(&mut self, alloc: Global, word: &'a [u8]) -> Result<NameId, Stop>
         ensures { Answers result self.new (node word.entry.now self.old) }
     {
         whole_name(self.marks, &mut self.map, word, &mut self.made)?;
         if let Some((number, _)) = self.names.find(&self.made) {
-            return Ok(Name { number });
+            return Ok(NameId { number });
         }
         let number = self.names.len();
         self.names.set(alloc, &self.made, None)?;
-        Ok(Name { number })
+        Ok(NameId { number })
     }
 
     /// The name of a net.
@@ -285,7 +286,7 @@ impl<'a> Progress<'a> {
             return Err(Stop::NoMemory);
         };
         self.names.set(alloc, &self.made, Some(net))?;
-        self.net = Name { number };
+        self.net = NameId { number };
         Ok(())
     }
 

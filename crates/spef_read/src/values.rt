@@ -1,8 +1,9 @@
 //! Units and values.
 
 ghost use Rattle.std.specs.Prelude.{◌≡◌, ℤ, pos, ◌≤ℤ◌, IfSome, IfOk};
-ghost use Rattle.spef_read.specs.Meaning.{is_same, one_of, unit_power, value_of, IsScale};
+ghost use Rattle.spef_read.specs.Meaning.{is_same, one_of, unit_power, value_of};
 ghost use Rattle.text_forms.specs.Stops.{Computes};
+ghost use Rattle.xt_number.specs.Quantities.{IsScale};
 
 use crate::item::Quantity;
 use crate::words::counted;
