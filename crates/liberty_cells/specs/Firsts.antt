@@ -1,6 +1,7 @@
 -- The pins of a cell that come from one group of the text.
-use Rattle.std.specs.Prelude.{◌≡◌, ℕ, ◌≤◌, List, length, Some}
-use Rattle.std.specs.List.{slice_get}
+use Rattle.std.specs.Prelude.{◌≡◌, ℕ, ◌+◌, ◌<◌, ◌≤◌, List, length, Some}
+use Rattle.std.specs.List.{slice_get, slice_index}
+use Rattle.std.specs.List.Sorted.{IsNonDecreasing}
 use Rattle.liberty_cells.specs.Pins.{PinParts, pin_named}
 
 -- pins that differ in their names alone
@@ -12,11 +13,14 @@ pub record IsFirst (pins : List PinParts) (place first : ℕ) : Type 0 where
   pub least : first ≤ place
   pub alike : (p q : PinParts) → slice_get pins first ≡ Some p → slice_get pins place ≡ Some q → AreAlike p q
 
--- for each pin the place of one that is alike
-pub record AreFirsts (pins : List PinParts) (firsts : List ℕ) : Type 0 where
-  pub count : length firsts ≡ length pins
-  pub each : (place first : ℕ) → slice_get firsts place ≡ Some first → IsFirst pins place first
+-- of these places number i is the last that is no later than a place
+pub record IsLast (firsts : List ℕ) (place i : ℕ) : Type 0 where
+  pub there : i < length firsts
+  pub least : slice_index firsts i ≤ place
+  pub next : i + 1 < length firsts → place < slice_index firsts (i + 1)
 
--- some of the places of pins that are alike; a pin without one is like itself
-abbrev pub TellFirsts : List PinParts → List ℕ → Type 0
-TellFirsts pins firsts = (place first : ℕ) → slice_get firsts place ≡ Some first → IsFirst pins place first
+-- places of pins, to the last of which before it each pin is alike
+pub record AreFirsts (pins : List PinParts) (firsts : List ℕ) : Type 0 where
+  pub rising : IsNonDecreasing firsts
+  pub most : (i : ℕ) → i < length firsts → slice_index firsts i ≤ length pins
+  pub each : (place i : ℕ) → place < length pins → IsLast firsts place i → IsFirst pins place (slice_index firsts i)

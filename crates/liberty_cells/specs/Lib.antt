@@ -2,6 +2,7 @@ pub mod Names
 pub mod Kinds
 pub mod Timings
 pub mod Pins
+pub mod Facts
 pub mod Firsts
 pub mod Cells
 pub mod Library

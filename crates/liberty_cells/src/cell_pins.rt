@@ -2,8 +2,8 @@ use crate::pin::Pin;
 use std::marker::Model;
 
 /// The pins of a cell in the order of the text; contracts see the list of them. The pins of one group of the text
-/// differ in their names alone, and of each the place of the first of them is kept: what they have in common need be
-/// looked at only there. Where each pin is the first of its group no place is kept.
+/// differ in their names alone, and the place of the first of them is kept: what they have in common need be looked at
+/// only there. Where each pin is the first of its group no place is kept.
 #[derive(Drop)]
 pub struct CellPins {
     pins: Vec<Pin>,
@@ -13,33 +13,25 @@ pub struct CellPins {
 impl Model for CellPins {
     ghost use Rattle.std.specs.Prelude.{List};
     ghost use Rattle.liberty_cells.specs.Pins.{PinParts};
-    ghost use Rattle.liberty_cells.specs.Firsts.{TellFirsts};
+    ghost use Rattle.liberty_cells.specs.Firsts.{AreFirsts};
 
     ghost Value = { List PinParts };
 
     ghost view = { λ c. c.pins.items };
 
-    ghost invariant = { λ c. TellFirsts c.pins.items c.firsts.items };
-}
-
-/// Whether each place is that of the pin itself.
-fn are_own(firsts: &[usize]) -> bool {
-    firsts
-        .iter()
-        .enumerate()
-        .all(|(place, first)| place == *first)
+    ghost invariant = { λ c. AreFirsts c.pins.items c.firsts.items };
 }
 
 impl CellPins {
     ghost use Rattle.std.specs.Prelude.{◌≡◌, ◌<◌, length};
-    ghost use Rattle.liberty_cells.specs.Firsts.{IsFirst, AreFirsts};
+    ghost use Rattle.liberty_cells.specs.Firsts.{AreFirsts, IsFirst};
 
-    /// Pins, each with the place of the first of its group.
+    /// Pins, with the places of the first pins of their groups.
     pub fn new(mut pins: Vec<Pin>, mut firsts: Vec<usize>) -> CellPins
         requires { AreFirsts pins.items firsts.items }
         ensures { result ≡ pins.items }
     {
-        if are_own(&firsts) {
+        if firsts.len() == pins.len() {
             firsts.clear();
         }
         pins.shrink_to_fit();
@@ -66,9 +58,9 @@ impl CellPins {
         requires { place < length self.now }
         ensures { IsFirst self.now place result }
     {
-        match self.firsts.get(place) {
-            Some(first) => *first,
-            None => place,
+        match self.firsts.binary_search(&place) {
+            Err(after) if 0 < after => self.firsts[after - 1],
+            _ => place,
         }
     }
 }

@@ -6,6 +6,7 @@ mod cell_pins;
 mod cells;
 mod kinds;
 mod library;
+mod library_text;
 mod names;
 mod pin;
 mod pins;

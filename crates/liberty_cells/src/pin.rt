@@ -13,52 +13,47 @@ pub enum Role {
     Other,
 }
 
-/// A pin of a cell: its capacitance in aF, and its timing groups in the order of the text. The pins of one group of the
-/// text share the timing groups, which are kept once; where there is none nothing is kept.
+/// What a group of the text says of its pins, besides their names: their capacitance in aF, and their timing groups in
+/// the order of the text.
+#[derive(Drop)]
+pub struct PinFacts {
+    pub role: Role,
+    pub cap: i64,
+    pub timings: Row<Timing>,
+}
+
+/// A pin of a cell: its capacitance in aF, and its timing groups in the order of the text. What the pins of one group
+/// of the text have in common is kept once.
 #[derive(Drop)]
 pub struct Pin {
     name: Name,
-    role: Role,
-    cap: i64,
-    timings: Option<Rc<Row<Timing>>>,
+    facts: Rc<PinFacts>,
 }
 
 impl Model for Pin {
-    ghost use Rattle.std.specs.Prelude.{[], option_map, unwrap_or};
     ghost use Rattle.liberty_cells.specs.Pins.{PinParts};
 
     ghost Value = { PinParts };
 
     ghost view = { λ p. record {
       name = p.name;
-      role = p.role;
-      cap = p.cap;
-      timings = unwrap_or (option_map (λ timings. timings.value) p.timings) [];
+      role = p.facts.value.role;
+      cap = p.facts.value.cap;
+      timings = p.facts.value.timings;
     } };
 }
 
 impl Pin {
     ghost use Rattle.std.specs.Prelude.{◌≡◌, IfOk};
-    ghost use Rattle.liberty_cells.specs.Pins.{pin_named};
+    ghost use Rattle.liberty_cells.specs.Facts.{pin_of};
 
     /// A pin by its name and what its group says.
-    pub fn new(
-        name: Name,
-        role: Role,
-        cap: i64,
-        timings: &Rc<Row<Timing>>,
-    ) -> Result<Pin, AllocError>
-        ensures { IfOk result (λ pin. pin ≡ pin_named role cap timings.now.value name) }
+    pub fn new(name: Name, facts: &Rc<PinFacts>) -> Result<Pin, AllocError>
+        ensures { IfOk result (λ pin. pin ≡ pin_of facts.now.value name) }
     {
-        let timings = match timings.as_slice() {
-            [] => None,
-            _ => Some(timings.clone()?),
-        };
         Ok(Pin {
             name,
-            role,
-            cap,
-            timings,
+            facts: facts.clone()?,
         })
     }
 
@@ -73,23 +68,20 @@ impl Pin {
     pub fn role(&self) -> Role
         ensures { result ≡ self.now.role }
     {
-        self.role
+        self.facts.role
     }
 
     /// The capacitance, in aF.
     pub fn cap(&self) -> i64
         ensures { result ≡ self.now.cap }
     {
-        self.cap
+        self.facts.cap
     }
 
     /// The timing groups.
     pub fn timings(&self) -> &[Timing]
         ensures { result.now ≡ self.now.timings }
     {
-        match &self.timings {
-            Some(timings) => timings.as_slice(),
-            None => &[],
-        }
+        self.facts.timings.as_slice()
     }
 }

@@ -9,9 +9,12 @@ ghost use Rattle.xt_number.specs.Quantities.{IsScale};
 
 use crate::cells::cells_of;
 use crate::library::Library;
+use crate::library_text::LibraryText;
+use crate::pin::{PinFacts, Role};
 use liberty_groups::{Group, read_groups};
 use liberty_tables::{templates_of, units_of};
 use std::alloc::Global;
+use std::rc::Rc;
 use xt_lex::{MOST_BYTES, TextFault};
 use xt_model::Row;
 
@@ -24,7 +27,18 @@ fn library_in(alloc: Global, bytes: &[u8], group: &Group) -> Result<Library, Tex
     let scales = units_of(alloc, bytes, group)?;
     let templates = templates_of(alloc, bytes, scales, group)?;
     let mut tables = Vec::new(alloc);
-    let cells = cells_of(alloc, bytes, scales, &templates, group, &mut tables)?;
+    let no_facts = PinFacts {
+        role: Role::Other,
+        cap: 0,
+        timings: Row::from_vec(Vec::new(alloc)),
+    };
+    let text = LibraryText {
+        bytes,
+        scales,
+        templates: &templates,
+        no_facts: Rc::new(alloc, no_facts)?,
+    };
+    let cells = cells_of(alloc, &text, group, &mut tables)?;
     Ok(Library {
         time_scale: scales.time,
         cap_scale: scales.cap,

@@ -3,20 +3,17 @@
 ghost use Rattle.std.specs.Prelude.{◌≡◌, option_map, IfOk};
 ghost use Rattle.liberty_groups.specs.Trees.{tree_of, entry_of, groups_of};
 ghost use Rattle.text_forms.specs.Stops.{Gives};
-ghost use Rattle.liberty_tables.specs.Units.{AreScales};
 ghost use Rattle.text_forms.specs.Refusals.{over};
 ghost use Rattle.liberty_cells.specs.Timings.{with_table, related_of, add_table, lacks_table, does_not_fit};
 ghost use Rattle.liberty_cells.specs.Timings.{empty_timing, read_tables, timing_of, timings_of};
 
+use crate::library_text::LibraryText;
 use crate::pin::Role;
 use crate::related::RelatedNames;
 use crate::timing::{TableUse, Timing, TimingKind};
 use crate::values::{kind_of, sense_of};
 use liberty_groups::{Attribute, Group};
-use liberty_tables::{
-    Scales, Template, attribute, first_named, has_group, only, table_of, text_in,
-};
-use name_numbers::NameTable;
+use liberty_tables::{attribute, first_named, has_group, only, table_of, text_in};
 use std::alloc::{AllocError, Global};
 use xt_lex::TextFault;
 use xt_model::{Code, Row, Table};
@@ -60,22 +57,27 @@ fn related_of(
 #[tactic(auto, unfolding(crate::specs::Timings::add_table))]
 fn add_table(
     alloc: Global,
-    bytes: &[u8],
+    text: &LibraryText,
     is_delay: bool,
-    scales: Scales,
-    templates: &NameTable<Template>,
     group: &Group,
     tables: &mut Vec<Table>,
     timing: &mut Timing,
 ) -> Result<(), TextFault>
-    requires { AreScales scales }
     ensures { Gives (λ u. (tables.new.items, timing.new)) result
-        (add_table bytes.now is_delay scales templates.now (tree_of group.now) (tables.old.items, timing.old)) }
+        (add_table text.now.bytes.now is_delay text.now.scales text.now.templates.now (tree_of group.now)
+        (tables.old.items, timing.old)) }
 {
-    let Some(place) = TableUse::named(is_delay, text_in(bytes, group.name())) else {
+    let Some(place) = TableUse::named(is_delay, text_in(text.bytes, group.name())) else {
         return Ok(());
     };
-    let table = table_of(alloc, bytes, is_delay, scales, templates, group)?;
+    let table = table_of(
+        alloc,
+        text.bytes,
+        is_delay,
+        text.scales,
+        text.templates,
+        group,
+    )?;
     let Ok(number) = u32::try_from(tables.len()) else {
         return Err(TextFault::NoMemory);
     };
@@ -87,24 +89,19 @@ fn add_table(
 /// The tables of a timing group that is an arc or a check.
 fn add_tables(
     alloc: Global,
-    bytes: &[u8],
+    text: &LibraryText,
     is_delay: bool,
-    scales: Scales,
-    templates: &NameTable<Template>,
     group: &Group,
     tables: &mut Vec<Table>,
     timing: &mut Timing,
 ) -> Result<(), TextFault>
-    requires { AreScales scales }
     ensures { Gives (λ u. (tables.new.items, timing.new)) result
-        (over (add_table bytes.now is_delay scales templates.now) (groups_of (tree_of group.now))
-        (tables.old.items, timing.old)) }
+        (over (add_table text.now.bytes.now is_delay text.now.scales text.now.templates.now)
+        (groups_of (tree_of group.now)) (tables.old.items, timing.old)) }
 {
     let mut rest = group.inner();
     'tables: while let [table, more @ ..] = rest {
-        add_table(
-            alloc, bytes, is_delay, scales, templates, table, tables, timing,
-        )?;
+        add_table(alloc, text, is_delay, table, tables, timing)?;
         rest = more;
     }
     Ok(())
@@ -128,39 +125,27 @@ fn does_not_fit(bytes: &[u8], kind: TimingKind, has_related: bool, group: &Group
 /// The tables of a timing group, where they are read.
 fn read_tables(
     alloc: Global,
-    bytes: &[u8],
-    scales: Scales,
-    templates: &NameTable<Template>,
+    text: &LibraryText,
     group: &Group,
     has_related: bool,
     tables: &mut Vec<Table>,
     timing: &mut Timing,
 ) -> Result<(), TextFault>
-    requires { AreScales scales }
     ensures { Gives (λ u. (tables.new.items, timing.new)) result
-        (read_tables bytes.now scales templates.now (tree_of group.now) has_related
+        (read_tables text.now.bytes.now text.now.scales text.now.templates.now (tree_of group.now) has_related
         (tables.old.items, timing.old)) }
 {
     let kind = timing.kind;
     if !kind.is_read() {
         return Ok(());
     }
-    if does_not_fit(bytes, kind, has_related, group) {
+    if does_not_fit(text.bytes, kind, has_related, group) {
         return Err(TextFault::Refused {
             line: group.line(),
             code: Code::L4,
         });
     }
-    add_tables(
-        alloc,
-        bytes,
-        kind.is_delay(),
-        scales,
-        templates,
-        group,
-        tables,
-        timing,
-    )
+    add_tables(alloc, text, kind.is_delay(), group, tables, timing)
 }
 
 /// A timing group without its tables.
@@ -190,31 +175,20 @@ fn empty_timing(
 #[tactic(auto, unfolding(crate::specs::Timings::timing_of))]
 fn timing_of(
     alloc: Global,
-    bytes: &[u8],
-    scales: Scales,
-    templates: &NameTable<Template>,
+    text: &LibraryText,
     role: Role,
     group: &Group,
     tables: &mut Vec<Table>,
 ) -> Result<Timing, TextFault>
-    requires { AreScales scales }
     ensures { Gives (λ timing. (tables.new.items, timing)) result
-        (timing_of bytes.now scales templates.now role (tree_of group.now) tables.old.items) }
+        (timing_of text.now.bytes.now text.now.scales text.now.templates.now role (tree_of group.now)
+        tables.old.items) }
 {
-    let named = attribute(bytes, b"related_pin", group);
+    let named = attribute(text.bytes, b"related_pin", group);
     let has_related = named.is_some();
-    let related = related_of(alloc, bytes, named)?;
-    let mut timing = empty_timing(alloc, bytes, role, related, group)?;
-    read_tables(
-        alloc,
-        bytes,
-        scales,
-        templates,
-        group,
-        has_related,
-        tables,
-        &mut timing,
-    )?;
+    let related = related_of(alloc, text.bytes, named)?;
+    let mut timing = empty_timing(alloc, text.bytes, role, related, group)?;
+    read_tables(alloc, text, group, has_related, tables, &mut timing)?;
     Ok(timing)
 }
 
@@ -222,21 +196,19 @@ fn timing_of(
 #[tactic(auto, unfolding(crate::specs::Timings::timings_of))]
 pub fn timings_of(
     alloc: Global,
-    bytes: &[u8],
-    scales: Scales,
-    templates: &NameTable<Template>,
+    text: &LibraryText,
     role: Role,
     group: &Group,
     tables: &mut Vec<Table>,
 ) -> Result<Row<Timing>, TextFault>
-    requires { AreScales scales }
     ensures { Gives (λ timings. (tables.new.items, timings)) result
-        (timings_of bytes.now scales templates.now role (tree_of group.now) tables.old.items) }
+        (timings_of text.now.bytes.now text.now.scales text.now.templates.now role (tree_of group.now)
+        tables.old.items) }
 {
     let mut timings = Vec::new(alloc);
     let mut rest = group.inner();
-    'timings: while let Some((inner, more)) = first_named(bytes, b"timing", rest) {
-        let timing = timing_of(alloc, bytes, scales, templates, role, inner, tables)?;
+    'timings: while let Some((inner, more)) = first_named(text.bytes, b"timing", rest) {
+        let timing = timing_of(alloc, text, role, inner, tables)?;
         timings.push(timing)?;
         rest = more;
     }

@@ -1,7 +1,7 @@
 //! What may come next.
 
 /// What may come next in a library; the number is how many groups are open.
-#[derive(Clone, Copy, Debug, PartialEq, Eq)]
+#[derive(Clone, Copy)]
 pub enum Context {
     /// The start of the text: `library (`.
     Start,

@@ -4,7 +4,7 @@ use crate::context::Context;
 use crate::span::Span;
 
 /// The item that a form gives.
-#[derive(Clone, Copy, Debug, PartialEq, Eq)]
+#[derive(Clone, Copy)]
 pub enum Item {
     Nothing,
     /// The name of an attribute or a group, and its line.

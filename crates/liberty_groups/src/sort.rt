@@ -8,7 +8,7 @@ use xt_lex::Kind;
 use xt_model::Code;
 
 /// What a token is to the grammar. A token of another sort than these fits nowhere.
-#[derive(Clone, Copy, Debug, PartialEq, Eq)]
+#[derive(Clone, Copy)]
 pub enum Sort {
     /// The word `library`.
     Library,

@@ -9,10 +9,10 @@ use Rattle.liberty_cells.proofs.cells.cells_of.Given as goal
 abbrev pub invariant-cells : goal.invariant-cells
 invariant-cells l = record {
   seen : names_of l.cells.items ≡ l.seen;
-  exact : over (add_cell l.bytes l.scales l.templates) (named_among l.bytes (codes "cell") l.rest)
+  exact : over (add_cell l.text.bytes.now l.text.scales l.text.templates.now) (named_among l.text.bytes.now (codes "cell") l.rest)
       (l.tables.items, l.cells.items)
-      ≡ cells_of l.bytes l.scales l.templates (tree_of l.library);
+      ≡ cells_of l.text.bytes.now l.text.scales l.text.templates.now (tree_of l.library);
 }
 
 abbrev pub decreases-cells : goal.decreases-cells
-decreases-cells l = length (named_among l.bytes (codes "cell") l.rest)
+decreases-cells l = length (named_among l.text.bytes.now (codes "cell") l.rest)

@@ -4,5 +4,5 @@ use Rattle.liberty_cells.proofs.pins.add_pins.Goals as goal
 
 pub returns-clause-firsts : goal.returns-clause-firsts
 returns-clause-firsts c =
-    group_entered _ _ _ c.args.pins.now.items c.add_named.new.pins.items c.args.firsts.now.items c.resize.new.self.items _ c.len-first.result c.len.result _ c.requires.firsts c.in_ok-add_named.ensures
-    (c.len-first.ensures ∙ c.args.pins.now.ok.0) (c.len.ensures ∙ c.add_named.new.pins.ok.0) c.args.firsts.now.ok.0 c.in_ok-resize.ensures.items
+    group_entered _ _ _ c.args.pins.now.items c.add_named.new.pins.items c.args.firsts.now.items c.push.new.self.items _ c.len.result c.requires.firsts c.in_ok-add_named.ensures
+    (c.len.ensures ∙ c.args.pins.now.ok.0) c.in_ok-push.ensures.items

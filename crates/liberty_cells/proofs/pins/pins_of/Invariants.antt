@@ -10,11 +10,11 @@ use Rattle.liberty_cells.proofs.pins.pins_of.Given as goal
 
 abbrev pub invariant-pins : goal.invariant-pins
 invariant-pins l = record {
-  exact : over (add_pins l.bytes l.scales l.templates) (named_among l.bytes (codes "pin") l.rest)
+  exact : over (add_pins l.text.bytes.now l.text.scales l.text.templates.now) (named_among l.text.bytes.now (codes "pin") l.rest)
       (l.tables.items, l.pins.items)
-      ≡ pins_of l.bytes l.scales l.templates (tree_of l.group) l.fn.tables.items;
+      ≡ pins_of l.text.bytes.now l.text.scales l.text.templates.now (tree_of l.group) l.fn.tables.items;
   firsts : AreFirsts l.pins.items l.firsts.items;
 }
 
 abbrev pub decreases-pins : goal.decreases-pins
-decreases-pins l = length (named_among l.bytes (codes "pin") l.rest)
+decreases-pins l = length (named_among l.text.bytes.now (codes "pin") l.rest)

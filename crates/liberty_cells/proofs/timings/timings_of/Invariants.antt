@@ -8,9 +8,9 @@ use Rattle.liberty_cells.proofs.timings.timings_of.Given as goal
 
 abbrev pub invariant-timings : goal.invariant-timings
 invariant-timings l =
-    over (add_timing l.bytes l.scales l.templates l.role) (named_among l.bytes (codes "timing") l.rest)
+    over (add_timing l.text.bytes.now l.text.scales l.text.templates.now l.role) (named_among l.text.bytes.now (codes "timing") l.rest)
     (l.tables.items, l.timings.items)
-    ≡ timings_of l.bytes l.scales l.templates l.role (tree_of l.group) l.fn.tables.items
+    ≡ timings_of l.text.bytes.now l.text.scales l.text.templates.now l.role (tree_of l.group) l.fn.tables.items
 
 abbrev pub decreases-timings : goal.decreases-timings
-decreases-timings l = length (named_among l.bytes (codes "timing") l.rest)
+decreases-timings l = length (named_among l.text.bytes.now (codes "timing") l.rest)
