@@ -14,7 +14,7 @@ use liberty_cells::Library;
 use link_index::{CellIndex, NetIndex};
 use link_pins::{check_counts, check_instances, join};
 use link_rules::{Circuit, LinkFault};
-use link_wires::{NetWire, wires};
+use link_wires::{KeptWire, wires};
 use sdc_read::Constraints;
 use spef_read::Parasitics;
 use std::alloc::Global;
@@ -24,7 +24,7 @@ use verilog_net::Netlist;
 #[derive(Drop)]
 pub struct Gathered {
     pub circuit: Circuit,
-    pub wires: Vec<NetWire>,
+    pub wires: Vec<KeptWire>,
 }
 
 /// The pins and the wires that four values come to, or the first fault up to the sizes of the design, where the counts

@@ -10,9 +10,9 @@ ghost use Rattle.design_link.specs.Nets.{plain_sink, net_by, Fits, FitAll, IsMad
 
 use elmore_tree::{SinkForm, WireForm};
 use link_rules::{NetPins, Sink};
-use link_wires::{NetWire, form};
+use link_wires::{KeptWire, form};
 use std::alloc::{AllocError, Global};
-use xt_model::{Coupling, GivenPair, Net, Row, SinkPin};
+use xt_model::{Coupling, Net, Row, SinkPin};
 
 /// A sink with the sums of its wire.
 fn sink_pin(sink: Sink, form: SinkForm) -> SinkPin
@@ -67,11 +67,10 @@ fn formed_net(
     if pins.sinks.len() > u32::MAX as usize {
         return Err(AllocError);
     }
-    let given = GivenPair::new(alloc, pins.given)?;
     let NetPins {
         name,
         input,
-        given: _,
+        given,
         driver: _,
         sinks,
         arcs,
@@ -90,12 +89,12 @@ fn formed_net(
 }
 
 /// A net by its pins with its wire. More sinks than fit 32 bits are out of memory.
-fn net_of(alloc: Global, pins: NetPins, wire: NetWire) -> Result<Net, AllocError>
+fn net_of(alloc: Global, pins: NetPins, wire: KeptWire) -> Result<Net, AllocError>
     requires { Fits pins wire }
     ensures { IfOk result (IsMade pins wire) }
 {
     let form = form(alloc, &wire)?;
-    let NetWire { couplings, tree: _ } = wire;
+    let couplings = wire.into_couplings(alloc);
     formed_net(alloc, pins, couplings, form)
 }
 
@@ -116,7 +115,7 @@ fn take_last<T: Drop>(items: &mut Vec<T>) -> Option<T>
 pub fn nets_of(
     alloc: Global,
     mut circuit: Vec<NetPins>,
-    mut wires: Vec<NetWire>,
+    mut wires: Vec<KeptWire>,
 ) -> Result<Vec<Net>, AllocError>
     requires { FitAll circuit.items wires.items }
     ensures { IfOk result (λ nets. AreMade circuit.items wires.items nets.items) }

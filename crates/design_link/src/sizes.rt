@@ -12,7 +12,7 @@ ghost use Rattle.design_link.specs.Sizes.{plain_nets, couplings_in, couplings_su
 use liberty_cells::Library;
 use link_pins::Counts;
 use link_rules::{LinkFault, NetPins};
-use link_wires::NetWire;
+use link_wires::KeptWire;
 use xt_model::limits::{
     MOST_ARCS, MOST_CHECKS, MOST_COEFFICIENTS, MOST_COUPLINGS, MOST_READS, MOST_TABLES,
 };
@@ -33,41 +33,41 @@ fn within(what: LimitKind, value: u128, most: usize) -> Result<(), LinkFault>
 }
 
 /// How many couplings wires have in all.
-fn couplings_in_all(wires: &[NetWire]) -> u128
+fn couplings_in_all(wires: &[KeptWire]) -> u128
     ensures { result ≡ couplings_sum wires.now }
 {
     let mut total: u128 = 0;
     for wire in wires {
-        total += wire.couplings.len() as u128;
+        total += wire.coupling_count() as u128;
     }
     total
 }
 
 /// How many wire coefficients the nets have in all.
-fn coefficients_in_all(nets: &[NetPins], wires: &[NetWire]) -> u128
+fn coefficients_in_all(nets: &[NetPins], wires: &[KeptWire]) -> u128
     requires count { length wires.now ≡ length nets.now }
     requires few { couplings_sum wires.now ≤ most_couplings }
     ensures { result ≡ sum_by coefficients_of (plain_nets nets.now wires.now) }
 {
     let mut total: u128 = 0;
     for (k, pins) in nets.iter().enumerate() {
-        total += pins.sinks.len() as u128 * wires[k].couplings.len() as u128;
+        total += pins.sinks.len() as u128 * wires[k].coupling_count() as u128;
     }
     total
 }
 
 /// How many couplings the net of this number has.
-fn couplings_of(wires: &[NetWire], net: NetId) -> usize
+fn couplings_of(wires: &[KeptWire], net: NetId) -> usize
     ensures { result ≡ couplings_in wires.now net.0 }
 {
     match wires.get(net.0 as usize) {
-        Some(wire) => wire.couplings.len(),
+        Some(wire) => wire.coupling_count(),
         None => 0,
     }
 }
 
 /// How many nets and couplings one evaluation of a net with `own` couplings and these arcs looks at.
-fn reads_for(wires: &[NetWire], own: usize, arcs: &[TimingArc]) -> u128
+fn reads_for(wires: &[KeptWire], own: usize, arcs: &[TimingArc]) -> u128
     ensures value { (d : Parts) → ((k : ℕ) → couplings_at d k ≡ couplings_in wires.now k)
         → result ≡ reads_by d own arcs.now }
     ensures most { result ≤ length arcs.now * 2 ^ 65 }
@@ -83,14 +83,14 @@ fn reads_for(wires: &[NetWire], own: usize, arcs: &[TimingArc]) -> u128
 }
 
 /// How many nets and couplings one evaluation of every net looks at.
-fn reads_in_all(nets: &[NetPins], wires: &[NetWire]) -> u128
+fn reads_in_all(nets: &[NetPins], wires: &[KeptWire]) -> u128
     requires count { length wires.now ≡ length nets.now }
     requires few { arcs_sum nets.now ≤ most_arcs }
     ensures { (d : Parts) → d.nets ≡ plain_nets nets.now wires.now → result ≡ sum_by (reads_of d) d.nets }
 {
     let mut total: u128 = 0;
     for (k, pins) in nets.iter().enumerate() {
-        total += reads_for(wires, wires[k].couplings.len(), pins.arcs.as_slice());
+        total += reads_for(wires, wires[k].coupling_count(), pins.arcs.as_slice());
     }
     total
 }
@@ -100,7 +100,7 @@ fn reads_in_all(nets: &[NetPins], wires: &[NetWire]) -> u128
 pub fn check_sizes(
     library: &Library,
     nets: &[NetPins],
-    wires: &[NetWire],
+    wires: &[KeptWire],
     counts: Counts,
 ) -> Result<(), LinkFault>
     requires { length wires.now ≡ length nets.now }
@@ -120,7 +120,7 @@ pub fn check_sizes(
 }
 
 /// Tests how many nets and couplings one evaluation of every net looks at.
-pub fn check_reads(nets: &[NetPins], wires: &[NetWire]) -> Result<(), LinkFault>
+pub fn check_reads(nets: &[NetPins], wires: &[KeptWire]) -> Result<(), LinkFault>
     requires count { length wires.now ≡ length nets.now }
     requires few { arcs_sum nets.now ≤ most_arcs }
     ensures { (d : Parts) → d.nets ≡ plain_nets nets.now wires.now → Tests (reads_fault d) result }

@@ -6,7 +6,7 @@ use Rattle.verilog_net.specs.declared.netlist.Instance.{Instance}
 use Rattle.verilog_net.specs.declared.netlist.Netlist.{Netlist}
 use Rattle.verilog_net.specs.declared.netlist.Wire.{Wire}
 use Rattle.verilog_net.specs.Nets.{Nets}
-use Rattle.xt_model.specs.Limits.{most_nets}
+use Rattle.xt_model.specs.Limits.{most_nets, most_instances}
 use Rattle.verilog_net.specs.Bits.{bits}
 use Rattle.verilog_net.specs.Sound.{IsSoundNetlist}
 use Rattle.link_index.specs.declared.wires.PinWires.{PinWires}
@@ -29,14 +29,16 @@ pub record HaveWires (pins wires : List (Text × Wire)) : Type 0 where
 abbrev pub AreWired : List (Text × Wire) → PinWires → Type 0
 AreWired pins w = All (HaveWires pins) w.tables.items
 
--- what is kept beside a netlist: the first bit of each net, the names of the bits, the numbers of the instances and
--- the wires of each
-pub record IsIndex (n : Netlist) (firsts : List ℕ) (table : List (Text × Unit {0})) (numbers : List (Text × ℕ))
-    (pins : List PinWires) : Type 0 where
+-- what is kept beside a netlist: the first bit of each net and the names of the bits
+pub record IsIndex (n : Netlist) (firsts : List ℕ) (table : List (Text × Unit {0})) : Type 0 where
   pub sound : IsSoundNetlist n
   pub most : length (bits n.nets) ≤ most_nets
+  pub few : length n.instances ≤ most_instances
   pub starts : AreStarts n.nets firsts
   pub names : HasNames n.nets table
   pub spelled : AreNames table
+
+-- what is kept of the instances of a netlist: the numbers of their names and the wires of each
+pub record HaveInstances (n : Netlist) (numbers : List (Text × ℕ)) (pins : List PinWires) : Type 0 where
   pub instances : HaveNumbers n.instances numbers
   pub wires : AllZip (λ i. AreWired i.pins) n.instances pins

@@ -4,22 +4,17 @@ ghost use Rattle.std.specs.Prelude.{◌≡◌};
 
 use crate::bits::{net_at, starts};
 use crate::names::names_of;
-use crate::split::split_last;
-use crate::wires::{PinWires, all_wires, numbers_of};
-use name_numbers::{NameTable, Named};
+use name_numbers::NameTable;
 use std::alloc::{AllocError, Global};
 use std::marker::Model;
-use verilog_net::{Netlist, Wire};
+use verilog_net::{Instance, Netlist, Wire};
 
-/// A netlist whose nets are found by hash: by bits, by names, by pins of instances. Contracts see the netlist. No
-/// look-up takes memory.
+/// A netlist whose nets are found by bits and, by hash, by names. Contracts see the netlist. No look-up takes memory.
 #[derive(Drop)]
 pub struct NetIndex<'a> {
     netlist: &'a Netlist,
     starts: Vec<u32>,
     names: NameTable<()>,
-    instances: Named<'a, u32>,
-    wires: Vec<PinWires<'a>>,
 }
 
 impl<'a> Model for NetIndex<'a> {
@@ -30,7 +25,7 @@ impl<'a> Model for NetIndex<'a> {
 
     ghost view = { λ i. i.netlist.now };
 
-    ghost invariant = { λ i. IsIndex i.netlist.now i.starts.items i.names i.instances i.wires.items };
+    ghost invariant = { λ i. IsIndex i.netlist.now i.starts.items i.names };
 }
 
 impl<'a> NetIndex<'a> {
@@ -40,11 +35,11 @@ impl<'a> NetIndex<'a> {
     ghost use Rattle.xt_model.specs.Names.{IsName};
     ghost use Rattle.verilog_net.specs.Bits.{bits};
     ghost use Rattle.link_rules.specs.Bits.{net_of};
-    ghost use Rattle.link_rules.specs.Nodes.{net_named, pin_net, node_net};
+    ghost use Rattle.link_rules.specs.Nodes.{net_named};
     ghost use Rattle.verilog_net.specs.Sound.{IsSoundNetlist};
 
     /// The index of a netlist with at most 262,144 bits and instances. Takes time and memory in proportion to the names
-    /// of bits, the instances and their pins.
+    /// of bits.
     pub fn new(alloc: Global, netlist: &'a Netlist) -> Result<NetIndex<'a>, AllocError>
         requires sound { IsSoundNetlist netlist.now }
         requires nets { length (bits netlist.now.nets) ≤ most_nets }
@@ -53,15 +48,10 @@ impl<'a> NetIndex<'a> {
     {
         let starts = starts(alloc, &netlist.nets)?;
         let names = names_of(alloc, netlist)?;
-        let key = netlist.nets.key();
-        let instances = numbers_of(alloc, key, netlist.instances.as_slice())?;
-        let wires = all_wires(alloc, key, netlist.instances.as_slice())?;
         Ok(NetIndex {
             netlist,
             starts,
             names,
-            instances,
-            wires,
         })
     }
 
@@ -71,6 +61,14 @@ impl<'a> NetIndex<'a> {
         ensures sound { IsSoundNetlist self.now }
     {
         self.netlist
+    }
+
+    /// The instances of the netlist.
+    pub(crate) fn instances(&self) -> &'a [Instance]
+        ensures value { result.now ≡ self.now.instances }
+        ensures few { length self.now.instances ≤ most_instances }
+    {
+        self.netlist.instances.as_slice()
     }
 
     /// How many nets there are.
@@ -108,37 +106,5 @@ impl<'a> NetIndex<'a> {
             Some((net, _)) => Some(net),
             None => None,
         }
-    }
-
-    /// The net on which a pin of an instance is, by both names.
-    fn pin_net(&self, owner: &'a [u8], pin: &'a [u8]) -> Option<u32>
-        ensures { result ≡ pin_net self.now owner.entry.now pin.entry.now }
-    {
-        let Some(number) = self.instances.get(owner) else {
-            return None;
-        };
-        let place = *number as usize;
-        let pins = self.netlist.instances.as_slice()[place].pins.as_slice();
-        match self.wires[place].get(pins, pin) {
-            None => None,
-            Some(wire) => self.net_of(wire),
-        }
-    }
-
-    /// The net of a node of parasitics with this delimiter: that of the pin after the last delimiter, of the instance
-    /// before it; else that of the name before the last delimiter; else that of the whole name.
-    #[tactic(auto, unfolding(link_rules::specs::Nodes::node_net))]
-    pub fn node_net(&self, delimiter: u8, name: &'a [u8]) -> Option<u32>
-        ensures { result ≡ node_net self.now delimiter name.entry.now }
-    {
-        if let Some((before, after)) = split_last(delimiter, name) {
-            if let Some(net) = self.pin_net(before, after) {
-                return Some(net);
-            }
-            if let Some(net) = self.net_named(before) {
-                return Some(net);
-            }
-        }
-        self.net_named(name)
     }
 }

@@ -7,8 +7,8 @@ use Rattle.std.specs.Option.{IsSomeAnd}
 use Rattle.std.specs.Ordering.{nat_cmp}
 use Rattle.std.specs.Result.{MatchResult}
 use Rattle.std.proofs.lemmas.Bool.{cases_eq, cases_lt, false≢true}
-use Rattle.std.proofs.lemmas.List.{get_or-set_same, get_or-set_other, length-set, take_more}
-use Rattle.std.proofs.lemmas.List.Elements.{Contains-append_left, Contains-push}
+use Rattle.std.proofs.lemmas.List.{get_or-set_same, get_or-set_other, length-set, map-append, take_more}
+use Rattle.std.proofs.lemmas.List.Elements.{Contains-append_left, Contains-push, filter-append}
 use Rattle.std.proofs.lemmas.List.Sorted.{searched}
 use Rattle.std.proofs.lemmas.List.Sums.{sum_by-cons, sum_by_push}
 use Rattle.std.proofs.lemmas.Map.Keys.{IsStrictlyIncreasing-dedup, below_from_sorted, non_decreasing_from_sorted, sorted_from_strictly_increasing}
@@ -19,9 +19,10 @@ use Rattle.link_pins.specs.declared.arcs.SinkAt.{SinkAt}
 use Rattle.link_pins.specs.declared.related.PinCount.{PinCount}
 use Rattle.link_pins.specs.declared.related.RelatedPin.{RelatedPin}
 use Rattle.link_pins.specs.Places.{is_sink, AreListed, IsClear}
-use Rattle.link_pins.specs.Related.{TimedPlace, related_of, effect, counted, effects, is_sink_at, places_of, ArePinsOf, IsUncounted, HasPlace, ArePlaced, HaveCounts}
+use Rattle.link_pins.specs.Related.{related_of, effect, counted, effects, is_sink_at, places_of, ArePinsOf, IsUncounted, HasPlace, ArePlaced, HaveCounts}
+use Rattle.link_pins.specs.Timed.{TimedPlace}
 use Rattle.link_pins.proofs.FoundLaws.{Has, to_has, from_has, has_at, has_place, has_left, has_right, has_either, from_flat, to_flat, sorted_once, PassesAt, all_places, place_at, place_has, filtered, places_mapped}
-use Rattle.link_pins.proofs.KeptLaws.{count_more, pushed_at, pushed_related, to_some_and}
+use Rattle.link_pins.proofs.KeptLaws.{count_more, pushed_at, to_some_and}
 use Rattle.link_pins.proofs.PinLaws.{some_and}
 
 -- ---- lists in which one element is another
@@ -74,8 +75,8 @@ none_counted role pins cs are none =
       };
     }
 
-module _ (role : Role) (old new : List RelatedPin) (r : RelatedPin) (push : new ≡ old ++ r ∷ []) (pins : List ℕ) (before after : List PinCount) (at : ℕ) (u y : PinCount)
-    (there : slice_get before at ≡ Some u) (own : u.pin ≡ r.pin) (put : after ≡ set before at y) (pin : y.pin ≡ u.pin) (count : y.count ≡ u.count + effect role r.timing.now)
+module _ (role : Role) (old new : List TimedPlace) (r : TimedPlace) (push : new ≡ old ++ r ∷ []) (pins : List ℕ) (before after : List PinCount) (at : ℕ) (u y : PinCount)
+    (there : slice_get before at ≡ Some u) (own : u.pin ≡ r.1) (put : after ≡ set before at y) (pin : y.pin ≡ u.pin) (count : y.count ≡ u.count + effect role r.0)
     (places : y.places.items ≡ u.places.items ++ length old ∷ []) where
   here : slice_get after at ≡ Some y
   here = ap (λ l. slice_get l at) put ∙ put_same before at u y there
@@ -100,7 +101,7 @@ module _ (role : Role) (old new : List RelatedPin) (r : RelatedPin) (push : new 
     | inr other ↦ record { at = p.at; count = p.count; there = elsewhere p.at p.count other p.there; same = p.same; place = p.place }
   ]
 
-  own_place : HasPlace after r.pin (length old)
+  own_place : HasPlace after r.1 (length old)
   own_place = record {
     at = at;
     count = y;
@@ -112,43 +113,43 @@ module _ (role : Role) (old new : List RelatedPin) (r : RelatedPin) (push : new 
   }
 
   -- a related pin that was there is there
-  kept_pin : (i : ℕ) (v : PinCount) → IsSomeAnd (slice_get old i) (λ (q : RelatedPin). q.pin ≡ v.pin) → IsSomeAnd (slice_get new i) (λ (q : RelatedPin). q.pin ≡ v.pin)
+  kept_pin : (i : ℕ) (v : PinCount) → IsSomeAnd (slice_get old i) (λ (q : TimedPlace). q.1 ≡ v.pin) → IsSomeAnd (slice_get new i) (λ (q : TimedPlace). q.1 ≡ v.pin)
   kept_pin i v h =
-      let q = some_and (slice_get old i) (λ (x : RelatedPin). x.pin ≡ v.pin) h in
-      to_some_and (slice_get new i) (λ (x : RelatedPin). x.pin ≡ v.pin) q.0 (ap (λ l. slice_get l i) push ∙ still_at old r q.0 i q.1) q.2
+      let q = some_and (slice_get old i) (λ (x : TimedPlace). x.1 ≡ v.pin) h in
+      to_some_and (slice_get new i) (λ (x : TimedPlace). x.1 ≡ v.pin) q.0 (ap (λ l. slice_get l i) push ∙ still_at old r q.0 i q.1) q.2
 
   module _ (have : HaveCounts role old pins before) where
-    all_sums : (g : ℕ → Bool) → counted g after ≡ effects g role (map related_of new)
+    all_sums : (g : ℕ → Bool) → counted g after ≡ effects g role new
     all_sums g =
         let f : TimedPlace → ℕ = λ s. cond (g s.1) (effect role s.0) 0 in
         omega (
           arith,
           ap (counted g) put,
-          count_more g before at u y (effect role r.timing.now) there (sym pin) count,
+          count_more g before at u y (effect role r.0) there (sym pin) count,
           have.sums g,
-          ap (sum_by f) (pushed_related old new r push),
-          sum_by_push f (map related_of old) (related_of r),
-          ap (λ n. cond (g n) (effect role r.timing.now) 0) (pin ∙ own),
+          ap (sum_by f) push,
+          sum_by_push f old r,
+          ap (λ n. cond (g n) (effect role r.0) 0) (pin ∙ own),
         )
 
-    none_other : (k i : ℕ) (v : PinCount) → slice_get after k ≡ Some v → Contains v.places.items i → IsSomeAnd (slice_get new i) (λ (q : RelatedPin). q.pin ≡ v.pin)
+    none_other : (k i : ℕ) (v : PinCount) → slice_get after k ≡ Some v → Contains v.places.items i → IsSomeAnd (slice_get new i) (λ (q : TimedPlace). q.1 ≡ v.pin)
     none_other k i v h c = elim (cases_eq k at) [
       | inl same ↦
           let one : y ≡ v = same_Some y v (sym here ∙ (ap (slice_get after) (sym same) ∙ h)) in
           let held : Has (u.places.items ++ length old ∷ []) i =
           to_has (u.places.items ++ length old ∷ []) i (subst (λ l. Contains l i) places (subst (λ (x : PinCount). Contains x.places.items i) (sym one) c)) in
-          let of_pin : IsSomeAnd (slice_get new i) (λ (q : RelatedPin). q.pin ≡ u.pin) = elim (has_either u.places.items (length old ∷ []) i held) [
+          let of_pin : IsSomeAnd (slice_get new i) (λ (q : TimedPlace). q.1 ≡ u.pin) = elim (has_either u.places.items (length old ∷ []) i held) [
             | inl early ↦ kept_pin i u (have.placed.none at i u there (from_has u.places.items i early))
             | inr late ↦ at_last i late
           ] in
-          subst (λ n. IsSomeAnd (slice_get new i) (λ (q : RelatedPin). q.pin ≡ n)) (sym pin ∙ ap (λ (x : PinCount). x.pin) one) of_pin
+          subst (λ n. IsSomeAnd (slice_get new i) (λ (q : TimedPlace). q.1 ≡ n)) (sym pin ∙ ap (λ (x : PinCount). x.pin) one) of_pin
       | inr other ↦
           let was : slice_get before k ≡ Some v = back k v other h in
           kept_pin i v (have.placed.none k i v was c)
     ]
       where
-        at_last : (i : ℕ) → Has (length old ∷ []) i → IsSomeAnd (slice_get new i) (λ (q : RelatedPin). q.pin ≡ u.pin)
-        at_last i (inl e) = to_some_and (slice_get new i) (λ (q : RelatedPin). q.pin ≡ u.pin) r (ap (λ l. slice_get l i) push ∙ (ap (slice_get (old ++ r ∷ [])) (sym e) ∙ last_at old r)) (sym own)
+        at_last : (i : ℕ) → Has (length old ∷ []) i → IsSomeAnd (slice_get new i) (λ (q : TimedPlace). q.1 ≡ u.pin)
+        at_last i (inl e) = to_some_and (slice_get new i) (λ (q : TimedPlace). q.1 ≡ u.pin) r (ap (λ l. slice_get l i) push ∙ (ap (slice_get (old ++ r ∷ [])) (sym e) ∙ last_at old r)) (sym own)
         at_last i (inr h) = absurd h
 
         back : (k : ℕ) (v : PinCount) → k ≢ at → slice_get after k ≡ Some v → slice_get before k ≡ Some v
@@ -165,8 +166,8 @@ module _ (role : Role) (old new : List RelatedPin) (r : RelatedPin) (push : new 
       placed = record {
         same = ap (map (λ (x : PinCount). x.pin)) put ∙ (map_put (λ (x : PinCount). x.pin) before at u y there pin ∙ have.placed.same);
         places = λ i q h. elim (pushed_at old r q i (ap (λ l. slice_get l i) (sym push) ∙ h)) [
-          | inl e ↦ carried q.pin i (have.placed.places i q e.1)
-          | inr e ↦ subst (λ n. HasPlace after q.pin n) (sym e.0) (subst (λ (x : RelatedPin). HasPlace after x.pin (length old)) e.1 own_place)
+          | inl e ↦ carried q.1 i (have.placed.places i q e.1)
+          | inr e ↦ subst (λ n. HasPlace after q.1 n) (sym e.0) (subst (λ (x : TimedPlace). HasPlace after x.1 (length old)) e.1 own_place)
         ];
         none = none_other;
       };
@@ -185,14 +186,24 @@ own_count pins cs are j k h = by (slice_get cs j) refl (sym (slice_get-map (λ (
 pub sorted_rising : (sorted ys : List ℕ) → IsSorted nat_cmp sorted → ys ≡ dedup eqb sorted → IsStrictlyIncreasing ys
 sorted_rising sorted ys up is = subst IsStrictlyIncreasing (sym is) (IsStrictlyIncreasing-dedup sorted up)
 
+-- the place in the cell of a related pin more
+pub pin_next : (rs : List TimedPlace) (i : ℕ) (r : TimedPlace) (cur new : List ℕ) → slice_get rs i ≡ Some r → cur ≡ map (λ (s : TimedPlace). s.1) (take i rs) → new ≡ cur ++ r.1 ∷ []
+    → new ≡ map (λ (s : TimedPlace). s.1) (take (i + 1) rs)
+pin_next rs i r cur new there so_far step =
+    let f : TimedPlace → ℕ = λ s. s.1 in
+    step
+    ∙ (ap (λ l. l ++ r.1 ∷ []) so_far
+    ∙ (sym (map-append f (take i rs) (r ∷ []))
+    ∙ ap (map f) (ap (λ x. take i rs ++ x ∷ []) (sym (get_or_from_slice_get rs i r r there)) ∙ sym (take_more rs i r (slice_get_within rs i r there)))))
+
 -- the places of related pins in the cell, sorted, each once
-pub pins_sorted : (rs : List RelatedPin) (pins sorted ys : List ℕ) → pins ≡ map (λ (r : RelatedPin). r.pin) rs → IsPermutation pins sorted → IsSorted nat_cmp sorted → ys ≡ dedup eqb sorted
-    → All (λ (r : RelatedPin). Contains ys r.pin) rs
+pub pins_sorted : (rs : List TimedPlace) (pins sorted ys : List ℕ) → pins ≡ map (λ (r : TimedPlace). r.1) rs → IsPermutation pins sorted → IsSorted nat_cmp sorted → ys ≡ dedup eqb sorted
+    → All (λ (r : TimedPlace). Contains ys r.1) rs
 pins_sorted rs pins sorted ys are moved up is k d lt =
     let one = get_or rs k d in
-    let there : slice_get pins k ≡ Some one.pin =
-    ap (λ l. slice_get l k) are ∙ (slice_get-map (λ (r : RelatedPin). r.pin) rs k ∙ ap (option_map (λ (r : RelatedPin). r.pin)) (slice_get-get_or rs k d lt)) in
-    from_has ys one.pin ((sorted_once pins sorted ys moved up is).kept one.pin (has_at pins k one.pin there))
+    let there : slice_get pins k ≡ Some one.1 =
+    ap (λ l. slice_get l k) are ∙ (slice_get-map (λ (r : TimedPlace). r.1) rs k ∙ ap (option_map (λ (r : TimedPlace). r.1)) (slice_get-get_or rs k d lt)) in
+    from_has ys one.1 ((sorted_once pins sorted ys moved up is).kept one.1 (has_at pins k one.1 there))
 
 -- ---- what is entered, listed
 
@@ -350,16 +361,7 @@ filter_sum g (u ∷ us) = by (g u.pin) (filter_sum g us) (sum_by-cons (λ (v : P
     by true rest whole = omega (arith, sum_by-cons (λ (x : PinCount). x.count) u (filter (λ (x : PinCount). g x.pin) us), rest, whole)
     by false rest whole = omega (arith, rest, whole)
 
-map_filter : {X Y : Type 0} (f : X → Y) (t : Y → Bool) (xs : List X) → map f (filter (λ x. t (f x)) xs) ≡ filter t (map f xs)
-map_filter f t [] = refl
-map_filter f t (x ∷ xs) = by (t (f x)) (map_filter f t xs)
-  where
-    by : (b : Bool) → map f (filter (λ z. t (f z)) xs) ≡ filter t (map f xs)
-        → map f (cond b (x ∷ filter (λ z. t (f z)) xs) (filter (λ z. t (f z)) xs)) ≡ cond b (f x ∷ filter t (map f xs)) (filter t (map f xs))
-    by true r = ap (λ l. f x ∷ l) r
-    by false r = r
-
-module _ (g : ℕ → Bool) (rs : List RelatedPin) (pins : List ℕ) (cs : List PinCount) (placed : ArePlaced rs pins cs) where
+module _ (g : ℕ → Bool) (rs : List TimedPlace) (pins : List ℕ) (cs : List PinCount) (placed : ArePlaced rs pins cs) where
   pub found_within : (m : ℕ) → Has (places_of g 0 pins) m → m < length cs
   found_within m h =
       let p = place_at g pins m h in
@@ -376,31 +378,52 @@ module _ (g : ℕ → Bool) (rs : List RelatedPin) (pins : List ℕ) (cs : List 
 
   -- the places that are counted there are those of the related pins that pass
   pub order_found : (order sorted ys : List ℕ) → order ≡ flat_map (λ j. places_by (slice_get cs j)) (places_of g 0 pins) → IsPermutation order sorted → IsSorted nat_cmp sorted
-      → ys ≡ dedup eqb sorted → ys ≡ places_of (λ (r : RelatedPin). g r.pin) 0 rs
+      → ys ≡ dedup eqb sorted → ys ≡ places_of (λ (r : TimedPlace). g r.1) 0 rs
   order_found order sorted ys are moved rise is =
       let s = sorted_once order sorted ys moved rise is in
       let f : ℕ → List ℕ = λ j. places_by (slice_get cs j) in
-      all_places (λ (r : RelatedPin). g r.pin) rs ys s.rises
+      all_places (λ (r : TimedPlace). g r.1) rs ys s.rises
       (λ m h.
       let w = from_flat f (places_of g 0 pins) m (subst (λ l. Has l m) are (s.from m h)) in
       let p = place_at g pins w.from w.is in
       let u = own_count pins cs placed.same w.from p.item p.at in
       let held : Has u.0.places.items m = subst (λ o. Has (places_by o) m) u.1 w.has in
-      let r = some_and (slice_get rs m) (λ (x : RelatedPin). x.pin ≡ u.0.pin) (placed.none w.from m u.0 u.1 (from_has u.0.places.items m held)) in
+      let r = some_and (slice_get rs m) (λ (x : TimedPlace). x.1 ≡ u.0.pin) (placed.none w.from m u.0 u.1 (from_has u.0.places.items m held)) in
       record { item = r.0; at = r.1; passes = ap g (r.2 ∙ u.2) ∙ p.passes })
       (λ m r there sink.
       let p = placed.places m r there in
-      let pin : slice_get pins p.at ≡ Some r.pin =
+      let pin : slice_get pins p.at ≡ Some r.1 =
       ap (λ l. slice_get l p.at) (sym placed.same) ∙ (slice_get-map (λ (u : PinCount). u.pin) cs p.at ∙ (ap (option_map (λ (u : PinCount). u.pin)) p.there ∙ ap Some p.same)) in
       let held : Has (f p.at) m = subst (λ o. Has (places_by o) m) (sym p.there) (to_has p.count.places.items m p.place) in
-      s.kept m (subst (λ l. Has l m) (sym are) (to_flat f (places_of g 0 pins) p.at m (place_has g pins p.at r.pin pin sink) held)))
+      s.kept m (subst (λ l. Has l m) (sym are) (to_flat f (places_of g 0 pins) p.at m (place_has g pins p.at r.1 pin sink) held)))
 
-  pub order_within : (m : ℕ) → Has (places_of (λ (r : RelatedPin). g r.pin) 0 rs) m → m < length rs
+  pub order_within : (m : ℕ) → Has (places_of (λ (r : TimedPlace). g r.1) 0 rs) m → m < length rs
   order_within m h =
-      let p = place_at (λ (r : RelatedPin). g r.pin) rs m h in
+      let p = place_at (λ (r : TimedPlace). g r.1) rs m h in
       slice_get_within rs m p.item p.at
 
--- the related pins at these places are those that are sinks
-pub sinks_found : (at : List (Option SinkAt)) (rs : List RelatedPin)
-    → map related_of (filter_map (slice_get rs) (places_of (λ (r : RelatedPin). is_sink at r.pin) 0 rs)) ≡ filter (is_sink_at at) (map related_of rs)
-sinks_found at rs = ap (map related_of) (filtered (λ (r : RelatedPin). is_sink at r.pin) rs) ∙ map_filter related_of (is_sink_at at) rs
+-- a count more, where its pin passes
+pub counted_next : (g : ℕ → Bool) (cs : List PinCount) (i m new : ℕ) (u : PinCount) → i < length cs → u ≡ get_or cs i u → m ≡ counted g (take i cs)
+    → new ≡ m + cond (g u.pin) u.count 0 → new ≡ counted g (take (i + 1) cs)
+counted_next g cs i m new u lt is so_far step =
+    let f : PinCount → ℕ = λ v. cond (g v.pin) v.count 0 in
+    omega (arith, step, so_far, ap (sum_by f) (take_more cs i u lt), sum_by_push f (take i cs) (get_or cs i u), ap f is)
+
+-- a related pin more, where it is a sink
+pub sinks_next : (at : List (Option SinkAt)) (rs : List TimedPlace) (i : ℕ) (r : RelatedPin) (cur new : List RelatedPin) → slice_get rs i ≡ Some (related_of r)
+    → map related_of cur ≡ filter (is_sink_at at) (take i rs) → new ≡ cur ++ cond (is_sink at r.pin) (r ∷ []) []
+    → map related_of new ≡ filter (is_sink_at at) (take (i + 1) rs)
+sinks_next at rs i r cur new there so_far step =
+    let t = is_sink_at at in
+    let s = related_of r in
+    let before = take i rs in
+    let lt = slice_get_within rs i s there in
+    let push : before ++ s ∷ [] ≡ take (i + 1) rs = ap (λ x. before ++ x ∷ []) (sym (get_or_from_slice_get rs i s s there)) ∙ sym (take_more rs i s lt) in
+    ap (map related_of) step
+    ∙ (map-append related_of cur (cond (is_sink at r.pin) (r ∷ []) [])
+    ∙ (ap (λ l. l ++ map related_of (cond (is_sink at r.pin) (r ∷ []) [])) so_far
+    ∙ (ap (λ l. filter t before ++ l) (by (is_sink at r.pin)) ∙ (sym (filter-append t before (s ∷ [])) ∙ ap (filter t) push))))
+  where
+    by : (b : Bool) → map related_of (cond b (r ∷ []) []) ≡ cond b (related_of r ∷ []) []
+    by true = refl
+    by false = refl

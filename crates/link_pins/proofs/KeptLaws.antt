@@ -3,7 +3,7 @@ use Rattle.std.proofs.Common.{◌≡◌, ◌≢◌, ℕ, zero, suc, ◌+◌, ◌
 use Rattle.std.specs.Prelude.{Option, None, IsSome, Result, Ok, Err, IfOk, is_some, flat_map, filter_map, option_and_then}
 use Rattle.std.specs.List.{slice_get}
 use Rattle.std.specs.Option.{IsSomeAnd}
-use Rattle.std.proofs.lemmas.List.{append-nil, map-append, length_push}
+use Rattle.std.proofs.lemmas.List.{append-nil, length_push}
 use Rattle.std.proofs.lemmas.Bool.{eq-eqb, ne_eqb}
 use Rattle.std.proofs.lemmas.List.Sums.{sum_by-set}
 use Rattle.std.proofs.lemmas.Option.{none-some, same_Some, slice_get_within, slice_get-get_or, get_or_from_slice_get}
@@ -20,8 +20,8 @@ use Rattle.link_pins.specs.declared.pins.PinOn.{PinOn}
 use Rattle.link_pins.specs.declared.related.CellGroups.{CellGroups}
 use Rattle.link_pins.specs.declared.related.PinCount.{PinCount}
 use Rattle.link_pins.specs.declared.related.PinGroup.{PinGroup}
-use Rattle.link_pins.specs.declared.related.RelatedPin.{RelatedPin}
-use Rattle.link_pins.specs.Related.{TimedPlace, with_timing, related_of, effect, group_related, counted, IsIndexed, IsGroup, AreGroups, AreAllGroups, group_numbered, number_at, group_at, AreKept}
+use Rattle.link_pins.specs.Related.{effect, group_related, counted, IsIndexed, IsGroup, AreGroups, AreAllGroups, group_numbered, number_at, group_at, AreKept}
+use Rattle.link_pins.specs.Timed.{TimedPlace, with_timing}
 use Rattle.link_pins.specs.Seen.{pin_at, connected_at}
 use Rattle.link_pins.proofs.TimingLaws.{flat_more}
 use Rattle.link_pins.proofs.PinLaws.{element_at, some_is, parts_of}
@@ -43,10 +43,6 @@ pub read_there : {X : Type 0} (xs : List X) (i : ℕ) (d x : X) → i < length x
 read_there xs i d x h e = slice_get-get_or xs i d h ∙ ap Some (sym e)
 
 -- ---- the related pins of one pin
-
--- a pin more in the list
-pub pushed_related : (old new : List RelatedPin) (r : RelatedPin) → new ≡ old ++ r ∷ [] → map related_of new ≡ map related_of old ++ related_of r ∷ []
-pushed_related old new r push = ap (map related_of) push ∙ map-append related_of old (r ∷ [])
 
 -- a timing group more
 pub group_more : (c : Cell) (role : Role) (ts : List Timing) (i : ℕ) (t : Timing) (cur new : List TimedPlace) → i < length ts → t ≡ get_or ts i t

@@ -17,6 +17,7 @@ mod NetLaws
 mod MadeLaws
 mod CountLaws
 mod RelatedLaws
+mod TimedLaws
 mod KeptLaws
 mod FoundLaws
 mod IndexLaws

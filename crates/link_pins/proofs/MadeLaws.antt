@@ -1,8 +1,8 @@
 -- Nets that are made of what was gathered for them, one after another.
-use Rattle.std.proofs.Common.{◌≡◌, ◌≢◌, ℕ, suc, ◌+◌, ◌<◌, ◌≤◌, List, [], ◌∷◌, ◌++◌, length, map, take, set, get_or, Some, refl, sym, ap, ◌∙◌, arith}
+use Rattle.std.proofs.Common.{◌≡◌, ℕ, suc, ◌+◌, ◌<◌, ◌≤◌, List, [], ◌∷◌, ◌++◌, length, map, take, drop, get_or, Some, refl, sym, ap, ◌∙◌, arith}
 use Rattle.std.specs.Prelude.{flat_map}
 use Rattle.std.specs.List.{enumerate_from, slice_get}
-use Rattle.std.proofs.lemmas.List.{length-map, length-set, map-append, take_all}
+use Rattle.std.proofs.lemmas.List.{length-map, map-append, drop_more, take_all}
 use Rattle.std.proofs.lemmas.List.FromFn.{length-enumerate_from, get_or-enumerate_from}
 use Rattle.std.proofs.lemmas.Option.{slice_get_within, slice_get-get_or, get_or_from_slice_get}
 use Rattle.liberty_cells.specs.declared.library.Library.{Library}
@@ -17,36 +17,21 @@ use Rattle.link_rules.specs.Checks.{pin_checks, flop_checks, port_checks_from, c
 use Rattle.link_rules.specs.Circuit.{Numbered, numbered, first_of, drivers_of, sinks_of, net_pins, circuit_of}
 use Rattle.link_rules.specs.Given.{given_of, is_input_port}
 use Rattle.link_rules.specs.Pins.{pins}
-use Rattle.link_pins.specs.declared.drivers.Driver.{Driver}
-use Rattle.link_pins.specs.declared.sinks.NetSinks.{NetSinks}
 use Rattle.link_pins.specs.declared.timings.NetArcs.{NetArcs}
 use Rattle.link_pins.specs.Joined.{without_arcs, with_rows}
 use Rattle.link_pins.specs.Rows.{outputs_in, HaveArcs}
-use Rattle.link_pins.proofs.DriverLaws.{set_elsewhere}
 use Rattle.link_pins.proofs.PinLaws.{take_next}
 
--- of so many items those from a number on are as they were gathered
-pub record AreLeft (X : Type 0) (P : ℕ → X → Type 0) (count net : ℕ) (xs : List X) : Type 0 where
-  pub all : length xs ≡ count
-  pub each : (i : ℕ) (x : X) → net ≤ i → slice_get xs i ≡ Some x → P i x
-
--- one of them is taken
-pub left_more : (X : Type 0) (P : ℕ → X → Type 0) (count net : ℕ) (xs : List X) (new : X) → AreLeft X P count net xs
-    → AreLeft X P count (net + 1) (set xs net new)
-left_more X P count net xs new left = record {
-  all = length-set xs net new ∙ left.all;
-  each = λ i x le at.
-      let other : i ≢ net = λ e. absurd (omega (arith, le, e)) in
-      left.each i x (omega (arith, le)) (set_elsewhere xs net i new x other at);
-}
+-- an item that is taken from the front of what is left of a list
+pub taken : {X : Type 0} (xs : List X) (n : ℕ) (x : X) (rest : List X) → n < length xs → x ∷ rest ≡ drop n xs
+    → (slice_get xs n ≡ Some x) × (rest ≡ drop (n + 1) xs)
+taken xs n x rest lt e =
+    let both : x ∷ rest ≡ get_or xs n x ∷ drop (n + 1) xs = e ∙ drop_more xs n x lt in
+    let first : x ≡ get_or xs n x = cc in
+    let left : rest ≡ drop (n + 1) xs = cc in
+    (slice_get-get_or xs n x lt ∙ ap Some (sym first), left)
 
 module _ (library : Library) (netlist : Netlist) (constraints : Constraints) where
-  abbrev pub HasDriver : ℕ → Driver → Type 0
-  HasDriver net d = (b : Bit) → slice_get (bits netlist.nets) net ≡ Some b → d.end ≡ first_of (drivers_of library netlist (net, b))
-
-  abbrev pub HasSinks : ℕ → NetSinks → Type 0
-  HasSinks net row = (b : Bit) → slice_get (bits netlist.nets) net ≡ Some b → row.sinks.items ≡ sinks_of library netlist constraints (net, b)
-
   -- a net without the arcs into it
   abbrev pub bare_pins : Numbered → NetPins
   bare_pins n = without_arcs (net_pins library netlist constraints n)

@@ -24,7 +24,8 @@ use Rattle.link_pins.specs.declared.arcs.SinkAt.{SinkAt}
 use Rattle.link_pins.specs.declared.related.PinGroup.{PinGroup}
 use Rattle.link_pins.specs.declared.related.RelatedPin.{RelatedPin}
 use Rattle.link_pins.specs.Places.{place_of, is_sink, AreEntered}
-use Rattle.link_pins.specs.Related.{TimedPlace, with_timing, related_of, effect, group_related, pin_related, counted, effects, IsGroup, sink_of, is_sink_at, arcs_of, clock_at}
+use Rattle.link_pins.specs.Related.{related_of, effect, group_related, pin_related, counted, effects, IsGroup, sink_of, is_sink_at, arcs_of, clock_at}
+use Rattle.link_pins.specs.Timed.{TimedPlace, with_timing}
 use Rattle.link_pins.proofs.CheckLaws.{point, by_group, check_of, flop_is}
 use Rattle.link_pins.proofs.CountLaws.{arc_some, same_count}
 use Rattle.link_pins.proofs.PlaceLaws.{same_number}
@@ -178,9 +179,9 @@ module _ (library : Library) (netlist : Netlist) (instance cell : ℕ) (at : Lis
   arcs_counted d number output v kept =
       let rs = pin_related c roles.Output d.pin.timings in
       let role = output_is d.pin.role output in
-      let same : map related_of v.related.items ≡ rs = kept.related ∙ ap (λ r. pin_related c r d.pin.timings) role in
+      let same : v.related.items ≡ rs = kept.related ∙ ap (λ r. pin_related c r d.pin.timings) role in
       kept.counts (is_sink at)
-      ∙ (ap (λ r. effects (is_sink at) r (map related_of v.related.items)) role
+      ∙ (ap (λ r. effects (is_sink at) r (v.related.items)) role
       ∙ (ap (effects (is_sink at) roles.Output) same
       ∙ (same_sum (λ s. cond (is_sink at s.1) (effect roles.Output s.0) 0) (λ s. length (place_arcs s)) arcs_at_place rs
       ∙ (sym (length-flat_map place_arcs rs)
@@ -274,9 +275,9 @@ module _ (library : Library) (netlist : Netlist) (instance cell : ℕ) (at : Lis
     checks_counted input v kept =
         let rs = pin_related c roles.Input d.pin.timings in
         let role = input_is d.pin.role input in
-        let same : map related_of v.related.items ≡ rs = kept.related ∙ ap (λ r. pin_related c r d.pin.timings) role in
+        let same : v.related.items ≡ rs = kept.related ∙ ap (λ r. pin_related c r d.pin.timings) role in
         kept.counts (is_sink at)
-        ∙ (ap (λ r. effects (is_sink at) r (map related_of v.related.items)) role
+        ∙ (ap (λ r. effects (is_sink at) r (v.related.items)) role
         ∙ (ap (effects (is_sink at) roles.Input) same
         ∙ (filter_counts place_check (λ s. cond (is_sink at s.1) (effect roles.Input s.0) 0) check_at_place rs
         ∙ ap length (sym (all_points d.pin.timings) ∙ ap (λ b. cond b (flat_map (by_group library netlist d) d.pin.timings) []) (sym input)))))

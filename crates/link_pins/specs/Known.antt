@@ -35,4 +35,4 @@ IsCount at n v = n ≡ counted (is_sink at) v.counts.items
 
 -- the related pins of a group that are sinks
 abbrev pub AreSinksOf : List (Option SinkAt) → Vec RelatedPin → PinGroup → Type 0
-AreSinksOf at rs v = map related_of rs.items ≡ filter (is_sink_at at) (map related_of v.related.items)
+AreSinksOf at rs v = map related_of rs.items ≡ filter (is_sink_at at) v.related.items

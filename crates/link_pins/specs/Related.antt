@@ -22,15 +22,10 @@ use Rattle.link_pins.specs.declared.related.PinCount.{PinCount}
 use Rattle.link_pins.specs.declared.related.PinGroup.{PinGroup}
 use Rattle.link_pins.specs.declared.related.RelatedPin.{RelatedPin}
 use Rattle.link_pins.specs.Places.{place_of, is_sink}
+use Rattle.link_pins.specs.Timed.{TimedPlace, with_timing}
 use Rattle.link_pins.specs.Seen.{pin_at}
 
--- a timing group with the place in its cell of a pin that it is related to
-abbrev pub TimedPlace : Type 0
-TimedPlace = Timing × ℕ
-
-abbrev pub with_timing : Timing → ℕ → TimedPlace
-with_timing t k = (t, k)
-
+-- a related pin with its timing group
 abbrev pub related_of : RelatedPin → TimedPlace
 related_of r = (r.timing.now, r.pin)
 
@@ -48,8 +43,8 @@ group_related c role t = if effect role t == 0 then [] else map (with_timing t) 
 abbrev pub pin_related : Cell → Role → List Timing → List TimedPlace
 pin_related c role ts = flat_map (group_related c role) ts
 
-abbrev pub AreRelated : Cell → PinParts → List RelatedPin → Type 0
-AreRelated c p rs = map related_of rs ≡ pin_related c p.role p.timings
+abbrev pub AreRelated : Cell → PinParts → List TimedPlace → Type 0
+AreRelated c p rs = rs ≡ pin_related c p.role p.timings
 
 -- the counts of the pins that pass a test, added up
 abbrev pub counted : (ℕ → Bool) → List PinCount → ℕ
@@ -61,7 +56,7 @@ effects g role rs = sum_by (λ s. if g s.1 then effect role s.0 else 0) rs
 
 -- the counts by pins are those of the related pins one by one, whichever pins count
 abbrev pub IsCounted : Role → PinGroup → Type 0
-IsCounted role v = (g : ℕ → Bool) → counted g v.counts.items ≡ effects g role (map related_of v.related.items)
+IsCounted role v = (g : ℕ → Bool) → counted g v.counts.items ≡ effects g role v.related.items
 
 -- the places of the elements that pass a test, where the first is at place n
 abbrev pub places_of : {X : Type 0} → (X → Bool) → ℕ → List X → List ℕ
@@ -85,15 +80,15 @@ pub record HasPlace (counts : List PinCount) (own i : ℕ) : Type 0 where
   pub place : Contains count.places.items i
 
 -- each related pin has its place among those of its pin's count, and no place is among those of another's
-pub record ArePlaced (rs : List RelatedPin) (pins : List ℕ) (counts : List PinCount) : Type 0 where
+pub record ArePlaced (rs : List TimedPlace) (pins : List ℕ) (counts : List PinCount) : Type 0 where
   pub same : ArePinsOf counts pins
-  pub places : (i : ℕ) (r : RelatedPin) → slice_get rs i ≡ Some r → HasPlace counts r.pin i
+  pub places : (i : ℕ) (r : TimedPlace) → slice_get rs i ≡ Some r → HasPlace counts r.1 i
   pub none : (k i : ℕ) (u : PinCount) → slice_get counts k ≡ Some u → Contains u.places.items i
-      → IsSomeAnd (slice_get rs i) (λ r. r.pin ≡ u.pin)
+      → IsSomeAnd (slice_get rs i) (λ r. r.1 ≡ u.pin)
 
 -- these are the counts of related pins, and their places
-pub record HaveCounts (role : Role) (rs : List RelatedPin) (pins : List ℕ) (counts : List PinCount) : Type 0 where
-  pub sums : (g : ℕ → Bool) → counted g counts ≡ effects g role (map related_of rs)
+pub record HaveCounts (role : Role) (rs : List TimedPlace) (pins : List ℕ) (counts : List PinCount) : Type 0 where
+  pub sums : (g : ℕ → Bool) → counted g counts ≡ effects g role rs
   pub placed : ArePlaced rs pins counts
 
 -- the pins of a group in order, and the places of its related pins

@@ -7,7 +7,8 @@ ghost use Rattle.link_pins.specs.Related.{related_of, counted, is_sink_at, place
 
 use crate::arcs::Places;
 use crate::counts::plus;
-use crate::related::{PinGroup, RelatedPin};
+use crate::related::{PinCount, PinGroup, RelatedPin};
+use crate::related_pins::RelatedPins;
 use std::alloc::{AllocError, Global};
 
 /// Which of these pins, from the least on, are sinks: the pins one by one.
@@ -54,6 +55,38 @@ fn found(alloc: Global, pins: &[usize], places: &Places) -> Result<Vec<usize>, A
     }
 }
 
+/// How many arcs or check points there are from those of these pins that are sinks: the pins one by one.
+fn count_by_pins(counts: &[PinCount], places: &Places) -> Result<u128, AllocError>
+    ensures { IfOk result (λ n. n ≡ counted (is_sink places.now.at.items) counts.now) }
+{
+    let mut count = 0;
+    for one in counts {
+        if places.sink(one.pin).is_some() {
+            count = plus(count, u128::from(one.count))?;
+        }
+    }
+    Ok(count)
+}
+
+/// Those of related pins that are sinks, in order: the related pins one by one.
+fn sinks_among<'a>(
+    alloc: Global,
+    related: &RelatedPins<'a>,
+    places: &Places,
+) -> Result<Vec<RelatedPin<'a>>, AllocError>
+    ensures { IfOk result
+        (λ v. map related_of v.items ≡ filter (is_sink_at places.now.at.items) related.now.items) }
+{
+    let mut sinks = Vec::with_capacity(alloc, related.len())?;
+    for place in 0..related.len() {
+        let one = related.get(place);
+        if places.sink(one.pin).is_some() {
+            sinks.push(one)?;
+        }
+    }
+    Ok(sinks)
+}
+
 impl<'a> PinGroup<'a> {
     /// How many arcs or check points there are from those of its related pins that are sinks.
     pub fn count(&self, alloc: Global, places: &Places) -> Result<u128, AllocError>
@@ -61,10 +94,13 @@ impl<'a> PinGroup<'a> {
         requires listed { AreListed places.now }
         ensures { IfOk result (λ n. n ≡ counted (is_sink places.now.at.items) self.now.counts.items) }
     {
-        let found = found(alloc, &self.pins, places)?;
+        if self.pins.len() <= places.pins().len() {
+            return count_by_pins(self.counts.as_slice(), places);
+        }
+        let found = found_by_sinks(alloc, &self.pins, places)?;
         let mut count = 0;
         for at in found.as_slice() {
-            count = plus(count, self.counts[*at].count)?;
+            count = plus(count, u128::from(self.counts[*at].count))?;
         }
         Ok(count)
     }
@@ -74,31 +110,33 @@ impl<'a> PinGroup<'a> {
         requires indexed { IsIndexed self.now }
         requires listed { AreListed places.now }
         ensures { IfOk result
-            (λ v. v.items ≡ places_of (λ r. is_sink places.now.at.items r.pin) 0 self.now.related.items) }
+            (λ v. v.items ≡ places_of (is_sink_at places.now.at.items) 0 self.now.related.items) }
     {
         let found = found(alloc, &self.pins, places)?;
         let mut order = Vec::new(alloc);
         for at in found.as_slice() {
-            order.extend_from_slice(&self.counts[*at].places)?;
+            order.extend_from_slice(self.counts[*at].places.as_slice())?;
         }
         order.sort_unstable();
         order.dedup();
         Ok(order)
     }
 
-    /// Those of its related pins that are sinks, in order. Takes time in proportion to these and a sort of them, and to
-    /// its pins or to the sinks, whichever are fewer.
+    /// Those of its related pins that are sinks, in order. Takes time in proportion to the sinks, to those that are
+    /// found and to a sort of these.
     pub fn sinks(&self, alloc: Global, places: &Places) -> Result<Vec<RelatedPin<'a>>, AllocError>
         requires indexed { IsIndexed self.now }
         requires listed { AreListed places.now }
         ensures { IfOk result
-            (λ v. map related_of v.items
-            ≡ filter (is_sink_at places.now.at.items) (map related_of self.now.related.items)) }
+            (λ v. map related_of v.items ≡ filter (is_sink_at places.now.at.items) self.now.related.items) }
     {
+        if self.related.len() / 8 <= places.pins().len() {
+            return sinks_among(alloc, &self.related, places);
+        }
         let order = self.order(alloc, places)?;
         let mut sinks = Vec::with_capacity(alloc, order.len())?;
         for place in order.as_slice() {
-            sinks.push(self.related[*place as usize])?;
+            sinks.push(self.related.get(*place as usize))?;
         }
         Ok(sinks)
     }

@@ -13,11 +13,13 @@ mod instances;
 mod joined;
 mod known;
 mod limits;
+mod lists;
 mod names;
 mod nets;
 mod pins;
 mod ports;
 mod related;
+mod related_pins;
 mod sinks;
 mod timings;
 

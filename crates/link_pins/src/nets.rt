@@ -6,7 +6,7 @@ ghost use Rattle.liberty_cells.specs.declared.library.Library.{Library};
 ghost use Rattle.verilog_net.specs.Bits.{Bit, bits as bits_of};
 ghost use Rattle.link_rules.specs.Checks.{port_checks, port_checks_from};
 ghost use Rattle.link_rules.specs.Circuit.{net_pins as pins_by, numbered, sinks_of};
-ghost use Rattle.link_rules.specs.Given.{given_of, is_input_port};
+ghost use Rattle.link_rules.specs.Given.{is_input_port};
 ghost use Rattle.link_rules.specs.Pins.{pins as pins_of};
 ghost use Rattle.verilog_net.specs.Sound.{IsSoundNetlist};
 ghost use Rattle.link_pins.specs.Joined.{without_arcs};
@@ -17,15 +17,15 @@ use crate::bits::BitAt;
 use crate::checks::add_port_checks;
 use crate::drivers::Driver;
 use crate::given::given;
+use crate::lists::take_last;
 use crate::names::net_name;
 use crate::sinks::NetSinks;
 use link_index::{CellIndex, NetIndex};
 use link_rules::NetPins;
 use sdc_read::Constraints;
 use std::alloc::{AllocError, Global};
-use std::mem;
 use verilog_net::PortRole;
-use xt_model::{CheckPoint, Name, Row};
+use xt_model::{CheckPoint, GivenPair, Name, Row};
 
 /// What was gathered for each net: its driver and its sinks.
 #[derive(Drop)]
@@ -99,14 +99,14 @@ pub fn add_all_ports<'a>(
 fn net_pins(
     alloc: Global,
     name: Name,
-    constraints: &Constraints,
-    bit: BitAt,
+    role: PortRole,
+    given: GivenPair,
     driver: Driver,
     sinks: NetSinks,
 ) -> NetPins
     ensures name { result.name ≡ name }
-    ensures input { result.input ≡ is_input_port bit.role }
-    ensures given { (b : Bit) → bit ≡ bit_at b → result.given ≡ given_of constraints.now b }
+    ensures input { result.input ≡ is_input_port role }
+    ensures given { result.given ≡ given }
     ensures driver { result.driver ≡ driver.end }
     ensures sinks { result.sinks ≡ sinks.sinks.items }
     ensures arcs { result.arcs ≡ [] }
@@ -115,15 +115,16 @@ fn net_pins(
     let NetSinks { sinks } = sinks;
     NetPins {
         name,
-        input: bit.role == PortRole::Input,
-        given: given(constraints, bit),
+        input: role == PortRole::Input,
+        given,
         driver: end,
         sinks: Row::from_vec(sinks),
         arcs: Row::from_vec(Vec::new(alloc)),
     }
 }
 
-/// All nets by their pins, without arcs.
+/// All nets by their pins, without arcs. What was gathered is used up from the end of lists in reverse, so that its
+/// memory is given back.
 pub fn all_nets<'a>(
     alloc: Global,
     cells: &CellIndex<'a>,
@@ -142,22 +143,20 @@ pub fn all_nets<'a>(
         mut drivers,
         mut sinks,
     } = gathered;
+    drivers.reverse();
+    sinks.reverse();
     let mut made = Vec::with_capacity(alloc, nets.count() as usize)?;
     for net in 0..nets.count() {
+        let Some(driver) = take_last(&mut drivers) else {
+            unreachable!()
+        };
+        let Some(row) = take_last(&mut sinks) else {
+            unreachable!()
+        };
         let at = net as usize;
         let name = net_name(alloc, nets, net)?;
-        let none = Driver {
-            end: None,
-            twice: false,
-        };
-        let driver = mem::replace(&mut drivers[at], none);
-        let row = mem::replace(
-            &mut sinks[at],
-            NetSinks {
-                sinks: Vec::new(alloc),
-            },
-        );
-        made.push(net_pins(alloc, name, constraints, bits[at], driver, row))?;
+        let windows = GivenPair::new(alloc, given(constraints, bits[at]))?;
+        made.push(net_pins(alloc, name, bits[at].role, windows, driver, row))?;
     }
     Ok(made)
 }

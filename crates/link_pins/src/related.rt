@@ -6,16 +6,19 @@ ghost use Rattle.std.specs.List.{All, Contains, slice_get};
 ghost use Rattle.std.specs.List.Sorted.{IsStrictlyIncreasing};
 ghost use Rattle.liberty_cells.specs.declared.cell.Cell.{Cell};
 ghost use Rattle.link_index.specs.Cells.{pin_place};
-ghost use Rattle.link_pins.specs.Related.{effect, with_timing, related_of, AreRelated, IsUncounted, ArePinsOf};
+ghost use Rattle.link_pins.specs.Related.{effect, AreRelated, IsUncounted, ArePinsOf};
 ghost use Rattle.link_pins.specs.Related.{HaveCounts, IsGroup, AreGroups, AreAllGroups, number_at, group_at};
 ghost use Rattle.link_pins.specs.Related.{AreKept};
+ghost use Rattle.link_pins.specs.Timed.{with_timing};
 
 use crate::arcs::arcs_each;
 use crate::checks::side_of;
 use crate::counts::plus;
 use crate::pins::PinOn;
+use crate::related_pins::RelatedPins;
 use liberty_cells::{CellPins, Pin, Role, Timing};
 use link_index::CellIndex;
+use smallvec::SmallVec;
 use std::alloc::{AllocError, Global};
 
 /// A timing group with the place in the cell of a pin that it is related to.
@@ -26,19 +29,19 @@ pub struct RelatedPin<'a> {
 }
 
 /// How many arcs or check points there are from the pin at a place, however often it is related, and its places among
-/// the related pins.
+/// the related pins. Up to four places take no other memory.
 #[derive(Drop)]
 pub struct PinCount {
     pub pin: usize,
-    pub count: u128,
-    pub places: Vec<u32>,
+    pub count: u64,
+    pub places: SmallVec<u32, 4>,
 }
 
 /// What the pins of one group of the text have in common: their related pins in order, each of these pins once by its
 /// place in the cell, from the least on, and what is counted for each.
 #[derive(Drop)]
 pub struct PinGroup<'a> {
-    pub related: Vec<RelatedPin<'a>>,
+    pub related: RelatedPins<'a>,
     pub pins: Vec<usize>,
     pub counts: Vec<PinCount>,
 }
@@ -67,24 +70,27 @@ fn effect(role: Role, timing: &Timing) -> u128
     }
 }
 
-/// Adds the related pins of a timing group that the cell has.
+/// Adds the related pins of the timing group of a number that the cell has.
 fn add_timing<'a>(
     cells: &CellIndex<'a>,
     cell: usize,
+    number: usize,
     timing: &'a Timing,
-    pins: &mut Vec<RelatedPin<'a>>,
+    pins: &mut RelatedPins<'a>,
 ) -> Result<(), AllocError>
-    requires { cell < length cells.now.cells }
-    ensures { OnOk result
+    requires cell { cell < length cells.now.cells }
+    requires there { slice_get pins.old.timings number ≡ Some timing.now }
+    ensures related { OnOk result
         ((c : Cell) → slice_get cells.now.cells cell ≡ Some c
-        → map related_of pins.new.items
-        ≡ map related_of pins.old.items
+        → pins.new.items
+        ≡ pins.old.items
         ++ map (with_timing timing.entry.now) (filter_map (pin_place c) timing.entry.now.related)) }
+    ensures timings { OnOk result (pins.new.timings ≡ pins.old.timings) }
 {
     let mut rest = timing.related.names();
     'related: while let Some(name) = rest.next() {
         if let Some(pin) = cells.pin(cell, name) {
-            pins.push(RelatedPin { timing, pin })?;
+            pins.push(number, pin)?;
         }
     }
     Ok(())
@@ -96,29 +102,31 @@ fn related_pins<'a>(
     cells: &CellIndex<'a>,
     cell: usize,
     part: &'a Pin,
-) -> Result<Vec<RelatedPin<'a>>, AllocError>
+) -> Result<RelatedPins<'a>, AllocError>
     requires { cell < length cells.now.cells }
     ensures { IfOk result (λ v. (c : Cell) → slice_get cells.now.cells cell ≡ Some c
         → AreRelated c part.entry.now v.items) }
 {
-    let mut pins = Vec::new(alloc);
-    for timing in part.timings() {
+    let timings = part.timings();
+    let mut pins = RelatedPins::new(alloc, timings);
+    for number in 0..timings.len() {
+        let timing = &timings[number];
         let count = effect(part.role(), timing);
         if count != 0 {
-            add_timing(cells, cell, timing, &mut pins)?;
+            add_timing(cells, cell, number, timing, &mut pins)?;
         }
     }
     Ok(pins)
 }
 
 /// The places in the cell of related pins, each once, from the least on.
-fn pins_of(alloc: Global, related: &[RelatedPin<'_>]) -> Result<Vec<usize>, AllocError>
+fn pins_of(alloc: Global, related: &RelatedPins<'_>) -> Result<Vec<usize>, AllocError>
     ensures rising { IfOk result (λ v. IsStrictlyIncreasing v.items) }
-    ensures all { IfOk result (λ v. All (λ r. Contains v.items r.pin) related.now) }
+    ensures all { IfOk result (λ v. All (λ r. Contains v.items r.1) related.now.items) }
 {
     let mut pins = Vec::with_capacity(alloc, related.len())?;
-    for one in related {
-        pins.push(one.pin)?;
+    for place in 0..related.len() {
+        pins.push(related.get(place).pin)?;
     }
     pins.sort_unstable();
     pins.dedup();
@@ -136,20 +144,24 @@ fn no_counts(alloc: Global, pins: &[usize]) -> Result<Vec<PinCount>, AllocError>
         counts.push(PinCount {
             pin: *pin,
             count: 0,
-            places: Vec::new(alloc),
+            places: SmallVec::new(alloc),
         })?;
     }
     Ok(counts)
 }
 
 impl PinCount {
-    /// Counts a related pin at this place, from which there are so many arcs or check points.
+    /// Counts a related pin at this place, and how many arcs or check points there are from it. A sum that does not
+    /// fit 64 bits is out of memory.
     fn add(&mut self, count: u128, place: u32) -> Result<(), AllocError>
         ensures pin { OnOk result (self.new.pin ≡ self.old.pin) }
         ensures count { OnOk result (self.new.count ≡ self.old.count + count) }
         ensures places { OnOk result (self.new.places.items ≡ self.old.places.items ++ place ∷ []) }
     {
-        self.count = plus(self.count, count)?;
+        let Ok(sum) = u64::try_from(plus(u128::from(self.count), count)?) else {
+            return Err(AllocError);
+        };
+        self.count = sum;
         self.places.push(place)?;
         Ok(())
     }
@@ -158,21 +170,21 @@ impl PinCount {
 /// Counts related pins, by their places among these pins. There is no memory for 2^32 of them.
 fn count_pins(
     role: Role,
-    related: &[RelatedPin<'_>],
+    related: &RelatedPins<'_>,
     pins: &[usize],
     counts: &mut [PinCount],
 ) -> Result<(), AllocError>
     requires rising { IsStrictlyIncreasing pins.now }
-    requires all { All (λ r. Contains pins.now r.pin) related.now }
+    requires all { All (λ r. Contains pins.now r.1) related.now.items }
     requires pins { ArePinsOf counts.old pins.now }
     requires none { All IsUncounted counts.old }
-    ensures { OnOk result (HaveCounts role related.now pins.now counts.new) }
+    ensures { OnOk result (HaveCounts role related.now.items pins.now counts.new) }
 {
     let Ok(count) = u32::try_from(related.len()) else {
         return Err(AllocError);
     };
     for place in 0..count {
-        let one = &related[place as usize];
+        let one = related.get(place as usize);
         let Ok(at) = pins.binary_search(&one.pin) else {
             unreachable!()
         };

@@ -21,7 +21,7 @@ use Rattle.verilog_net.specs.declared.netlist.Wire.TheVariants as wires
 use Rattle.verilog_net.specs.declared.netlist.PortRole.{PortRole}
 use Rattle.verilog_net.specs.declared.netlist.PortRole.TheVariants as ports
 use Rattle.spef_read.specs.declared.parasitics.Parasitics.{Parasitics}
-use Rattle.spef_read.specs.declared.parasitics.Name.{Name}
+use Rattle.spef_read.specs.declared.parasitics.NameId.{NameId}
 use Rattle.sdc_read.specs.declared.constraints.Constraints.{Constraints}
 use Rattle.sdc_read.specs.declared.ports.Sides.{Sides}
 use Rattle.sdc_read.specs.Ports.{no_sides}
@@ -208,7 +208,7 @@ circuit_is = refl
 
 -- ---- the wire of n1: 50 ohm from g1:Y to n1:1, 50 ohm to f2:D; 2 fF at n1:1, and 1 fF from there to bus[0]
 
-abbrev name : ℕ → Name
+abbrev name : ℕ → NameId
 name n = record { number = n }
 
 abbrev parasitics : Parasitics

@@ -6,13 +6,13 @@ use Rattle.std.specs.Option.{option_or}
 use Rattle.xt_model.specs.Options.{◌>>=◌}
 use Rattle.name_numbers.specs.Names.{Text, value_of}
 use Rattle.verilog_net.specs.declared.netlist.Netlist.{Netlist}
-use Rattle.spef_read.specs.declared.parasitics.Name.{Name}
+use Rattle.spef_read.specs.declared.parasitics.NameId.{NameId}
 use Rattle.spef_read.specs.declared.parasitics.Parasitics.{Parasitics}
 use Rattle.verilog_net.specs.Bits.{bits}
 use Rattle.link_rules.specs.Bits.{net_of}
 
 -- the bytes of a name of parasitics
-abbrev pub text_of : Parasitics → Name → Text
+abbrev pub text_of : Parasitics → NameId → Text
 text_of parasitics name = unwrap_or (option_map (λ e. e.0) (slice_get parasitics.names name.number)) []
 
 -- the bytes before the last delimiter and those after it

@@ -1,11 +1,11 @@
 //! The nets of a design by their pins, before their wires are known.
 
-ghost use Rattle.std.specs.Prelude.{◌≡◌, IfOk};
+ghost use Rattle.std.specs.Prelude.{◌≡◌, IfOk, OnOk};
 ghost use Rattle.xt_model.specs.Names.{IsName};
 
 use std::alloc::{AllocError, Global};
 use std::marker::Model;
-use xt_model::{CheckPoint, Name, Pair, Row, TimingArc};
+use xt_model::{CheckPoint, GivenPair, Name, Row, TimingArc};
 
 /// What a net leads from or to: a pin of an instance, or a port. `name` is that of a port, or those of instance and pin
 /// with `/` between them, and `joint` is then its place.
@@ -60,15 +60,16 @@ impl End {
         &self.name
     }
 
-    /// The name of the node in parasitics, with their delimiter before the pin.
-    pub fn node(&self, alloc: Global, delimiter: u8) -> Result<Vec<u8>, AllocError>
-        ensures { IfOk result (λ node. node.items ≡ end_name delimiter self.now) }
+    /// Puts the name of the node in parasitics, with their delimiter before the pin, in place of what the room holds.
+    pub fn write_node(&self, delimiter: u8, room: &mut Vec<u8>) -> Result<(), AllocError>
+        ensures { OnOk result (room.new.items ≡ end_name delimiter self.now) }
     {
-        let mut node = Vec::from_slice(alloc, self.name.bytes())?;
+        room.clear();
+        room.extend_from_slice(self.name.bytes())?;
         if let Some(joint) = self.joint {
-            node[joint] = delimiter;
+            room[joint] = delimiter;
         }
-        Ok(node)
+        Ok(())
     }
 
     /// The name in a design, of an end that is not needed any more.
@@ -93,7 +94,7 @@ pub struct Sink {
 pub struct NetPins {
     pub name: Name,
     pub input: bool,
-    pub given: Pair,
+    pub given: GivenPair,
     pub driver: Option<End>,
     pub sinks: Row<Sink>,
     pub arcs: Row<TimingArc>,

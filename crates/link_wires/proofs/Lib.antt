@@ -9,3 +9,4 @@ mod SoundLaws
 mod LimitLaws
 mod NetLaws
 mod WireLaws
+mod KeptLaws

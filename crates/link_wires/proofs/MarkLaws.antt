@@ -1,19 +1,19 @@
 -- Marks by the numbers of names give the numbers of nodes.
-use Rattle.std.specs.Prelude.{◌≡◌, ◌≢◌, refl, ℕ, zero, suc, ◌+◌, ◌<◌, ◌≤◌, ◌^◌, Bool, true, false, cond, eqb, ◌||◌, List, [], ◌∷◌, ◌++◌, length, map, Option, Some, None, is_some, option_map, position, IfSome, unwrap_or, replicate}
+use Rattle.std.specs.Prelude.{◌≡◌, ◌≢◌, refl, ℕ, zero, suc, ◌+◌, ◌<◌, ◌≤◌, Bool, true, false, cond, ◌||◌, List, [], ◌∷◌, ◌++◌, length, map, Option, Some, None, is_some, position, IfSome, unwrap_or}
 use Rattle.std.specs.List.{All, slice_get, list_any}
 use Rattle.std.specs.Option.{option_or}
 use Rattle.std.specs.Str.{bytes_eq}
 use Rattle.std.proofs.Common.{sym, ap, ◌∙◌, arith, subst, set, get_or, take, inl, inr}
 use Rattle.std.proofs.lemmas.Bool.{false≢true, eq-eqb, ne_eqb, cases_eq, cases_lt}
 use Rattle.std.proofs.lemmas.List.{length-set, length-append, length-take-le}
-use Rattle.std.proofs.lemmas.List.Elements.{All-set, All-push, All-replicate}
+use Rattle.std.proofs.lemmas.List.Elements.{All-set, All-push}
 use Rattle.std.proofs.lemmas.List.Quantifiers.{position-Some}
-use Rattle.std.proofs.lemmas.Option.{none-some, same_Some, slice_get-map, slice_get-get_or, slice_get_within, slice_get_past}
+use Rattle.std.proofs.lemmas.Option.{none-some, same_Some, slice_get-get_or, slice_get_within, slice_get_past}
 use Rattle.std.proofs.lemmas.Slice.Eq.{bytes_eq-Decides}
 use Rattle.name_numbers.specs.Names.{Text, number_of, with_name}
 use Rattle.name_parts.specs.Own.{HaveOwnNumbers}
 use Rattle.xt_model.specs.Names.{IsName}
-use Rattle.spef_read.specs.declared.parasitics.Name.{Name}
+use Rattle.spef_read.specs.declared.parasitics.NameId.{NameId}
 use Rattle.spef_read.specs.declared.parasitics.Parasitics.{Parasitics}
 use Rattle.link_rules.specs.Nodes.{text_of, node_net}
 use Rattle.link_index.proofs.FirstLaws.{position_push, number_is, any_is}
@@ -219,7 +219,7 @@ nameless ((b ∷ bytes) ∷ nodes) all = nameless nodes (λ i d lt. all (suc i) 
 
 module _ (p : Parasitics) (nodes : List Text) (turn : ℕ) (marks : List Mark) (a : AreNodes p nodes turn marks) where
   -- the mark of a name, which is there or has no byte
-  pub mark_is : (name : Name) → mark_of turn (slice_get marks name.number) ≡ position (bytes_eq (text_of p name)) nodes
+  pub mark_is : (name : NameId) → mark_of turn (slice_get marks name.number) ≡ position (bytes_eq (text_of p name)) nodes
   mark_is name = by (slice_get (map (λ e. e.0) p.names) name.number) refl
     where
       by : (o : Option Text) → slice_get (map (λ e. e.0) p.names) name.number ≡ o → mark_of turn (slice_get marks name.number) ≡ position (bytes_eq (text_of p name)) nodes
@@ -235,18 +235,18 @@ module _ (p : Parasitics) (nodes : List Text) (turn : ℕ) (marks : List Mark) (
           ∙ none_by (position (bytes_eq []) nodes) (sym (any_is (bytes_eq []) nodes) ∙ nameless nodes a.names))
 
   -- the number of a node
-  pub number_by : (name : Name) (o : Option ℕ) → mark_of turn (slice_get marks name.number) ≡ o → unwrap_or o (length nodes) ≡ number_of (text_of p name) nodes
+  pub number_by : (name : NameId) (o : Option ℕ) → mark_of turn (slice_get marks name.number) ≡ o → unwrap_or o (length nodes) ≡ number_of (text_of p name) nodes
   number_by name o h =
       ap (λ x. unwrap_or x (length nodes)) (sym h ∙ mark_is name) ∙ number_is (bytes_eq (text_of p name)) nodes
 
   -- a node that is there, and one that is not
-  pub with_by : (name : Name) (b : Bool) → is_some (mark_of turn (slice_get marks name.number)) ≡ b
+  pub with_by : (name : NameId) (b : Bool) → is_some (mark_of turn (slice_get marks name.number)) ≡ b
       → with_name (text_of p name) nodes ≡ cond b nodes (nodes ++ text_of p name ∷ [])
   with_by name b h =
       ap (λ (x : Bool). cond x nodes (nodes ++ text_of p name ∷ [])) (any_is (bytes_eq (text_of p name)) nodes ∙ ap is_some (sym (mark_is name)) ∙ h)
 
   -- a name that is one is there
-  pub name_there : (name : Name) → IsName (text_of p name) → slice_get (map (λ e. e.0) p.names) name.number ≡ Some (text_of p name)
+  pub name_there : (name : NameId) → IsName (text_of p name) → slice_get (map (λ e. e.0) p.names) name.number ≡ Some (text_of p name)
   name_there name is = by (slice_get (map (λ e. e.0) p.names) name.number) refl
     where
       by : (o : Option Text) → slice_get (map (λ e. e.0) p.names) name.number ≡ o → slice_get (map (λ e. e.0) p.names) name.number ≡ Some (text_of p name)
@@ -257,7 +257,7 @@ module _ (p : Parasitics) (nodes : List Text) (turn : ℕ) (marks : List Mark) (
           absurd (omega (arith, some))
 
   -- one node more
-  pub nodes_push : (name : Name) (mark : Mark) (new : List Mark) → IsName (text_of p name) → is_some (mark_of turn (slice_get marks name.number)) ≡ false
+  pub nodes_push : (name : NameId) (mark : Mark) (new : List Mark) → IsName (text_of p name) → is_some (mark_of turn (slice_get marks name.number)) ≡ false
       → mark.turn ≡ turn → mark.number ≡ length nodes → length nodes < 4294967295 → new ≡ set marks name.number mark
       → AreNodes p (nodes ++ text_of p name ∷ []) turn new
   nodes_push name mark new is none now here few e = record {
@@ -271,7 +271,7 @@ module _ (p : Parasitics) (nodes : List Text) (turn : ℕ) (marks : List Mark) (
 -- ---- nets of nodes
 
 -- one net more is looked up
-pub nets_more : (e : Extracted) (nets : List (Option (Option ℕ))) (node : Name) (net : Option ℕ) → AreNetsOf e nets → node.number < length nets
+pub nets_more : (e : Extracted) (nets : List (Option (Option ℕ))) (node : NameId) (net : Option ℕ) → AreNetsOf e nets → node.number < length nets
     → net ≡ node_net e.netlist e.parasitics.delimiter (text_of e.parasitics node) → AreNetsOf e (set nets node.number (Some net))
 nets_more e nets node net all lt is = record {
   each = λ k x h. elim (cases_eq k node.number) [

@@ -1,22 +1,20 @@
 -- Nodes by their names.
-use Rattle.std.specs.Prelude.{◌≡◌, refl, ℕ, List, [], ◌∷◌, ◌++◌, length, map, Option, Some, None, position, is_some, option_map, option_to_list, filter_map, flat_map, fold, Bool, true, cond, if◌then◌else◌, unwrap_or, not, ◌==◌, pos}
+use Rattle.std.specs.Prelude.{◌≡◌, refl, ℕ, List, [], ◌∷◌, ◌++◌, length, map, Option, Some, None, is_some, option_map, option_to_list, filter_map, flat_map, fold, unwrap_or, not, ◌==◌, pos}
 use Rattle.std.specs.List.{All, slice_get}
 use Rattle.std.specs.Str.{bytes_eq}
-use Rattle.std.specs.Option.{option_or}
-use Rattle.std.proofs.Common.{sym, ap, ◌∙◌, arith, ◌<◌, ◌≤◌, subst, get_or, append_assoc, length-append}
-use Rattle.std.proofs.lemmas.List.Elements.{All-push}
-use Rattle.name_numbers.specs.Names.{Text, value_of, with_name, number_of}
-use Rattle.std.proofs.lemmas.Option.{slice_get-map, slice_get_within, get_or_from_slice_get}
+use Rattle.std.proofs.Common.{sym, ap, ◌∙◌, arith, ◌≤◌, subst, get_or, append_assoc}
+use Rattle.name_numbers.specs.Names.{Text, value_of, with_name}
+use Rattle.std.proofs.lemmas.Option.{slice_get-map}
 use Rattle.xt_model.specs.Names.{IsName}
 use Rattle.verilog_net.specs.declared.netlist.Netlist.{Netlist}
-use Rattle.spef_read.specs.declared.parasitics.Name.{Name}
+use Rattle.spef_read.specs.declared.parasitics.NameId.{NameId}
 use Rattle.spef_read.specs.declared.parasitics.Parasitics.{Parasitics}
 use Rattle.link_rules.specs.declared.circuit.NetPins.{NetPins}
 use Rattle.link_rules.specs.Ends.{NetEnd, Pin, Port, end_name, sink_name}
 use Rattle.link_rules.specs.Nodes.{text_of}
 use Rattle.link_rules.specs.Wires.{listed}
 use Rattle.link_index.specs.Cells.{at_place}
-use Rattle.link_index.proofs.FirstLaws.{position_push, number_is, any_is, find_at_place, first_and_rest, rest_of}
+use Rattle.link_index.proofs.FirstLaws.{find_at_place, first_and_rest, rest_of}
 use Rattle.link_wires.specs.Places.{HavePlaces}
 use Rattle.link_rules.specs.Wires.{Capacitor, NamedResistor, names_on, has_resistors}
 use Rattle.spef_read.specs.declared.parasitics.ResText.{ResText}
@@ -138,7 +136,7 @@ module _ (p : Parasitics) where
 -- ---- wires by the names of nets
 
 -- the bytes of a name, none where it is not there
-pub text_is : (p : Parasitics) (name : Name) (o : Option Text) → o ≡ slice_get (map (λ e. e.0) p.names) name.number → unwrap_or o [] ≡ text_of p name
+pub text_is : (p : Parasitics) (name : NameId) (o : Option Text) → o ≡ slice_get (map (λ e. e.0) p.names) name.number → unwrap_or o [] ≡ text_of p name
 text_is p name o h = ap (λ x. unwrap_or x []) (h ∙ slice_get-map (λ e. e.0) p.names name.number)
 
 -- what is listed for a net stands at the place of its name

@@ -9,7 +9,7 @@ use Rattle.std.proofs.lemmas.List.Elements.{All-cons, All-append, All-nil, All-m
 use Rattle.name_numbers.specs.Names.{Text}
 use Rattle.xt_model.specs.Names.{IsName}
 use Rattle.verilog_net.specs.declared.netlist.Netlist.{Netlist}
-use Rattle.spef_read.specs.declared.parasitics.Name.{Name}
+use Rattle.spef_read.specs.declared.parasitics.NameId.{NameId}
 use Rattle.spef_read.specs.declared.parasitics.ResText.{ResText}
 use Rattle.spef_read.specs.declared.parasitics.WireText.{WireText}
 use Rattle.spef_read.specs.declared.parasitics.Parasitics.{Parasitics}
@@ -33,7 +33,7 @@ pub found_has : {X : Type 0} (P : X → Type 0) (p : X → Bool) (xs : List X) �
 found_has P p xs all = subst (λ o. IfSome o P) (sym (find_at p xs)) (got_has P xs (position_or_len p xs) all)
 
 module _ (p : Parasitics) (sound : AreSoundParasitics p) where
-  pub text_named : (name : Name) → IsThere p name → IsName (text_of p name)
+  pub text_named : (name : NameId) → IsThere p name → IsName (text_of p name)
   text_named name there =
       subst (λ o. IsName (unwrap_or (option_map (λ (e : Text × Option ℕ). e.0) o) [])) (sym (slice_get-get_or p.names name.number ([], None) there))
       (sound.names name.number ([], None) there)
@@ -51,7 +51,7 @@ module _ (netlist : Netlist) (p : Parasitics) (sound : AreSoundParasitics p) (ne
   cap_valued x None v h = h
   cap_valued x (Some y) v h = cond_has (λ c. IsQuantity c.value) (own_first netlist p net x y) _ _ h h
 
-  other_named : (o : Option Name) → IfSome o (IsThere p) → IfSome (option_map (text_of p) o) IsName
+  other_named : (o : Option NameId) → IfSome o (IsThere p) → IfSome (option_map (text_of p) o) IsName
   other_named None h = tt
   other_named (Some name) h = text_named p sound name h
 

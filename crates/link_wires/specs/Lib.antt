@@ -1,6 +1,7 @@
 pub mod Places
 pub mod Marks
 pub mod Seen
+pub mod Plain
 pub mod Wires
 pub mod WireFaults
 pub mod Within

@@ -15,7 +15,7 @@ use crate::nodes::Nodes;
 use crate::parts::{CapAt, WireParts};
 use elmore_tree::Tap;
 use link_rules::Sink;
-use spef_read::Name;
+use spef_read::NameId;
 use std::alloc::{AllocError, Global};
 use xt_model::{Coupling, NetId};
 
@@ -30,7 +30,7 @@ pub fn are_apart(wire: &WireParts<'_>) -> bool
 }
 
 /// The number in the tree of the node of a name.
-pub fn node_at(nodes: &Nodes<'_>, wire: &WireParts<'_>, node: Name) -> u32
+pub fn node_at(nodes: &Nodes<'_>, wire: &WireParts<'_>, node: NameId) -> u32
     ensures { result ≡ node_at nodes.now.list (wire_by nodes.now.parasitics wire.now)
         (text_of nodes.now.parasitics node) }
 {

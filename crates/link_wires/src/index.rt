@@ -6,15 +6,15 @@ ghost use Rattle.link_rules.specs.Nodes.{text_of};
 ghost use Rattle.link_wires.specs.Places.{HavePlaces};
 
 use crate::first::set_first;
-use link_index::NetIndex;
+use link_index::NodeIndex;
 use link_rules::NetPins;
 use name_parts::{ByParts, NameParts};
-use spef_read::{Name, Parasitics, WireText};
+use spef_read::{NameId, Parasitics, WireText};
 use std::alloc::{AllocError, Global};
 use std::marker::Model;
 
 /// The name of a number; one of no byte for a number that is not there.
-pub fn text_of<'a>(parasitics: &'a Parasitics, name: Name) -> NameParts<'a>
+pub fn text_of<'a>(parasitics: &'a Parasitics, name: NameId) -> NameParts<'a>
     ensures { whole result ≡ text_of parasitics.entry.now name }
 {
     match parasitics.parts(name) {
@@ -45,7 +45,7 @@ fn places_of<'a>(
 /// look-up takes memory.
 #[derive(Drop)]
 pub struct WireIndex<'a> {
-    nets: &'a NetIndex<'a>,
+    nets: &'a NodeIndex<'a>,
     parasitics: &'a Parasitics,
     places: ByParts<'a, usize>,
 }
@@ -68,7 +68,7 @@ impl<'a> WireIndex<'a> {
     /// The index of parasitics. Takes time and memory in proportion to the wires.
     pub fn new(
         alloc: Global,
-        nets: &'a NetIndex<'a>,
+        nets: &'a NodeIndex<'a>,
         parasitics: &'a Parasitics,
     ) -> Result<WireIndex<'a>, AllocError>
         ensures { IfOk result (λ i. i ≡ record { netlist = nets.entry.now; parasitics = parasitics.entry.now }) }

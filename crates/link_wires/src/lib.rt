@@ -5,10 +5,12 @@ mod charges;
 mod fault;
 mod first;
 mod index;
+mod kept;
 mod marks;
 mod nodes;
 mod parts;
 mod tree;
 mod wire;
 
-pub use wire::{NetWire, form, wires};
+pub use kept::{KeptWire, form};
+pub use wire::{NetWire, wires};

@@ -11,7 +11,7 @@ use spef_read::Parasitics;
 use xt_model::Name;
 
 /// The number of a node of the net that had this turn.
-#[derive(Clone, Copy, Debug, PartialEq, Eq)]
+#[derive(Clone, Copy)]
 pub struct Mark {
     pub turn: u32,
     pub number: u32,

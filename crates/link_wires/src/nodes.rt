@@ -16,7 +16,7 @@ use crate::marks::{Mark, mark_ends, marked};
 use crate::parts::{CapAt, WireParts};
 use link_rules::{End, NetPins};
 use name_parts::NameParts;
-use spef_read::{Name as NodeName, Parasitics, ResText};
+use spef_read::{NameId, Parasitics, ResText};
 use std::alloc::{AllocError, Global};
 use std::marker::Model;
 use xt_model::Name;
@@ -32,7 +32,7 @@ const MOST_KEPT: usize = 4_294_967_295;
 pub struct Nodes<'a> {
     parasitics: &'a Parasitics,
     ends: Vec<Name>,
-    others: Vec<NodeName>,
+    others: Vec<NameId>,
     marks: Vec<Mark>,
     turn: u32,
 }
@@ -98,7 +98,7 @@ impl<'a> Nodes<'a> {
     }
 
     /// The number of the first node of this name, and that of the next node where there is none.
-    pub fn number(&self, name: NodeName) -> u32
+    pub fn number(&self, name: NameId) -> u32
         ensures { result ≡ number_of (text_of self.now.parasitics name) self.now.list }
     {
         match marked(&self.marks, self.turn, name.number) {
@@ -122,7 +122,7 @@ impl<'a> Nodes<'a> {
     }
 
     /// Adds the node of this name, where there is none.
-    pub fn enter(&mut self, name: NodeName) -> Result<(), AllocError>
+    pub fn enter(&mut self, name: NameId) -> Result<(), AllocError>
         requires { IsName (text_of self.old.parasitics name) }
         ensures list { OnOk result
             (self.new.list ≡ with_name (text_of self.old.parasitics name) self.old.list) }
@@ -144,29 +144,34 @@ impl<'a> Nodes<'a> {
     }
 }
 
-/// The name of the node of an end, with the delimiter before a pin.
-fn end_node(alloc: Global, delimiter: u8, end: &End) -> Result<Name, AllocError>
+/// The name of the node of an end, with the delimiter before a pin, which is put together in `room`.
+fn end_node(alloc: Global, delimiter: u8, end: &End, room: &mut Vec<u8>) -> Result<Name, AllocError>
     requires { IsName (delimiter ∷ []) }
     ensures { IfOk result (λ name. name ≡ end_name delimiter end.now) }
 {
     let name = end.name().bytes();
     prove!(!name.is_empty());
-    let bytes = end.node(alloc, delimiter)?;
-    Ok(Name::new(bytes))
+    end.write_node(delimiter, room)?;
+    Name::from_slice(alloc, room.as_slice())
 }
 
-/// The names of the nodes of the driver and of the sinks.
-pub fn end_nodes(alloc: Global, delimiter: u8, pins: &NetPins) -> Result<Vec<Name>, AllocError>
+/// The names of the nodes of the driver and of the sinks, each put together in `room`.
+pub fn end_nodes(
+    alloc: Global,
+    delimiter: u8,
+    pins: &NetPins,
+    room: &mut Vec<u8>,
+) -> Result<Vec<Name>, AllocError>
     requires { IsName (delimiter ∷ []) }
     ensures { IfOk result (λ ends. ends.items ≡ end_nodes delimiter pins.now) }
 {
     let mut ends = Vec::with_capacity(alloc, pins.sinks.as_slice().len() + 1)?;
     if let Some(driver) = &pins.driver {
-        ends.push(end_node(alloc, delimiter, driver)?)?;
+        ends.push(end_node(alloc, delimiter, driver, room)?)?;
     }
     let mut rest = pins.sinks.as_slice();
     'sinks: while let [sink, more @ ..] = rest {
-        ends.push(end_node(alloc, delimiter, &sink.end)?)?;
+        ends.push(end_node(alloc, delimiter, &sink.end, room)?)?;
         rest = more;
     }
     Ok(ends)

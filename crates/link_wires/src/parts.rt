@@ -6,14 +6,14 @@ ghost use Rattle.link_rules.specs.Wires.{coupled, capacitor_of, wire_in};
 ghost use Rattle.link_wires.specs.Seen.{cap_by, wire_by};
 
 use crate::index::{WireIndex, text_of};
-use spef_read::{CapText, Name, ResText, WireText};
+use spef_read::{CapText, NameId, ResText, WireText};
 use std::alloc::{AllocError, Global};
 use std::marker::Model;
 
 /// A capacitor of a net: its own node, the net to which it couples, if any, and its value in aF.
-#[derive(Clone, Copy, Debug, PartialEq, Eq)]
+#[derive(Clone, Copy)]
 pub struct CapAt {
-    pub node: Name,
+    pub node: NameId,
     pub to: Option<u32>,
     pub value: i64,
 }
@@ -29,7 +29,7 @@ pub struct WireParts<'a> {
 /// The net of a node, whose name is put together in `room`.
 fn looked_up<'a>(
     index: &'a WireIndex<'a>,
-    node: Name,
+    node: NameId,
     room: &mut Vec<u8>,
 ) -> Result<Option<u32>, AllocError>
     ensures { IfOk result
@@ -72,7 +72,7 @@ impl<'a> NodeNets<'a> {
     }
 
     /// The net of a node.
-    pub fn net(&mut self, node: Name) -> Result<Option<u32>, AllocError>
+    pub fn net(&mut self, node: NameId) -> Result<Option<u32>, AllocError>
         ensures value { IfOk result
             (λ net. net ≡ node_net self.old.netlist self.old.parasitics.delimiter (text_of self.old.parasitics node)) }
         ensures same { self.new ≡ self.old }

@@ -3,7 +3,7 @@
 ghost use Rattle.std.specs.Prelude.{◌≡◌, ◌<◌, ◌^◌, false, length, IfOk, IfErr, OnOk};
 ghost use Rattle.std.specs.List.{All, enumerate_from};
 ghost use Rattle.elmore_tree.specs.declared.fault.TreeFault.{TreeFault};
-ghost use Rattle.elmore_tree.specs.Forms.{IsFormOf, IsFaultOf, IsAcceptedTree};
+ghost use Rattle.elmore_tree.specs.Forms.{IsFaultOf, IsAcceptedTree};
 ghost use Rattle.spef_read.specs.Sound.{AreSoundParasitics};
 ghost use Rattle.link_rules.specs.Wires.{has_resistors};
 ghost use Rattle.link_wires.specs.WireFaults.{IsThere, IsTreeFault, IsLimit, IsTreeWithin, limit_at};
@@ -15,14 +15,15 @@ ghost use Rattle.link_wires.specs.Wires.{IsWireOf, AreWires, IsNetFault, IsFirst
 use crate::charges::{charges_of, couplings_of, greatest_load, taps_of};
 use crate::fault::{limit_of, refusal_of};
 use crate::index::WireIndex;
+use crate::kept::KeptWire;
 use crate::nodes::{Nodes, end_nodes, take_nodes};
 use crate::parts::{NodeNets, WireParts};
 use crate::tree::tree_of;
-use elmore_tree::{Tree, WireForm, check, coefficients};
-use link_index::NetIndex;
+use elmore_tree::{Tree, check};
+use link_index::{NetIndex, NodeIndex};
 use link_rules::{LinkFault, NetPins};
 use spef_read::Parasitics;
-use std::alloc::{AllocError, Global};
+use std::alloc::Global;
 use xt_model::{Coupling, Name, Row};
 
 /// The couplings of a net and the tree of its wire, with a tap for each coupling.
@@ -78,7 +79,7 @@ fn wire_within(
     listed: bool,
     nodes: &Nodes<'_>,
     parts: &WireParts<'_>,
-) -> Result<NetWire, LinkFault>
+) -> Result<KeptWire, LinkFault>
     requires numbered { IsNumbered nodes.now.list pins.now.sinks (wire_by nodes.now.parasitics parts.now) }
     requires wire { HasQuantities (wire_by nodes.now.parasitics parts.now) }
     requires sinks { HasSinkQuantities pins.now }
@@ -90,21 +91,23 @@ fn wire_within(
     let tree = tree_within(alloc, pins, listed, nodes, parts)?;
     check_tree(alloc, &pins.name, nodes, &tree)?;
     let couplings = couplings_of(alloc, parts)?;
-    Ok(NetWire {
+    let wire = NetWire {
         couplings: Row::from_vec(couplings),
         tree,
-    })
+    };
+    Ok(KeptWire::new(alloc, wire)?)
 }
 
-/// The wire of a net of this number.
+/// The wire of a net of this number. The names of its ends are put together in `room`.
 fn wire_of<'a>(
     alloc: Global,
     index: &WireIndex<'a>,
     nets: &mut NodeNets<'_>,
     nodes: &mut Nodes<'_>,
+    room: &mut Vec<u8>,
     net: u32,
     pins: &'a NetPins,
-) -> Result<NetWire, LinkFault>
+) -> Result<KeptWire, LinkFault>
     requires parasitics { AreSoundParasitics index.now.parasitics }
     requires sinks { HasSinkQuantities pins.now }
     requires nets { nets.old ≡ index.now }
@@ -116,9 +119,43 @@ fn wire_of<'a>(
 {
     let listed = index.listed(pins);
     let parts = WireParts::of_net(alloc, nets, net, listed)?;
-    let ends = end_nodes(alloc, index.parasitics().delimiter, pins)?;
+    let ends = end_nodes(alloc, index.parasitics().delimiter, pins, room)?;
     take_nodes(nodes, ends, &parts)?;
     wire_within(alloc, pins, listed.is_some(), &*nodes, &parts)
+}
+
+/// The wires of nets, in their order, or the fault of the first net that has one.
+fn wires_by<'a>(
+    alloc: Global,
+    index: &NodeIndex<'a>,
+    nets: &'a [NetPins],
+    parasitics: &'a Parasitics,
+) -> Result<Vec<KeptWire>, LinkFault>
+    requires few { length nets.now < 2 ^ 32 }
+    requires parasitics { AreSoundParasitics parasitics.now }
+    requires sinks { All HasSinkQuantities nets.now }
+    ensures ok { IfOk result
+        (λ v. AreWires index.now parasitics.now (enumerate_from 0 nets.now) v.items) }
+    ensures fault { IfErr result
+        (IsFirstFault index.now parasitics.now (enumerate_from 0 nets.now)) }
+{
+    let extracted = WireIndex::new(alloc, &*index, &*parasitics)?;
+    let mut node_nets = NodeNets::new(alloc, &extracted)?;
+    let mut nodes = Nodes::new(alloc, parasitics)?;
+    let mut room = Vec::new(alloc);
+    let mut wires = Vec::with_capacity(alloc, nets.len())?;
+    for (net, pins) in nets.iter().enumerate() {
+        wires.push(wire_of(
+            alloc,
+            &extracted,
+            &mut node_nets,
+            &mut nodes,
+            &mut room,
+            net as u32,
+            pins,
+        )?)?;
+    }
+    Ok(wires)
 }
 
 /// The wires of nets, in their order. The first fault counts: of the first net that has one its count of nodes, where
@@ -130,7 +167,7 @@ pub fn wires<'a>(
     index: &'a NetIndex<'a>,
     nets: &'a [NetPins],
     parasitics: &'a Parasitics,
-) -> Result<Vec<NetWire>, LinkFault>
+) -> Result<Vec<KeptWire>, LinkFault>
     requires few { length nets.now < 2 ^ 32 }
     requires parasitics { AreSoundParasitics parasitics.now }
     requires sinks { All HasSinkQuantities nets.now }
@@ -139,30 +176,6 @@ pub fn wires<'a>(
     ensures fault { IfErr result
         (IsFirstFault index.entry.now parasitics.entry.now (enumerate_from 0 nets.entry.now)) }
 {
-    let extracted = WireIndex::new(alloc, index, parasitics)?;
-    let mut node_nets = NodeNets::new(alloc, &extracted)?;
-    let mut nodes = Nodes::new(alloc, parasitics)?;
-    let mut wires = Vec::with_capacity(alloc, nets.len())?;
-    for (net, pins) in nets.iter().enumerate() {
-        wires.push(wire_of(
-            alloc,
-            &extracted,
-            &mut node_nets,
-            &mut nodes,
-            net as u32,
-            pins,
-        )?)?;
-    }
-    Ok(wires)
-}
-
-/// The Elmore form of a wire that is a tree which reaches all.
-pub fn form(alloc: Global, wire: &NetWire) -> Result<WireForm, AllocError>
-    requires { IsAcceptedTree wire.now.tree }
-    ensures { IfOk result (IsFormOf wire.now.tree) }
-{
-    match coefficients(alloc, &wire.tree) {
-        Ok(form) => Ok(form),
-        Err(_) => Err(AllocError),
-    }
+    let found: NodeIndex<'a> = NodeIndex::new(alloc, index)?;
+    wires_by(alloc, &found, nets, parasitics)
 }

@@ -2,7 +2,6 @@ use Rattle.std.proofs.Common.{◌≡◌, ◌≤◌, ◌<◌, ◌*◌, ◌^◌, �
 use Rattle.std.proofs.lemmas.List.{take_all}
 use Rattle.std.specs.List.{sum_by}
 use Rattle.xt_model.specs.Sound.{reads_by, reads_of}
-use Rattle.link_wires.specs.declared.wire.NetWire.{NetWire}
 use Rattle.design_link.specs.Sizes.{plain_nets}
 use Rattle.design_link.proofs.CoefficientLaws.{length-plain}
 use Rattle.design_link.proofs.ReadLaws.{reads_turn, most_turn}
@@ -11,7 +10,7 @@ use Rattle.design_link.proofs.sizes.reads_in_all.Goals as goal
 pub loop-k-preserved : goal.loop-k-preserved
 loop-k-preserved c =
     let lt : c.loop-k.k < length c.args.nets.now = c.loop-k-test.true in
-    let own : c.len.result ≡ length c.index-wires-k.result.couplings = c.len.ensures ∙ ap (λ (w : NetWire). length w.couplings) (sym c.index-wires-k.is) in
+    let own : c.coupling_count.result ≡ length c.index-wires-k.result.couplings = c.coupling_count.ensures in
     let arcs_most : c.reads_for-total.result ≤ length c.index-nets-k.result.arcs * 2 ^ 65 =
     subst (λ arcs. c.reads_for-total.result ≤ length arcs * 2 ^ 65) c.as_slice.ensures c.reads_for-total.ensures.most in (
       λ d is. reads_turn d c.args.nets.now c.args.wires.now c.loop-k.k c.loop-k.total c.reads_for-total.result c.index-nets-k.result c.index-wires-k.result c.requires.count lt

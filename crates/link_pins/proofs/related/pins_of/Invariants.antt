@@ -1,6 +1,6 @@
 use Rattle.std.proofs.Common.{◌≡◌, map, take}
-use Rattle.link_pins.specs.declared.related.RelatedPin.{RelatedPin}
+use Rattle.link_pins.specs.Timed.{TimedPlace}
 use Rattle.link_pins.proofs.related.pins_of.Given as goal
 
-abbrev pub invariant-loop-one : goal.invariant-loop-one
-invariant-loop-one l = l.pins.items ≡ map (λ (r : RelatedPin). r.pin) (take l.one-index l.related)
+abbrev pub invariant-loop-place : goal.invariant-loop-place
+invariant-loop-place l = l.pins.items ≡ map (λ (r : TimedPlace). r.1) (take l.place l.related.items)

@@ -1,4 +1,4 @@
-use Rattle.std.proofs.Common.{map, ◌∙◌, arith}
+use Rattle.std.proofs.Common.{map, ◌∙◌}
 use Rattle.link_wires.proofs.MarkLaws.{ends_turn}
 use Rattle.link_wires.proofs.marks.mark_ends.Goals as goal
 

@@ -1,27 +1,13 @@
-use Rattle.std.proofs.Common.{◌∙◌, sym, ap, arith}
-use Rattle.std.proofs.lemmas.Result.{err_from_is_err_and}
-use Rattle.link_wires.proofs.WireLaws.{wires_push, first_fault, wires_whole}
+use Rattle.std.specs.Prelude.{IfOk, IfErr}
+use Rattle.std.specs.List.{enumerate_from}
+use Rattle.std.proofs.Common.{subst}
+use Rattle.link_wires.specs.Wires.{AreWires, IsFirstFault}
 use Rattle.link_wires.proofs.wire.wires.Goals as goal
 
-pub returns-in_err-wire_of-clause-fault : goal.returns-in_err-wire_of-clause-fault
-returns-in_err-wire_of-clause-fault c =
-    let failed = err_from_is_err_and c.from_residual-in_err-wire_of.result c.from_residual-in_err-wire_of.ensures.1 in
-    rw (failed.1, failed.2)
-    (first_fault c.args.index.now c.args.parasitics.now c.args.nets.now c.loop-net.net c.index-nets-net.result c.loop-net.wires.items c.loop-net-test.true c.index-nets-net.is c.loop-net.invariant.wires _ (rw c.in_ok-extracted.ensures at c.in_err-wire_of.ensures.fault))
-
-pub loop-net-preserved : goal.loop-net-preserved
-loop-net-preserved c = record {
-  wires = rw c.in_ok-push.ensures.items
-      (wires_push c.args.index.now c.args.parasitics.now c.args.nets.now c.loop-net.net c.index-nets-net.result c.loop-net.wires.items c.loop-net-test.true c.index-nets-net.is c.loop-net.invariant.wires _ (rw c.in_ok-extracted.ensures at c.in_ok-wire_of.ensures.ok));
-  nets = c.in_ok-wire_of.ensures.nets ∙ c.in_ok-extracted.ensures;
-  nodes = c.in_ok-wire_of.ensures.nodes ∙ ap (λ e. e.parasitics) c.in_ok-extracted.ensures;
-}
-
 pub returns-clause-ok : goal.returns-clause-ok
-returns-clause-ok c = wires_whole c.args.index.now c.args.parasitics.now c.args.nets.now c.loop-net.net c.loop-net.wires.items (omega (arith, c.loop-net-test.false)) c.loop-net.invariant.wires
+returns-clause-ok c =
+    subst (λ n. IfOk c.wires_by.result (λ v. AreWires n c.args.parasitics.now (enumerate_from 0 c.args.nets.now) v.items)) c.in_ok-found.ensures c.wires_by.ensures.ok
 
-pub wire_of-requires-clause-nets : goal.wire_of-requires-clause-nets
-wire_of-requires-clause-nets c = c.loop-net.invariant.nets ∙ sym c.in_ok-extracted.ensures
-
-pub wire_of-requires-clause-nodes : goal.wire_of-requires-clause-nodes
-wire_of-requires-clause-nodes c = c.loop-net.invariant.nodes ∙ ap (λ e. e.parasitics) (sym c.in_ok-extracted.ensures)
+pub returns-clause-fault : goal.returns-clause-fault
+returns-clause-fault c =
+    subst (λ n. IfErr c.wires_by.result (IsFirstFault n c.args.parasitics.now (enumerate_from 0 c.args.nets.now))) c.in_ok-found.ensures c.wires_by.ensures.fault

@@ -1,4 +1,4 @@
-use Rattle.std.proofs.Common.{◌≡◌, ◌∙◌, ℕ, Some, get_or, ap, subst, arith}
+use Rattle.std.proofs.Common.{◌≡◌, ◌+◌, ◌∙◌, ℕ, Some, get_or, ap, subst, arith}
 use Rattle.std.specs.List.{slice_get, sum_by}
 use Rattle.std.proofs.lemmas.List.{take_all}
 use Rattle.std.proofs.lemmas.Option.{slice_get-get_or}
@@ -29,7 +29,7 @@ loop-at-preserved c =
     let has : Has (places_of g 0 v.pins.items) m = subst (λ l. Has l m) are (has_at js c.loop-at.at-index m (slice_get-get_or js c.loop-at.at-index 0 c.loop-at-test.true)) in
     let there : slice_get v.counts.items m ≡ Some c.index.result.now =
     read_there v.counts.items m _ c.index.result.now (found_within g v.related.items v.pins.items v.counts.items c.requires.indexed.placed m has) c.index.ensures in
-    next_count v.counts.items js c.loop-at.at-index c.loop-at.count c.in_ok-count.count c.index.result.now c.loop-at-test.true c.loop-at.invariant there c.in_ok-count.ensures
+    next_count v.counts.items js c.loop-at.at-index c.loop-at.count c.in_ok-count.count c.index.result.now c.loop-at-test.true c.loop-at.invariant there (c.in_ok-count.ensures ∙ ap (λ n. c.loop-at.count + n) c.from.ensures)
 
 pub returns : goal.returns
 returns c =

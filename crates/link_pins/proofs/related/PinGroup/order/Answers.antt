@@ -35,7 +35,7 @@ loop-at-preserved c =
     let there : slice_get v.counts.items m ≡ Some c.index.result.now =
     read_there v.counts.items m _ c.index.result.now (found_within g v.related.items v.pins.items v.counts.items c.requires.indexed.placed m has) c.index.ensures in
     let step : c.extend_from_slice.new.self.items ≡ cur ++ f m =
-    c.in_ok-extend_from_slice.ensures.items ∙ (ap (λ l. cur ++ l) c.deref-in-loop-at.ensures.value ∙ ap (λ o. cur ++ places_by o) (sym there)) in
+    c.in_ok-extend_from_slice.ensures.items ∙ (ap (λ l. cur ++ l) c.as_slice.ensures ∙ ap (λ o. cur ++ places_by o) (sym there)) in
     flat_more f js c.loop-at.at-index 0 [] cur c.extend_from_slice.new.self.items c.loop-at-test.true c.loop-at.invariant step
 
 pub returns : goal.returns

@@ -1,7 +1,7 @@
 use Rattle.std.proofs.Common.{◌≡◌, take}
 use Rattle.std.specs.List.{enumerate_from}
 use Rattle.link_wires.specs.Wires.{AreWires}
-use Rattle.link_wires.proofs.wire.wires.Given as goal
+use Rattle.link_wires.proofs.wire.wires_by.Given as goal
 
 abbrev pub invariant-loop-net : goal.invariant-loop-net
 invariant-loop-net l = record {
