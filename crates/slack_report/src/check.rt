@@ -7,7 +7,7 @@ use xt_model::{CheckPoint, Edge, NetId};
 
 /// What data has to be in time for: the rise of a clock at a sink of its net, with the number of the table of the time
 /// that the data needs there; or a moment outside the design, by the delay to there in fs.
-#[derive(Clone, Copy, Debug, PartialEq, Eq)]
+#[derive(Clone, Copy)]
 pub(crate) enum Reference {
     Clock { net: NetId, sink: u32, table: u32 },
     Outside { delay: i64 },
@@ -15,7 +15,7 @@ pub(crate) enum Reference {
 
 /// A check: an edge of a net at one of its sinks, what it has to be in time for, and whether it is to stay as it is
 /// until after that (hold) or to be there before it (setup). The check point has the number `point`.
-#[derive(Clone, Copy, Debug, PartialEq, Eq)]
+#[derive(Clone, Copy)]
 pub(crate) struct Check {
     pub point: u32,
     pub hold: bool,

@@ -16,14 +16,14 @@ use std::collections::HashMap;
 use xt_model::{Design, Edge, NetId, Windows};
 
 /// A sink: the one of this number of a net.
-#[derive(Clone, Copy, Debug, PartialEq, Eq, Hash)]
+#[derive(Clone, Copy, PartialEq, Eq, Hash)]
 pub(crate) struct Place {
     pub net: NetId,
     pub sink: u32,
 }
 
 /// The windows of the edges of a net at one of its sinks; none of an edge that never switches.
-#[derive(Clone, Copy, Debug, PartialEq, Eq)]
+#[derive(Clone, Copy)]
 pub(crate) struct EdgeWindows {
     pub rise: Option<SinkWindow>,
     pub fall: Option<SinkWindow>,

@@ -1,7 +1,7 @@
-use Rattle.std.proofs.Common.{◌≡◌, ℕ, ◌+◌, ◌<◌, ◌≤◌, List, ◌++◌, length, take, drop, Option, Some, None, IfSome, vec_len, refl, sym, ap, ◌∙◌, arith}
+use Rattle.std.proofs.Common.{◌≡◌, ℕ, ◌+◌, ◌<◌, ◌≤◌, List, ◌++◌, length, take, drop, Option, Some, None, IfSome, inl, inr, vec_len, refl, sym, ap, subst, ◌∙◌, arith}
 use Rattle.std.proofs.lemmas.List.{length-take-le, take_all}
 use Rattle.std.proofs.Math.Seq.{take-add}
-use Rattle.xt_io.specs.Outside.{Place, AreNext, IsAtEnd, IsPast, moved_by}
+use Rattle.xt_io.specs.Outside.{Place, Rose, KeepsCounts, ChangesOnly, AreNext, IsAtEnd, IsPast, moved_by}
 use Rattle.xt_io.proofs.reading.read_whole.Goals as goal
 
 -- ---- a reader that stands in a file of this name, behind so many bytes of it
@@ -47,6 +47,17 @@ more_read None bytes piece all read behind first next joined moved = tt
 more_read (Some whole) bytes piece all read behind first next joined moved =
     joined ∙ (ap (λ t. t ++ piece) first ∙ (ap (λ t. take read whole ++ t) next.1
     ∙ (sym (take-add read (length piece) whole) ∙ ap (λ n. take n whole) (sym moved))))
+
+-- ---- counts of faults that were as before, up to the last call
+
+rose_since : (before now after : List ℕ → ℕ) (name : List ℕ) → KeepsCounts before now → Rose (now name) (after name) → Rose (before name) (after name)
+rose_since before now after name kept rose = subst (λ n. Rose n (after name)) (kept name) rose
+
+changed_since : (before now after : List ℕ → ℕ) (name : List ℕ) → KeepsCounts before now → ChangesOnly name now after → ChangesOnly name before after
+changed_since before now after name kept only m = elim (only m) [
+  | inl e ↦ inl (e ∙ kept m)
+  | inr h ↦ inr (sym (kept m) ∙ (h.0 ∙ kept name), h.1)
+]
 
 -- ---- the answers
 
@@ -101,3 +112,96 @@ pieces-preserved g c =
           (vec_len c.extend_from_slice.new.self) c.pieces.invariant.so_far next c.in-Ok-extend_from_slice.ensures.items moved;
       room = omega (arith, c.pieces.invariant.room, c.read.auto.buffer);
     }
+
+pub returns-then-is_err-clause-content : goal.returns-then-is_err-clause-content
+returns-then-is_err-clause-content g c = c.open.ensures.content
+
+pub returns-then-is_err-clause-opened : goal.returns-then-is_err-clause-opened
+returns-then-is_err-clause-opened g c = c.open.ensures.recorded
+
+pub returns-then-is_err-clause-counts : goal.returns-then-is_err-clause-counts
+returns-then-is_err-clause-counts g c = c.open.ensures.counts
+
+pub returns-in_default-clause-content : goal.returns-in_default-clause-content
+returns-in_default-clause-content g c = c.open.ensures.content
+
+pub returns-in_default-clause-opened : goal.returns-in_default-clause-opened
+returns-in_default-clause-opened g c = c.open.ensures.recorded
+
+pub returns-in_default-clause-counts : goal.returns-in_default-clause-counts
+returns-in_default-clause-counts g c = c.open.ensures.counts
+
+pub returns-in_default-read-clause-content : goal.returns-in_default-read-clause-content
+returns-in_default-read-clause-content g c = λ m. c.in_default-read.ensures.content m ∙ c.pieces.invariant.same m
+
+pub returns-in_default-read-clause-opened : goal.returns-in_default-read-clause-opened
+returns-in_default-read-clause-opened g c = rw c.in_default-read.ensures.record c.pieces.invariant.opened
+
+pub returns-in_default-read-clause-counts : goal.returns-in_default-read-clause-counts
+returns-in_default-read-clause-counts g c = λ m. omega (arith, c.pieces.invariant.counts m, c.in_default-read.ensures.counts m)
+
+pub returns-in_default-read-clause-fault : goal.returns-in_default-read-clause-fault
+returns-in_default-read-clause-fault g c =
+    let F = g.F.Files.faults in
+    λ e. rose_since (F c.args.files.now) (F c.pieces.files) (F c.read.new.self) c.args.name.now c.pieces.invariant.counts
+    (rw c.pieces.invariant.place at c.in_default-read.ensures.failed)
+
+pub returns-in_default-read-clause-others : goal.returns-in_default-read-clause-others
+returns-in_default-read-clause-others g c =
+    let F = g.F.Files.faults in
+    changed_since (F c.args.files.now) (F c.pieces.files) (F c.read.new.self) c.args.name.now c.pieces.invariant.counts
+    (rw c.pieces.invariant.place at c.in_default-read.ensures.others)
+
+pub returns-then-count-eq0-clause-content : goal.returns-then-count-eq0-clause-content
+returns-then-count-eq0-clause-content g c = λ m. c.in-Ok-read.ensures.content m ∙ c.pieces.invariant.same m
+
+pub returns-then-count-eq0-clause-opened : goal.returns-then-count-eq0-clause-opened
+returns-then-count-eq0-clause-opened g c = rw c.in-Ok-read.ensures.record c.pieces.invariant.opened
+
+pub returns-then-count-eq0-clause-counts : goal.returns-then-count-eq0-clause-counts
+returns-then-count-eq0-clause-counts g c = λ m. omega (arith, c.in-Ok-read.ensures.kept m ∙ c.pieces.invariant.counts m)
+
+pub returns-then-count-eq0-clause-kept : goal.returns-then-count-eq0-clause-kept
+returns-then-count-eq0-clause-kept g c = λ _ m. c.in-Ok-read.ensures.kept m ∙ c.pieces.invariant.counts m
+
+pub returns-then-count-eq0-clause-others : goal.returns-then-count-eq0-clause-others
+returns-then-count-eq0-clause-others g c = λ m. inl (c.in-Ok-read.ensures.kept m ∙ c.pieces.invariant.counts m)
+
+pub returns-then-count-eq0-clause-fault : goal.returns-then-count-eq0-clause-fault
+returns-then-count-eq0-clause-fault g c = λ e. absurd cc
+
+pub returns-then-count-len-clause-content : goal.returns-then-count-len-clause-content
+returns-then-count-len-clause-content g c = λ m. c.in-Ok-read.ensures.content m ∙ c.pieces.invariant.same m
+
+pub returns-then-count-len-clause-opened : goal.returns-then-count-len-clause-opened
+returns-then-count-len-clause-opened g c = rw c.in-Ok-read.ensures.record c.pieces.invariant.opened
+
+pub returns-then-count-len-clause-counts : goal.returns-then-count-len-clause-counts
+returns-then-count-len-clause-counts g c = λ m. omega (arith, c.in-Ok-read.ensures.kept m ∙ c.pieces.invariant.counts m)
+
+pub returns-then-count-len-clause-kept : goal.returns-then-count-len-clause-kept
+returns-then-count-len-clause-kept g c = λ _ m. c.in-Ok-read.ensures.kept m ∙ c.pieces.invariant.counts m
+
+pub returns-then-count-len-clause-others : goal.returns-then-count-len-clause-others
+returns-then-count-len-clause-others g c = λ m. inl (c.in-Ok-read.ensures.kept m ∙ c.pieces.invariant.counts m)
+
+pub returns-then-count-len-clause-fault : goal.returns-then-count-len-clause-fault
+returns-then-count-len-clause-fault g c = λ e. absurd cc
+
+pub returns-in_default-extend_from_slice-clause-content : goal.returns-in_default-extend_from_slice-clause-content
+returns-in_default-extend_from_slice-clause-content g c = λ m. c.in-Ok-read.ensures.content m ∙ c.pieces.invariant.same m
+
+pub returns-in_default-extend_from_slice-clause-opened : goal.returns-in_default-extend_from_slice-clause-opened
+returns-in_default-extend_from_slice-clause-opened g c = rw c.in-Ok-read.ensures.record c.pieces.invariant.opened
+
+pub returns-in_default-extend_from_slice-clause-counts : goal.returns-in_default-extend_from_slice-clause-counts
+returns-in_default-extend_from_slice-clause-counts g c = λ m. omega (arith, c.in-Ok-read.ensures.kept m ∙ c.pieces.invariant.counts m)
+
+pub returns-in_default-extend_from_slice-clause-kept : goal.returns-in_default-extend_from_slice-clause-kept
+returns-in_default-extend_from_slice-clause-kept g c = λ _ m. c.in-Ok-read.ensures.kept m ∙ c.pieces.invariant.counts m
+
+pub returns-in_default-extend_from_slice-clause-others : goal.returns-in_default-extend_from_slice-clause-others
+returns-in_default-extend_from_slice-clause-others g c = λ m. inl (c.in-Ok-read.ensures.kept m ∙ c.pieces.invariant.counts m)
+
+pub returns-in_default-extend_from_slice-clause-fault : goal.returns-in_default-extend_from_slice-clause-fault
+returns-in_default-extend_from_slice-clause-fault g c = λ e. absurd cc
