@@ -9,10 +9,11 @@ use Rattle.report_kind.specs.declared.kind.ReportKind.TheVariants.{All}
 use Rattle.command_line.specs.Grammar.{Text, given_of, value_of}
 use Rattle.command_line.specs.declared.values.Engine.TheVariants.{Rounds}
 use Rattle.command_line.specs.Values.{engine, if_said, miller_numbers, net_count, number_of, number_within, said_or, worker_count}
-use Rattle.command_line.specs.Words.{HasCount, IsNetCount, IsWorkerCount, block_files, command_named, form_of_command, job_for, job_of}
+use Rattle.command_line.specs.Words.{HasCount, IsNetCount, IsWorkerCount, block_files, command_named, form_of_command, job_for, job_of, solve_options}
 use Rattle.command_line.specs.declared.words.CommandName.{CommandName}
 use Rattle.command_line.specs.declared.words.CommandName.TheVariants as command
 use Rattle.command_line.specs.declared.words.Job.{Job}
+use Rattle.command_line.specs.declared.words.SolveOptions.{SolveOptions}
 
 -- what holds of the value that a first step gives, and then of what a second makes of it, holds of both together
 pub if_both : {A B : Type 0} (P : A → Type 0) (Q : B → Type 0) (o : Option A) (f : A → Option B) → IfSome o P → ((x : A) → P x → IfSome (f x) Q) → IfSome (o >>= f) Q
@@ -60,17 +61,22 @@ given_within word = if_second IsWorkerCount word worker_count workers_within
 nets_given : (word : Option Text) → IfSome (word >>= net_count) IsNetCount
 nets_given word = if_second IsNetCount word net_count nets_within
 
+abbrev HasWorkers : SolveOptions → Type 0
+HasWorkers o = IsWorkerCount o.workers
+
+options_count : (get : Text → Option Text) → IfSome (solve_options get) HasWorkers
+options_count get =
+    if_both IsWorkerCount HasWorkers (said_or 1 worker_count (get (codes "workers"))) _ (said_within (get (codes "workers"))) (λ workers count.
+    if_second HasWorkers (said_or All kind_of (get (codes "kind"))) _ (λ kind. if_second HasWorkers (if_said miller_numbers (get (codes "miller"))) _ (λ miller.
+    if_second HasWorkers (said_or Rounds engine (get (codes "engine"))) _ (λ chosen. count))))
+
 job_count : (name : CommandName) (get : Text → Option Text) → IfSome (job_for name get) HasCount
 job_count command.Report get =
-    if_second HasCount (block_files get) _ (λ files. if_both IsWorkerCount HasCount (said_or 1 worker_count (get (codes "workers"))) _ (said_within (get (codes "workers"))) (λ workers count.
-    if_second HasCount (said_or All kind_of (get (codes "kind"))) _ (λ kind. if_second HasCount (if_said miller_numbers (get (codes "miller"))) _ (λ miller.
-    if_second HasCount (said_or Rounds engine (get (codes "engine"))) _ (λ chosen. count)))))
+    if_second HasCount (block_files get) _ (λ files. if_both HasWorkers HasCount (solve_options get) _ (options_count get) (λ o count. count))
 job_count command.Link get =
     if_second HasCount (block_files get) _ (λ files. if_second HasCount (if_said miller_numbers (get (codes "miller"))) _ (λ miller. tt))
 job_count command.Solve get =
-    if_second HasCount (get (codes "file")) _ (λ file. if_both IsWorkerCount HasCount (said_or 1 worker_count (get (codes "workers"))) _ (said_within (get (codes "workers"))) (λ workers count.
-    if_second HasCount (said_or All kind_of (get (codes "kind"))) _ (λ kind. if_second HasCount (if_said miller_numbers (get (codes "miller"))) _ (λ miller.
-    if_second HasCount (said_or Rounds engine (get (codes "engine"))) _ (λ chosen. count)))))
+    if_second HasCount (get (codes "file")) _ (λ file. if_both HasWorkers HasCount (solve_options get) _ (options_count get) (λ o count. count))
 job_count command.Replay get =
     if_second HasCount (get (codes "file")) _ (λ file. if_second HasCount (get (codes "order") >>= number_of 64) _ (λ order.
     if_both IsWorkerCount HasCount (get (codes "workers") >>= worker_count) _ (given_within (get (codes "workers"))) (λ workers count. if_second HasCount (if_said miller_numbers (get (codes "miller"))) _ (λ miller. count))))

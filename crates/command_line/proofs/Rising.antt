@@ -10,10 +10,11 @@ use Rattle.report_kind.specs.declared.kind.ReportKind.TheVariants.{All}
 use Rattle.command_line.specs.Grammar.{Text}
 use Rattle.command_line.specs.declared.values.Engine.TheVariants.{Rounds}
 use Rattle.command_line.specs.Values.{engine, if_said, miller_numbers, net_count, number_of, said_or, three_of, worker_count}
-use Rattle.command_line.specs.Words.{block_files, job_for, job_of}
+use Rattle.command_line.specs.Words.{block_files, job_for, job_of, solve_options}
 use Rattle.command_line.specs.declared.words.CommandName.{CommandName}
 use Rattle.command_line.specs.declared.words.CommandName.TheVariants as command
 use Rattle.command_line.specs.declared.words.Job.{Job}
+use Rattle.command_line.specs.declared.words.SolveOptions.{SolveOptions}
 use Rattle.command_line.specs.declared.words.Job.TheVariants.{Eco, Gen, Link, Replay, Report, Solve}
 use Rattle.command_line.proofs.Counts.{if_both, if_second, of_words}
 
@@ -48,17 +49,22 @@ HasRising (Replay job) = IfSome job.miller IsMiller
 HasRising (Eco job) = IfSome job.miller IsMiller
 HasRising (Gen job) = Unit {0}
 
+abbrev AreRising : SolveOptions → Type 0
+AreRising o = AreMiller o.miller
+
+options_rise : (get : Text → Option Text) → IfSome (solve_options get) AreRising
+options_rise get =
+    if_second AreRising (said_or 1 worker_count (get (codes "workers"))) _ (λ workers. if_second AreRising (said_or All kind_of (get (codes "kind"))) _ (λ kind.
+    if_both AreMiller AreRising (if_said miller_numbers (get (codes "miller"))) _ (said_rises (get (codes "miller"))) (λ miller rise.
+    if_second AreRising (said_or Rounds engine (get (codes "engine"))) _ (λ chosen. rise))))
+
 job_rise : (name : CommandName) (get : Text → Option Text) → IfSome (job_for name get) HasRising
 job_rise command.Report get =
-    if_second HasRising (block_files get) _ (λ files. if_second HasRising (said_or 1 worker_count (get (codes "workers"))) _ (λ workers. if_second HasRising (said_or All kind_of (get (codes "kind"))) _ (λ kind.
-    if_both AreMiller HasRising (if_said miller_numbers (get (codes "miller"))) _ (said_rises (get (codes "miller"))) (λ miller rise.
-    if_second HasRising (said_or Rounds engine (get (codes "engine"))) _ (λ chosen. rise)))))
+    if_second HasRising (block_files get) _ (λ files. if_both AreRising HasRising (solve_options get) _ (options_rise get) (λ o rise. rise))
 job_rise command.Link get =
     if_second HasRising (block_files get) _ (λ files. if_both AreMiller HasRising (if_said miller_numbers (get (codes "miller"))) _ (said_rises (get (codes "miller"))) (λ miller rise. rise))
 job_rise command.Solve get =
-    if_second HasRising (get (codes "file")) _ (λ file. if_second HasRising (said_or 1 worker_count (get (codes "workers"))) _ (λ workers. if_second HasRising (said_or All kind_of (get (codes "kind"))) _ (λ kind.
-    if_both AreMiller HasRising (if_said miller_numbers (get (codes "miller"))) _ (said_rises (get (codes "miller"))) (λ miller rise.
-    if_second HasRising (said_or Rounds engine (get (codes "engine"))) _ (λ chosen. rise)))))
+    if_second HasRising (get (codes "file")) _ (λ file. if_both AreRising HasRising (solve_options get) _ (options_rise get) (λ o rise. rise))
 job_rise command.Replay get =
     if_second HasRising (get (codes "file")) _ (λ file. if_second HasRising (get (codes "order") >>= number_of 64) _ (λ order. if_second HasRising (get (codes "workers") >>= worker_count) _ (λ workers.
     if_both AreMiller HasRising (if_said miller_numbers (get (codes "miller"))) _ (said_rises (get (codes "miller"))) (λ miller rise. rise))))

@@ -13,6 +13,7 @@ use Rattle.command_line.specs.Values.{engine, if_said, miller_numbers, net_count
 use Rattle.command_line.specs.declared.words.CommandName.{CommandName}
 use Rattle.command_line.specs.declared.words.CommandName.TheVariants as command
 use Rattle.command_line.specs.declared.words.BlockFiles.{BlockFiles}
+use Rattle.command_line.specs.declared.words.SolveOptions.{SolveOptions}
 use Rattle.command_line.specs.declared.words.Job.{Job}
 use Rattle.command_line.specs.declared.words.Job.TheVariants.{Report, Solve, Replay, Eco, Link, Gen}
 
@@ -88,16 +89,22 @@ block_files given = do
   sdc ← given (codes "sdc")
   Some (record { lib = lib; netlist = netlist; spef = spef; sdc = sdc })
 
--- four files to link and to solve, by one worker, with the whole report and by the classical Miller numbers unless
--- the words say otherwise
-abbrev pub report_job : (Text → Option Text) → Option Job
-report_job given = do
-  files ← block_files given
+-- how a design is solved and reported: by one worker, with the whole report, by its own Miller numbers and by rounds
+-- unless the words say otherwise
+abbrev pub solve_options : (Text → Option Text) → Option SolveOptions
+solve_options given = do
   workers ← said_or 1 worker_count (given (codes "workers"))
   kind ← said_or All kind_of (given (codes "kind"))
   miller ← if_said miller_numbers (given (codes "miller"))
   chosen ← said_or Rounds engine (given (codes "engine"))
-  Some (Report (record { files = files; workers = workers; kind = kind; miller = miller; engine = chosen }))
+  Some (record { workers = workers; kind = kind; miller = miller; engine = chosen })
+
+-- four files to link and to solve; the design's own Miller numbers are the classical ones
+abbrev pub report_job : (Text → Option Text) → Option Job
+report_job given = do
+  files ← block_files given
+  o ← solve_options given
+  Some (Report (record { files = files; workers = o.workers; kind = o.kind; miller = o.miller; engine = o.engine }))
 
 -- four files to link, by the classical Miller numbers unless the words say otherwise
 abbrev pub link_job : (Text → Option Text) → Option Job
@@ -106,16 +113,12 @@ link_job given = do
   miller ← if_said miller_numbers (given (codes "miller"))
   Some (Link (record { files = files; miller = miller }))
 
--- a linked text to solve, by one worker, with the whole report and by its own Miller numbers unless the words say
--- otherwise
+-- a linked text to solve
 abbrev pub solve_job : (Text → Option Text) → Option Job
 solve_job given = do
   file ← given (codes "file")
-  workers ← said_or 1 worker_count (given (codes "workers"))
-  kind ← said_or All kind_of (given (codes "kind"))
-  miller ← if_said miller_numbers (given (codes "miller"))
-  chosen ← said_or Rounds engine (given (codes "engine"))
-  Some (Solve (record { file = file; workers = workers; kind = kind; miller = miller; engine = chosen }))
+  o ← solve_options given
+  Some (Solve (record { file = file; workers = o.workers; kind = o.kind; miller = o.miller; engine = o.engine }))
 
 -- a linked text to solve by `workers` workers in the order of a number, with its own Miller numbers unless the words
 -- say otherwise

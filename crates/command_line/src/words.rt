@@ -101,6 +101,16 @@ pub struct GenJob {
     pub workers: u32,
 }
 
+/// What the options of `report` and `solve` say: by how many workers, which report, by which Miller numbers in place of
+/// the design's own, and by which engine.
+#[derive(Clone, Copy)]
+struct SolveOptions {
+    workers: u32,
+    kind: ReportKind,
+    miller: Option<Miller>,
+    engine: Engine,
+}
+
 /// The command that the first word names.
 #[derive(Clone, Copy)]
 enum CommandName {
@@ -211,16 +221,35 @@ fn block_files(alloc: Global, given: &ArgMatches) -> Result<Option<BlockFiles>, 
     }))
 }
 
-fn report_job(files: Option<BlockFiles>, given: &ArgMatches) -> Option<Job>
-    requires { files ≡ Words.block_files (first_value (found_of given.now)) }
-    ensures { result ≡ Words.report_job (first_value (found_of given.now)) }
+// What the options of `report` and `solve` say.
+fn solve_options(given: &ArgMatches) -> Option<SolveOptions>
+    ensures { result ≡ Words.solve_options (first_value (found_of given.now)) }
 {
-    Some(Job::Report(ReportJob {
-        files: files?,
+    Some(SolveOptions {
         workers: workers_or_one(given.get_str("workers"))?,
         kind: kind_or_all(given.get_str("kind"))?,
         miller: miller_if_said(given.get_str("miller"))?,
         engine: engine_or_rounds(given.get_str("engine"))?,
+    })
+}
+
+fn report_job(files: Option<BlockFiles>, given: &ArgMatches) -> Option<Job>
+    requires { files ≡ Words.block_files (first_value (found_of given.now)) }
+    ensures { result ≡ Words.report_job (first_value (found_of given.now)) }
+{
+    let files = files?;
+    let SolveOptions {
+        workers,
+        kind,
+        miller,
+        engine,
+    } = solve_options(given)?;
+    Some(Job::Report(ReportJob {
+        files,
+        workers,
+        kind,
+        miller,
+        engine,
     }))
 }
 
@@ -238,12 +267,19 @@ fn solve_job(file: Option<FileName>, given: &ArgMatches) -> Option<Job>
     requires { file ≡ first_value (found_of given.now) (codes "file") }
     ensures { result ≡ Words.solve_job (first_value (found_of given.now)) }
 {
+    let file = file?;
+    let SolveOptions {
+        workers,
+        kind,
+        miller,
+        engine,
+    } = solve_options(given)?;
     Some(Job::Solve(SolveJob {
-        file: file?,
-        workers: workers_or_one(given.get_str("workers"))?,
-        kind: kind_or_all(given.get_str("kind"))?,
-        miller: miller_if_said(given.get_str("miller"))?,
-        engine: engine_or_rounds(given.get_str("engine"))?,
+        file,
+        workers,
+        kind,
+        miller,
+        engine,
     }))
 }
 
@@ -304,6 +340,18 @@ fn job_for(
     }
 }
 
+// The job of a command whose words are these, or why there is none.
+fn job_said(alloc: Global, command: CommandName, given: &ArgMatches) -> Result<Job, WordsFault>
+    ensures said { IfOk result (λ job. Words.job_for command (first_value (found_of given.now)) ≡ Some job) }
+    ensures bad { result ≡ Err WordsFault.Bad → Words.job_for command (first_value (found_of given.now)) ≡ None }
+{
+    match job_for(alloc, command, given) {
+        Ok(Some(job)) => Ok(job),
+        Ok(None) => Err(WordsFault::Bad),
+        Err(_) => Err(WordsFault::NoMemory),
+    }
+}
+
 /// Reads the words after the program's name.
 pub fn parse_words(alloc: Global, words: &[String]) -> Result<Job, WordsFault>
     ensures parsed { IfOk result (λ job. job_of (bytes_of words.now) ≡ Some job) }
@@ -318,11 +366,7 @@ pub fn parse_words(alloc: Global, words: &[String]) -> Result<Job, WordsFault>
         return Err(WordsFault::Bad);
     };
     match read(alloc, &rule_of(command), words) {
-        Ok(given) => match job_for(alloc, command, &given) {
-            Ok(Some(job)) => Ok(job),
-            Ok(None) => Err(WordsFault::Bad),
-            Err(_) => Err(WordsFault::NoMemory),
-        },
+        Ok(given) => job_said(alloc, command, &given),
         Err(fault) => Err(fault),
     }
 }

@@ -22,7 +22,7 @@ use Rattle.hier_flatten.specs.Names.{has_equal_names, has_long_name}
 use Rattle.hier_flatten.specs.Meaning.{Outcome, named, within_limits, TopMeans, HierarchyMeans, circular, finite, unless_misfit, FlatMeans}
 use Rattle.hier_flatten.proofs.MeaningLaws.{top_has}
 use Rattle.text_forms.proofs.Bytes.{each_push, each-weaker, each_at}
-use Rattle.sound_reads.proofs.FlatNetlists.{bind_parts, passed_parts}
+use Rattle.hier_flatten.proofs.FlatNetlists.{bind_parts, passed_parts}
 use Rattle.flat_laws.specs.Laws.{IsOneBit, ConnectsBits}
 
 -- ---- one connection

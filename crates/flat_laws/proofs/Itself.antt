@@ -1,5 +1,5 @@
 -- A module alone is its own flat netlist.
-use Rattle.std.specs.Prelude.{◌≡◌, refl, ℕ, zero, suc, ◌+◌, ◌-◌, ◌<◌, ◌≤◌, nat_le, ◌&&◌, Bool, true, false, List, [], ◌∷◌, ◌++◌, length, map, replicate}
+use Rattle.std.specs.Prelude.{◌≡◌, refl, ℕ, zero, suc, ◌+◌, ◌-◌, ◌<◌, ◌≤◌, nat_le, ◌&&◌, ◌||◌, Bool, true, false, List, [], ◌∷◌, ◌++◌, length, map, replicate}
 use Rattle.std.specs.Prelude.{Option, Some, None, Ok}
 use Rattle.std.specs.List.{AllByRecursion, slice_get, list_all, list_any}
 use Rattle.std.specs.Str.{bytes_eq}
@@ -20,10 +20,9 @@ use Rattle.hier_flatten.specs.Places.{place_in, bit_at}
 use Rattle.hier_flatten.specs.Fits.{range_at, cell_pin_fits, pins_fit, instance_fits, misfit_from, misfit}
 use Rattle.hier_flatten.specs.Hierarchy.{Hierarchy, ends, cell, IsHierarchy, HasHierarchy, IsFinite, module_of, is_instanced, top_of}
 use Rattle.hier_flatten.specs.Flat.{Flat, ranges_of, range_of, or_open, bit_of, bit_within, flat_wire, flat_pins, flat_instance, meant_from, flat_below, top_scope, built}
-use Rattle.hier_flatten.specs.Names.{is_repeated, has_equal_names, is_long, has_long_name}
+use Rattle.hier_flatten.specs.Names.{is_repeated, has_bit_name, has_equal_names, is_long, has_long_name}
 use Rattle.hier_flatten.specs.Meaning.{FlatMeans}
 use Rattle.hier_flatten.proofs.MeaningLaws.{built_means}
-use Rattle.hier_flatten.proofs.NamesLaws.{none_equal}
 use Rattle.verilog_net.proofs.OwnNames.{Shape, shapes, AreNamedApart, named_apart}
 use Rattle.text_forms.proofs.NameLaws.{short_name}
 use Rattle.verilog_net.proofs.FineStates.{IsFineInstance, IsFineModule}
@@ -211,9 +210,12 @@ short_instances (i ∷ is) h = or_from (is_long i.name) (list_any (λ j. is_long
 
 module _ (m : Netlist) (fine : IsFineModule m) (closed : IsClosed m) where
   equal_not : has_equal_names m.nets m.instances ≡ false
+  unfolding has_equal_names
   equal_not =
       let nets = fine.nets.1 in
-      none_equal m.nets m.nets m.instances (nets_differ m.nets (named_apart (shapes m.nets) nets.clear)) refl (scalars_free m.nets nets.clear) closed.names
+      or_from (is_repeated (map (λ net. net.0) m.nets)) (list_any (has_bit_name m.nets) m.nets || is_repeated (map (λ i. i.name) m.instances))
+      (nets_differ m.nets (named_apart (shapes m.nets) nets.clear))
+      (or_from (list_any (has_bit_name m.nets) m.nets) (is_repeated (map (λ i. i.name) m.instances)) (scalars_free m.nets nets.clear) closed.names)
 
   long_none : has_long_name m.nets m.instances ≡ false
   unfolding has_long_name

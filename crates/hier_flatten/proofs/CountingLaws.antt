@@ -1,5 +1,5 @@
 -- Counting, one turn after another.
-use Rattle.std.proofs.Common.{◌≡◌, refl, ℕ, ◌+◌, ◌<◌, ◌≤◌, List, [], ◌∷◌, ◌++◌, length, take, drop, replicate, is_some, true, false, get_or, Option, Some, None, sym, ap, ◌∙◌, subst, arith}
+use Rattle.std.proofs.Common.{◌≡◌, refl, ◌+◌, ◌<◌, List, [], ◌∷◌, ◌++◌, length, take, drop, replicate, is_some, true, false, Option, Some, None, sym, ap, ◌∙◌, subst, arith}
 use Rattle.std.proofs.lemmas.List.{length-take-le, length-replicate}
 use Rattle.name_numbers.specs.Names.{Text}
 use Rattle.xt_model.specs.declared.fault.LimitKind.{LimitKind}
@@ -9,26 +9,26 @@ use Rattle.verilog_net.specs.declared.netlist.Wire.{Wire}
 use Rattle.verilog_net.specs.declared.netlist.Wire.TheVariants as wires
 use Rattle.verilog_net.specs.Nets.{Nets}
 use Rattle.hier_flatten.specs.declared.below.Frame.{Frame}
-use Rattle.hier_flatten.specs.Hierarchy.{HasHierarchy, module_of, cells_before}
+use Rattle.hier_flatten.specs.declared.index.Next.{Next}
+use Rattle.hier_flatten.specs.Hierarchy.{HasHierarchy, cells_before}
 use Rattle.hier_flatten.specs.Flat.{Flat, ranges_of, Counts, counts_of, limit_of, prefix_below, wires_below, entered_below, own_nets, top_scope, at_top, built}
-use Rattle.hier_flatten.specs.Walk.{scope_at, scope_of, IsEntered, AreNested, CountedOn, Decides, work}
-use Rattle.hier_flatten.proofs.SliceLaws.{rest_of, first_and_rest}
+use Rattle.hier_flatten.specs.Walk.{scope_at, scope_of, IsEntered, IsNext, AreNested, CountedOn, Decides, work}
 use Rattle.hier_flatten.proofs.BelowLaws.{path_free, ranges_added, top_ranges}
 use Rattle.hier_flatten.proofs.GrowingLaws.{within}
 use Rattle.hier_flatten.proofs.WalkLaws.{Walks, whole_path, ended, less_entered, enter_turn, passes, walk_begun, walk_carried, walk_failed, walked}
-use Rattle.hier_flatten.proofs.RunLaws.{after_cells, with_cells, then_comes, run, run_met, run_passes, run_work, run_ended, head_is}
+use Rattle.hier_flatten.proofs.RunLaws.{after_cells, with_cells, then_comes, run, run_met, run_passes, run_work, run_ended, few_before}
 
 -- ---- one turn
-module _ (modules : List Netlist) (f : Frame) (fs : List Frame) (counts one : Counts) (n : ℕ) (rest : List Instance) (count : n ≡ cells_before modules f.rest.now)
-    (back : rest ≡ drop n f.rest.now) (met : one ≡ record counts { met = counts.met + n }) where
+module _ (modules : List Netlist) (f : Frame) (fs : List Frame) (counts one : Counts) (cells : List Instance)
+    (front : cells ≡ take (cells_before modules f.rest.now) f.rest.now) (met : one ≡ record counts { met = counts.met + length cells }) where
   abbrev f1 : Frame
   f1 = after_cells modules f
 
-  split : rest ≡ drop (cells_before modules f.rest.now) f.rest.now
-  split = back ∙ ap (λ k. drop k f.rest.now) count
-
   run_counts : one ≡ record counts { met = counts.met + cells_before modules f.rest.now }
-  run_counts = met ∙ ap (λ k. record counts { met = counts.met + k }) count
+  run_counts =
+      met
+      ∙ ap (λ k. record counts { met = counts.met + k })
+      (ap length front ∙ length-take-le (cells_before modules f.rest.now) f.rest.now (few_before modules f.rest.now))
 
   -- the instances of cells were counted
   counted_run : (path : Text) (flat : Flat) → counts_of flat ≡ counts → counts_of (with_cells modules f path flat) ≡ one
@@ -39,7 +39,7 @@ module _ (modules : List Netlist) (f : Frame) (fs : List Frame) (counts one : Co
   pub one_met : one.met ≡ counts.met + cells_before modules f.rest.now
   one_met = ap (λ (k : Counts). k.met) run_counts
 
-  pub count_ended : rest ≡ [] → CountedOn modules f fs counts fs one None × (work modules one fs < work modules counts (f ∷ fs))
+  pub count_ended : drop (cells_before modules f.rest.now) f.rest.now ≡ [] → CountedOn modules f fs counts fs one None × (work modules one fs < work modules counts (f ∷ fs))
   count_ended none = (turn, run_ended modules counts one f fs one_met)
     where
       turn : CountedOn modules f fs counts fs one None
@@ -50,35 +50,34 @@ module _ (modules : List Netlist) (f : Frame) (fs : List Frame) (counts one : Co
             flat' = end;
             counted = counted_run path flat counted;
             nested = subst (λ n. AreNested n fs) (sym len) nested;
-            comes = then_comes modules (f ∷ fs) (f1 ∷ fs) fs path path path flat end end (run modules f fs path flat) (ended modules f1 fs path end (sym split ∙ none));
+            comes = then_comes modules (f ∷ fs) (f1 ∷ fs) fs path path path flat end end (run modules f fs path flat) (ended modules f1 fs path end none);
           }
 
-  module _ (d i : Instance) (some : 1 ≤ length rest) (is : i ≡ get_or rest 0 d) where
-    head : drop (cells_before modules f.rest.now) f.rest.now ≡ i ∷ rest_of rest
-    head = sym split ∙ first_and_rest rest d i some is
+  module _ (n : Next) (next : IsNext modules (drop (cells_before modules f.rest.now) f.rest.now) n) where
+    abbrev i : Instance
+    i = n.instance.now
 
-    pub count_no_cell : module_of modules i.cell ≡ None → ⊥
-    count_no_cell none = head_is modules f.rest.now (rest_of rest) i head none
+    abbrev m : Netlist
+    m = n.«module».now
 
-    pub count_passed : (m : Netlist) (what : LimitKind) (new : List Frame) (counts' : Counts) → module_of modules i.cell ≡ Some m → limit_of one ≡ Some what
-        → CountedOn modules f fs counts new counts' (Some what)
-    count_passed m what new counts' e limit path flat counted =
+    pub count_passed : (what : LimitKind) (new : List Frame) (counts' : Counts) → limit_of one ≡ Some what → CountedOn modules f fs counts new counts' (Some what)
+    count_passed what new counts' limit path flat counted =
         let end : Flat = with_cells modules f path flat in
         run_passes modules f fs path flat what
-        (passes modules f1 fs path end i m (rest_of rest) head e what (ap limit_of (counted_run path flat counted) ∙ limit))
+        (passes modules f1 fs path end i m n.more.instances.now next.first next.named what (ap limit_of (counted_run path flat counted) ∙ limit))
 
     -- an instance of a module
-    pub count_entered : (g b : Frame) (m : Netlist) (ws : List Wire) (counts' : Counts) (pushed new : List Frame) → g.rest.now ≡ rest_of rest → g.path ≡ f.path
-        → g.nets.now ≡ f.nets.now → g.meant.items ≡ f.meant.items → module_of modules i.cell ≡ Some m → limit_of one ≡ None
+    pub count_entered : (g b : Frame) (ws : List Wire) (counts' : Counts) (pushed new : List Frame) → g.rest.now ≡ n.more.instances.now → g.path ≡ f.path
+        → g.nets.now ≡ f.nets.now → g.meant.items ≡ f.meant.items → limit_of one ≡ None
         → ((prefix : Text) → ws ≡ wires_below one.ranges (scope_at prefix f) i m)
         → ((prefix : Text) → length prefix ≡ f.path → IsEntered one.ranges (scope_at prefix f) i m b)
         → counts' ≡ record { ranges = one.ranges ++ ranges_of (own_nets [] m.nets ws); met = one.met + 1 } → pushed ≡ g ∷ fs → new ≡ b ∷ pushed
         → CountedOn modules f fs counts new counts' None × (work modules counts' new < work modules counts (f ∷ fs))
-    count_entered g b m ws counts' pushed new more same nets meant e limit connected made last to_g to_b =
+    count_entered g b ws counts' pushed new more same nets meant limit connected made last to_g to_b =
         let inside : b.rest.now ≡ m.instances = (made (replicate f.path 0) (length-replicate f.path 0)).rest in
         let all : new ≡ b ∷ g ∷ fs = to_b ∙ ap (λ t. b ∷ t) to_g in
-        let first : f1.rest.now ≡ i ∷ g.rest.now = head ∙ ap (λ r. i ∷ r) (sym more) in
-        let less = less_entered modules one f1 fs g b i m counts' first inside e (ap (λ (c : Counts). c.met) last) (within one limit) in
+        let first : f1.rest.now ≡ i ∷ g.rest.now = next.first ∙ ap (λ r. i ∷ r) (sym more) in
+        let less = less_entered modules one f1 fs g b i m counts' first inside next.named (ap (λ (c : Counts). c.met) last) (within one limit) in
         let before = run_work modules counts one f fs one_met in
         let both : CountedOn modules f fs counts (b ∷ g ∷ fs) counts' None × (work modules counts' (b ∷ g ∷ fs) < work modules counts (f ∷ fs)) =
         (turn, omega (arith, less, before)) in
@@ -104,8 +103,8 @@ module _ (modules : List Netlist) (f : Frame) (fs : List Frame) (counts one : Co
             let counted' : counts_of end ≡ counts' =
             ap (λ r. record { ranges = r; met = length mid.instances + (flat.entered + 1) }) longer
             ∙ (ap (λ n. record { ranges = one.ranges ++ ranges_of (own_nets [] m.nets ws); met = n }) again ∙ sym last) in
-            let step = enter_turn modules f1 fs path mid d i (subst (λ r. 1 ≤ length r) split some) (subst (λ r. i ≡ get_or r 0 d) split is) g
-            (more ∙ ap rest_of split) same nets meant b m (g ∷ fs) (b ∷ g ∷ fs) (prefix_below path i.name) end e
+            let step = enter_turn modules f1 fs path mid i g (next.first ∙ ap (λ r. i ∷ r) (sym more)) same nets meant b m (g ∷ fs) (b ∷ g ∷ fs)
+            (prefix_below path i.name) end next.named
             (ap limit_of counted1 ∙ limit) len nested entered refl refl refl refl in
             record {
               path' = prefix_below path i.name;

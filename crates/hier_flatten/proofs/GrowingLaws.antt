@@ -8,7 +8,8 @@ use Rattle.name_numbers.specs.Names.{Text}
 use Rattle.verilog_net.specs.declared.netlist.Net.{Net}
 use Rattle.verilog_net.specs.Nets.{Nets}
 use Rattle.hier_flatten.specs.Places.{width_of}
-use Rattle.hier_flatten.specs.Flat.{Ranges, Counts, bits_in, limit_of, IsCounted}
+use Rattle.hier_flatten.specs.Flat.{Ranges, ranges_of, Counts, bits_in, limit_of, IsCounted}
+use Rattle.hier_flatten.specs.Names.{AreApart}
 use Rattle.hier_flatten.specs.Walk.{IsGrown}
 use Rattle.hier_flatten.proofs.BelowLaws.{bits_push, ranges_added}
 
@@ -24,16 +25,17 @@ counted_push ranges new range bits width h few is most pushed =
     } in
     rw pushed counted
 
-pub grown_push : (nets new : Nets) (ranges longer : Ranges) (name : Text) (net : Net) (entered : ℕ) → IsGrown nets ranges entered → length nets < 4294967295
-    → longer ≡ ranges ++ net.range ∷ [] → new ≡ nets ++ (name, net) ∷ [] → IsGrown new longer entered
-grown_push nets new ranges longer name net entered h few range pushed =
-    let more : length (nets ++ (name, net) ∷ []) ≡ length nets + 1 = length_push nets (name, net) in
-    let grown : IsGrown (nets ++ (name, net) ∷ []) (ranges ++ net.range ∷ []) entered = record {
-      kept = ap (λ r. r ++ net.range ∷ []) h.kept ∙ sym (ranges_added nets ((name, net) ∷ []));
-      few = omega (arith, more, few);
+pub grown_push : (table more new later : Nets) (ranges longer : Ranges) (name : Text) (net : Net) (entered : ℕ) → IsGrown table more ranges entered
+    → length ranges < 4294967295 → longer ≡ ranges ++ net.range ∷ [] → AreApart new later → new ++ later ≡ (table ++ more) ++ (name, net) ∷ []
+    → IsGrown new later longer entered
+grown_push table more new later ranges longer name net entered h few range apart whole =
+    let longer_by : length longer ≡ length ranges + 1 = ap length range ∙ length_push ranges net.range in
+    record {
+      kept = range ∙ (ap (λ r. r ++ net.range ∷ []) h.kept ∙ (sym (ranges_added (table ++ more) ((name, net) ∷ [])) ∙ ap ranges_of (sym whole)));
+      few = omega (arith, longer_by, few);
       entered = h.entered;
-    } in
-    rw (range, pushed) grown
+      apart = apart;
+    }
 
 -- within the limit there is room for a further instance
 limit_by : (n bits : ℕ) → (if nat_lt most_instances n then Some limits.Instances else (if nat_lt most_nets bits then Some limits.Nets else None)) ≡ None → n ≤ most_instances
@@ -48,6 +50,7 @@ unfolding limit_of
 within counts e = limit_by (counts.met + 1) (bits_in counts.ranges) e
 
 -- one instance of a module more
-pub grown_enter : (nets : Nets) (ranges : Ranges) (entered met : ℕ) (counts : Counts) → limit_of counts ≡ None → counts.met ≡ met + entered
-    → IsGrown nets ranges entered → IsGrown nets ranges (entered + 1)
-grown_enter nets ranges entered met counts limit is h = let room = within counts limit in record { kept = h.kept; few = h.few; entered = omega (arith, room, is) }
+pub grown_enter : (table more : Nets) (ranges : Ranges) (entered met : ℕ) (counts : Counts) → limit_of counts ≡ None → counts.met ≡ met + entered
+    → IsGrown table more ranges entered → IsGrown table more ranges (entered + 1)
+grown_enter table more ranges entered met counts limit is h =
+    let room = within counts limit in record { kept = h.kept; few = h.few; entered = omega (arith, room, is); apart = h.apart }

@@ -7,7 +7,9 @@ pub mod TopsLaws
 pub mod BelowLaws
 pub mod GrowingLaws
 pub mod NamesLaws
+pub mod PathLaws
 pub mod WalkLaws
 pub mod RunLaws
 pub mod CountingLaws
 pub mod MeaningLaws
+pub mod FlatNetlists

@@ -1,19 +1,21 @@
 -- Names that differ, one after another.
-use Rattle.std.proofs.Common.{◌≡◌, refl, ℕ, suc, ◌+◌, ◌<◌, ◌≤◌, ◌||◌, not, cond, Bool, true, false, is_some, option_map, get_or, subst, List, [], ◌∷◌, ◌++◌, length, map, Option, Some, None, sym, ap, ◌∙◌, arith, if◌then◌else◌}
+use Rattle.std.proofs.Common.{◌≡◌, refl, ℕ, zero, suc, ◌+◌, ◌<◌, ◌≤◌, ◌==◌, ◌||◌, not, cond, Bool, true, false, is_some, option_map, option_to_list, get_or, subst, List, [], ◌∷◌, ◌++◌, length, map, take, Option, Some, None, sym, ap, ◌∙◌, arith, if◌then◌else◌}
 use Rattle.std.specs.List.{list_any, slice_get, position_or_len}
 use Rattle.std.specs.Prelude.{position}
 use Rattle.std.specs.Str.{bytes_eq}
-use Rattle.std.proofs.lemmas.Bool.{false≢true, lt-ltb}
-use Rattle.std.proofs.lemmas.List.{append_assoc, length-map, length_push, map-append}
+use Rattle.std.proofs.lemmas.Bool.{eqb-true, false≢true, lt-ltb}
+use Rattle.std.proofs.lemmas.List.{append_assoc, length-map, map-append, take_all}
 use Rattle.std.proofs.lemmas.List.Folds.{list_any-append, list_any_at}
 use Rattle.std.proofs.lemmas.List.Quantifiers.{position-Some}
 use Rattle.std.proofs.lemmas.Slice.Eq.{bytes_eq-Decides}
 use Rattle.name_numbers.specs.Names.{Text, has_name, found, with_name, with_value}
+use Rattle.verilog_net.specs.declared.netlist.Net.{Net}
 use Rattle.verilog_net.specs.declared.netlist.Instance.{Instance}
 use Rattle.xt_model.specs.Options.{◌>>=◌}
+use Rattle.hier_flatten.proofs.BelowLaws.{take_one}
 use Rattle.hier_flatten.proofs.SliceLaws.{element_at, rest_of, first_and_rest}
 use Rattle.verilog_net.specs.Nets.{Nets}
-use Rattle.hier_flatten.specs.Names.{is_repeated, has_bit_name, has_equal_names}
+use Rattle.hier_flatten.specs.Names.{is_repeated, has_bit_name, has_equal_names, AreApart}
 
 or_of : (a b c : Bool) → (a || (b || c)) ≡ ((a || b) || c)
 or_of true b c = refl
@@ -135,62 +137,83 @@ module _ {V : Type 0} where
       by true later h = absurd (false≢true (sym h))
       by false later h = ap (λ t. e ∷ t) (later h)
 
-  -- a name that is there is not a further one
-  kept_length : (name : Text) (v : V) (named : List (Text × V)) → has_name name (map (λ e. e.0) named) ≡ true → length (with_value name v named) ≡ length named
-  kept_length name v [] h = absurd (false≢true h)
-  kept_length name v (e ∷ more) h = by (bytes_eq name e.0) (kept_length name v more) h
-    where
-      by : (b : Bool) → (has_name name (map (λ e. e.0) more) ≡ true → length (with_value name v more) ≡ length more)
-          → (b || has_name name (map (λ e. e.0) more)) ≡ true → length (if b then (e.0, v) ∷ more else e ∷ with_value name v more) ≡ suc (length more)
-      by true later h = refl
-      by false later h = ap suc (later h)
-
-  module _ (name : Text) (v : V) (named new : List (Text × V)) (given : new ≡ with_value name v named) where
-    pub was_there : length new ≡ length named → has_name name (map (λ e. e.0) named) ≡ true
-    was_there same = by (has_name name (map (λ e. e.0) named)) refl
-      where
-        by : (b : Bool) → has_name name (map (λ e. e.0) named) ≡ b → has_name name (map (λ e. e.0) named) ≡ true
-        by true e = e
-        by false e =
-            let longer : length new ≡ length named + 1 = ap length (given ∙ push_new name v named e) ∙ length_push named (name, v) in
-            absurd (omega (arith, longer, same))
-
-    pub was_new : (length new ≡ length named → ⊥) → has_name name (map (λ e. e.0) named) ≡ false
-    was_new differ = by (has_name name (map (λ e. e.0) named)) refl
-      where
-        by : (b : Bool) → has_name name (map (λ e. e.0) named) ≡ b → has_name name (map (λ e. e.0) named) ≡ false
-        by true e = absurd (differ (ap length given ∙ kept_length name v named e))
-        by false e = e
-
   pub is_found : {A : Type 0} (x : Option A) (f : A → ℕ × V) (name : Text) (named : List (Text × V)) (b : Bool) → option_map f x ≡ found name named
       → b ≡ is_some x → has_name name (map (λ e. e.0) named) ≡ b
   is_found None f name named b e is = not_found name named (sym e) ∙ sym is
   is_found (Some a) f name named b e is = found_is name named (f a) (sym e) ∙ sym is
 
-  -- ---- a table of nets, one after another
-  module _ (table rest all : List (Text × V)) (d e : Text × V) (name : Text) (some : 1 ≤ length rest) (is : e ≡ get_or rest 0 d) (named : name ≡ e.0)
-      (h : AreSoFar (map (λ e. e.0) table) (map (λ e. e.0) rest) (map (λ e. e.0) all)) where
-    next : AreSoFar (map (λ e. e.0) table) (name ∷ map (λ e. e.0) (rest_of rest)) (map (λ e. e.0) all)
-    next =
-        subst (λ n. AreSoFar (map (λ e. e.0) table) (n ∷ map (λ e. e.0) (rest_of rest)) (map (λ e. e.0) all)) (sym named)
-        (subst (λ r. AreSoFar (map (λ e. e.0) table) (map (λ e. e.0) r) (map (λ e. e.0) all)) (first_and_rest rest d e some is) h)
+-- ---- nets that are kept
+pub nil : {X : Type 0} (xs : List X) → xs ++ [] ≡ xs
+nil [] = refl
+nil (x ∷ xs) = ap (λ t. x ∷ t) (nil xs)
 
-    pub table_again : has_name name (map (λ e. e.0) table) ≡ true → is_repeated (map (λ e. e.0) all) ≡ true
-    table_again again = seen_again (map (λ e. e.0) table) name (map (λ e. e.0) (rest_of rest)) (map (λ e. e.0) all) again next
+module _ (table : Nets) (name : Text) (net : Net) where
+  -- the table goes on with a net of another name
+  pub put_new : (new : Nets) → AreApart table [] → has_name name (map (λ e. e.0) table) ≡ false → new ≡ with_value name net table
+      → AreApart new [] × (new ++ [] ≡ (table ++ []) ++ (name, net) ∷ [])
+  put_new new apart fresh given =
+      let pushed : new ≡ table ++ (name, net) ∷ [] = given ∙ push_new name net table fresh in
+      let names : map (λ e. e.0) new ≡ map (λ e. e.0) table ++ name ∷ [] = ap (map (λ e. e.0)) pushed ∙ map-append (λ e. e.0) table ((name, net) ∷ []) in (
+        ap is_repeated names ∙ (repeated_push (map (λ e. e.0) table) name ∙ (ap (λ b. b || has_name name (map (λ e. e.0) table)) apart ∙ fresh)),
+        nil new ∙ (pushed ∙ ap (λ t. t ++ (name, net) ∷ []) (sym (nil table))),
+      )
 
-    pub table_more : (new : List (Text × V)) (v : V) → v ≡ e.1 → has_name name (map (λ e. e.0) table) ≡ false → new ≡ with_value name v table → table ++ rest ≡ all
-        → AreSoFar (map (λ e. e.0) new) (map (λ e. e.0) (rest_of rest)) (map (λ e. e.0) all) × (new ++ rest_of rest ≡ all)
-    table_more new v value fresh given whole =
-        let pushed : new ≡ table ++ (name, v) ∷ [] = given ∙ push_new name v table fresh in
-        let names : map (λ e. e.0) new ≡ map (λ e. e.0) table ++ name ∷ [] = ap (map (λ e. e.0)) pushed ∙ map-append (λ e. e.0) table ((name, v) ∷ []) in
-        let far = seen_more (map (λ e. e.0) table) name (map (λ e. e.0) (rest_of rest)) (map (λ e. e.0) all) fresh next in (
-          subst (λ n. AreSoFar n (map (λ e. e.0) (rest_of rest)) (map (λ e. e.0) all)) (sym names) far,
-          ap (λ t. t ++ rest_of rest) pushed
-              ∙ (append_assoc table ((name, v) ∷ []) (rest_of rest)
-              ∙ (ap (λ n. table ++ (n, v) ∷ rest_of rest) named
-              ∙ (ap (λ x. table ++ (e.0, x) ∷ rest_of rest) value
-              ∙ (ap (λ r. table ++ r) (sym (first_and_rest rest d e some is)) ∙ whole)))),
-        )
+  -- equal names are there, or come with this net
+  pub put_more : (more new : Nets) → AreApart table more → (more ≡ [] → has_name name (map (λ e. e.0) table) ≡ true) → new ≡ more ++ (name, net) ∷ []
+      → AreApart table new × (table ++ new ≡ (table ++ more) ++ (name, net) ∷ [])
+  put_more [] new apart again pushed =
+      let whole : is_repeated (map (λ e. e.0) (table ++ (name, net) ∷ [])) ≡ true =
+      ap is_repeated (map-append (λ e. e.0) table ((name, net) ∷ []))
+      ∙ (repeated_push (map (λ e. e.0) table) name ∙ or_true (is_repeated (map (λ e. e.0) table)) (has_name name (map (λ e. e.0) table)) (again refl)) in
+      let joined : table ++ (name, net) ∷ [] ≡ (table ++ []) ++ (name, net) ∷ [] = ap (λ t. t ++ (name, net) ∷ []) (sym (nil table)) in
+      rw pushed (whole, joined)
+  put_more (e ∷ more) new apart again pushed =
+      let joined : table ++ (e ∷ (more ++ (name, net) ∷ [])) ≡ (table ++ e ∷ more) ++ (name, net) ∷ [] = sym (append_assoc table (e ∷ more) ((name, net) ∷ [])) in
+      let whole : is_repeated (map (λ e. e.0) (table ++ (e ∷ (more ++ (name, net) ∷ [])))) ≡ true =
+      ap (λ nets. is_repeated (map (λ e. e.0) nets)) joined
+      ∙ (ap is_repeated (map-append (λ e. e.0) (table ++ e ∷ more) ((name, net) ∷ []))
+      ∙ repeated_append (map (λ e. e.0) (table ++ e ∷ more)) (name ∷ []) apart) in
+      rw pushed (whole, joined)
+
+  pub put_in : (more new : Nets) → more ≡ [] → AreApart table more → has_name name (map (λ e. e.0) table) ≡ false → new ≡ with_value name net table
+      → AreApart new more × (new ++ more ≡ (table ++ more) ++ (name, net) ∷ [])
+  put_in [] new none apart fresh given = put_new new apart fresh given
+  put_in (e ∷ more) new none apart fresh given = absurd (cc)
+
+module _ {X : Type 0} (xs : List X) (b : Bool) (is : b ≡ (length xs == 0)) where
+  pub none_in : b ≡ true → xs ≡ []
+  none_in e = by xs (sym is ∙ e)
+    where
+      by : (ys : List X) → (length ys == 0) ≡ true → ys ≡ []
+      by [] e = refl
+      by (y ∷ ys) e = let none : length (y ∷ ys) ≡ 0 = eqb-true (length (y ∷ ys)) 0 e in absurd (omega (arith, none))
+
+  pub some_in : b ≡ false → xs ≡ [] → ⊥
+  some_in e none = false≢true (sym e ∙ (is ∙ ap (λ ys. length ys == 0) none))
+
+-- ---- a test of nets, one after another
+module _ {X : Type 0} (p : X → Bool) (xs : List X) (k : ℕ) where
+  pub any_more : (o : Option X) (b : Bool) → o ≡ slice_get xs k → b ≡ list_any p (option_to_list o) → b ≡ false → list_any p (take k xs) ≡ false
+      → list_any p (take (k + 1) xs) ≡ false
+  any_more o b at is none before =
+      ap (list_any p) (take_one xs k)
+      ∙ (list_any-append p (take k xs) (option_to_list (slice_get xs k))
+      ∙ (ap (λ c. c || list_any p (option_to_list (slice_get xs k))) before ∙ (ap (λ q. list_any p (option_to_list q)) (sym at) ∙ (sym is ∙ none))))
+
+  pub any_found : (o : Option X) (b : Bool) → o ≡ slice_get xs k → b ≡ list_any p (option_to_list o) → b ≡ true → list_any p xs ≡ true
+  any_found o b at is some = by xs k (ap (λ q. list_any p (option_to_list q)) (sym at) ∙ (sym is ∙ some))
+    where
+      by : (ys : List X) (n : ℕ) → list_any p (option_to_list (slice_get ys n)) ≡ true → list_any p ys ≡ true
+      by [] n e = absurd (false≢true e)
+      by (y ∷ ys) zero e = one (p y) e
+        where
+          one : (b : Bool) → (b || false) ≡ true → (b || list_any p ys) ≡ true
+          one true e = refl
+          one false e = absurd (false≢true e)
+      by (y ∷ ys) (suc n) e = or_true (p y) (list_any p ys) (by ys n e)
+
+  pub any_none : length xs ≤ k → list_any p (take k xs) ≡ false → list_any p xs ≡ false
+  any_none all e = ap (list_any p) (sym (take_all k xs all)) ∙ e
 
 -- ---- names of instances, one after another
 module _ (names : List Text) (rest all : List Instance) (d i : Instance) (name : Text) (some : 1 ≤ length rest) (is : i ≡ get_or rest 0 d) (named : name ≡ i.name)
@@ -220,28 +243,20 @@ module _ (names : List Text) (rest all : List Instance) (d i : Instance) (name :
       once true h = absurd (false≢true h)
 
 -- ---- all names
-module _ (nets table : Nets) (is : List Instance) where
+module _ (nets : Nets) (is : List Instance) where
   pub equal_nets : is_repeated (map (λ net. net.0) nets) ≡ true → has_equal_names nets is ≡ true
   unfolding has_equal_names
   equal_nets e = ap (λ b. b || (list_any (has_bit_name nets) nets || is_repeated (map (λ i. i.name) is))) e
 
-  pub equal_bits : table ≡ nets → list_any (has_bit_name table) nets ≡ true → has_equal_names nets is ≡ true
-  unfolding has_equal_names
-  equal_bits same e =
-      let bits : list_any (has_bit_name nets) nets ≡ true = ap (λ t. list_any (has_bit_name t) nets) (sym same) ∙ e in
-      or_true (is_repeated (map (λ net. net.0) nets)) (list_any (has_bit_name nets) nets || is_repeated (map (λ i. i.name) is))
-      (ap (λ b. b || is_repeated (map (λ i. i.name) is)) bits)
+  module _ (differ : is_repeated (map (λ net. net.0) nets) ≡ false) where
+    pub equal_bits : list_any (has_bit_name nets) nets ≡ true → true ≡ has_equal_names nets is
+    unfolding has_equal_names
+    equal_bits e =
+        sym (or_true (is_repeated (map (λ net. net.0) nets)) (list_any (has_bit_name nets) nets || is_repeated (map (λ i. i.name) is))
+        (ap (λ b. b || is_repeated (map (λ i. i.name) is)) e))
 
-  pub equal_instances : is_repeated (map (λ i. i.name) is) ≡ true → has_equal_names nets is ≡ true
-  unfolding has_equal_names
-  equal_instances e =
-      or_true (is_repeated (map (λ net. net.0) nets)) (list_any (has_bit_name nets) nets || is_repeated (map (λ i. i.name) is))
-      (or_true (list_any (has_bit_name nets) nets) (is_repeated (map (λ i. i.name) is)) e)
-
-  pub none_equal : is_repeated (map (λ net. net.0) nets) ≡ false → table ≡ nets → list_any (has_bit_name table) nets ≡ false
-      → is_repeated (map (λ i. i.name) is) ≡ false → has_equal_names nets is ≡ false
-  unfolding has_equal_names
-  none_equal a same b c =
-      let bits : list_any (has_bit_name nets) nets ≡ false = ap (λ t. list_any (has_bit_name t) nets) (sym same) ∙ b in
-      ap (λ x. x || (list_any (has_bit_name nets) nets || is_repeated (map (λ i. i.name) is))) a
-      ∙ (ap (λ x. x || is_repeated (map (λ i. i.name) is)) bits ∙ c)
+    pub equal_instances : (b : Bool) → list_any (has_bit_name nets) nets ≡ false → b ≡ is_repeated (map (λ i. i.name) is) → b ≡ has_equal_names nets is
+    unfolding has_equal_names
+    equal_instances b bits e =
+        e ∙ sym (ap (λ x. x || (list_any (has_bit_name nets) nets || is_repeated (map (λ i. i.name) is))) differ
+        ∙ ap (λ x. x || is_repeated (map (λ i. i.name) is)) bits)

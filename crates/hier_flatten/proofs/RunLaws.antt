@@ -10,12 +10,12 @@ use Rattle.std.proofs.Math.Nat.{mul-le-mul_right}
 use Rattle.verilog_net.specs.declared.netlist.Instance.{Instance}
 use Rattle.verilog_net.specs.declared.netlist.Netlist.{Netlist}
 use Rattle.hier_flatten.specs.declared.below.Frame.{Frame}
-use Rattle.hier_flatten.specs.Hierarchy.{Hierarchy, IsHierarchy, module_number, module_of, cells_by, cells_before}
+use Rattle.hier_flatten.specs.declared.index.Next.{Next}
+use Rattle.hier_flatten.specs.Hierarchy.{Hierarchy, IsHierarchy, module_number, module_of, cells_by, cells_in, cells_before}
 use Rattle.hier_flatten.specs.Search.{most_in}
 use Rattle.hier_flatten.specs.Flat.{Scope, Flat, ranges_of, Counts, counts_of, flat_below, flat_instance, limit_of, prefix_below, entered_below}
-use Rattle.hier_flatten.specs.Walk.{scope_of, IsEntered, AreNested, AreHierarchies, rest_flat, Comes, Passes, Ends, room_in, work}
-use Rattle.hier_flatten.proofs.SliceLaws.{rest_of, first_and_rest, element_at}
-use Rattle.hier_flatten.proofs.IndexLaws.{number_within}
+use Rattle.hier_flatten.specs.Walk.{scope_of, IsEntered, IsNext, AreNested, AreHierarchies, rest_flat, Comes, Passes, Ends, room_in, work}
+use Rattle.hier_flatten.proofs.SliceLaws.{rest_of, first_and_rest}
 use Rattle.hier_flatten.proofs.WalkLaws.{cell_is, ended, less_ended, enter_turn, no_limit}
 
 -- a list that is longer by nothing
@@ -23,7 +23,7 @@ grown_by_none : (h : Hierarchy) (s : Scope) (flat : Flat) → flat_below h s fla
 grown_by_none h s flat = ap (λ is. flat_below h s (record flat { instances = is })) (sym (append-nil flat.instances))
 
 module _ (modules : List Netlist) where
-  -- what comes after so many instances of cells
+  -- what comes after this many instances, each of a cell
   record IsAfter (s : Scope) (n : ℕ) (is : List Instance) (h : Hierarchy) (flat : Flat) : Type 0 where
     below : Hierarchy
     rest : IsHierarchy modules (drop n is) below
@@ -54,24 +54,6 @@ module _ (modules : List Netlist) where
   after s (i ∷ is) h flat t =
       after_one s i is h flat (cells_before modules is) (module_number modules i.cell) refl t (λ k later u. after s is k later u)
 
-  -- the instance after them is of a module
-  numbered_module : (name : Text) (k : ℕ) → module_number modules name ≡ Some k → module_of modules name ≡ None → ⊥
-  numbered_module name k e none =
-      let m = element_at modules k (number_within modules name (Some k) (sym e)) in
-      absurd (cc (sym none ∙ (ap (λ o. options.◌>>=◌ o (slice_get modules)) e ∙ m.1)))
-
-  head_by : (j i : Instance) (is more : List Instance) (o : Option ℕ) → module_number modules j.cell ≡ o → drop (cells_by o (cells_before modules is)) (j ∷ is) ≡ i ∷ more
-      → module_of modules i.cell ≡ None → (drop (cells_before modules is) is ≡ i ∷ more → ⊥) → ⊥
-  head_by j i is more (Some k) at e none later =
-      let same : j ≡ i = cc in
-      numbered_module j.cell k at (subst (λ (x : Instance). module_of modules x.cell ≡ None) (sym same) none)
-  head_by j i is more None at e none later = later e
-
-  pub head_is : (is more : List Instance) (i : Instance) → drop (cells_before modules is) is ≡ i ∷ more → module_of modules i.cell ≡ None → ⊥
-  head_is [] more i e none = absurd (cc)
-  head_is (j ∷ is) more i e none =
-      head_by j i is more (module_number modules j.cell) refl e none (λ later. head_is is more i later none)
-
   few_by : (o : Option ℕ) (n k : ℕ) → n ≤ k → cells_by o n ≤ suc k
   few_by None n k h = omega (arith, h)
   few_by (Some number) n k h = omega arith
@@ -81,30 +63,22 @@ module _ (modules : List Netlist) where
   few_before (i ∷ is) = few_by (module_number modules i.cell) (cells_before modules is) (length is) (few_before is)
 
 -- ---- counting them
-number_kept : (modules : List Netlist) (i : Instance) (name : Text) (o p : Option ℕ) → name ≡ i.cell → o ≡ module_number modules name → o ≡ p
-    → module_number modules i.cell ≡ p
-number_kept modules i name o p named e is = ap (module_number modules) (sym named) ∙ (sym e ∙ is)
-
-module _ (modules : List Netlist) (rest : List Instance) (d i : Instance) (name : Text) (count whole : ℕ) (b : Bool) (some : 1 ≤ length rest)
-    (is : i ≡ get_or rest 0 d) (named : name ≡ i.cell) where
-  first : rest ≡ i ∷ rest_of rest
-  first = first_and_rest rest d i some is
+module _ (rest : List (Option ℕ)) (d o : Option ℕ) (count whole : ℕ) (b : Bool) (some : 1 ≤ length rest) (is : o ≡ get_or rest 0 d) where
+  first : rest ≡ o ∷ rest_of rest
+  first = first_and_rest rest d o some is
 
   -- an instance of a cell more is passed
-  pub cells_more : (o : Option ℕ) → o ≡ module_number modules name → b ≡ is_some o → b ≡ false → count + cells_before modules rest ≡ whole
-      → count + 1 + cells_before modules (rest_of rest) ≡ whole
+  pub cells_more : (p : Option ℕ) → o ≡ p → b ≡ is_some p → b ≡ false → count + cells_in rest ≡ whole → count + 1 + cells_in (rest_of rest) ≡ whole
   cells_more (Some k) e test isnt sum = absurd (cc)
   cells_more None e test isnt sum =
-      let one : cells_before modules rest ≡ suc (cells_before modules (rest_of rest)) =
-      ap (cells_before modules) first ∙ ap (λ p. cells_by p (cells_before modules (rest_of rest))) (number_kept modules i name None None named e refl) in
+      let one : cells_in rest ≡ suc (cells_in (rest_of rest)) = ap cells_in first ∙ ap (λ q. cells_by q (cells_in (rest_of rest))) e in
       omega (arith, one, sum)
 
   -- an instance of a module is met
-  pub cells_end : (o : Option ℕ) → o ≡ module_number modules name → b ≡ is_some o → b ≡ true → count + cells_before modules rest ≡ whole → count ≡ whole
+  pub cells_end : (p : Option ℕ) → o ≡ p → b ≡ is_some p → b ≡ true → count + cells_in rest ≡ whole → count ≡ whole
   cells_end None e test is_one sum = absurd (cc)
   cells_end (Some k) e test is_one sum =
-      let none : cells_before modules rest ≡ 0 =
-      ap (cells_before modules) first ∙ ap (λ p. cells_by p (cells_before modules (rest_of rest))) (number_kept modules i name (Some k) (Some k) named e refl) in
+      let none : cells_in rest ≡ 0 = ap cells_in first ∙ ap (λ q. cells_by q (cells_in (rest_of rest))) e in
       omega (arith, none, sum)
 
 -- ---- the frame after them
@@ -184,54 +158,45 @@ module _ (modules : List Netlist) (counts counts1 : Counts) (f : Frame) (fs : Li
   run_ended = let a = less_ended modules counts1 (after_cells modules f) fs in let b = run_work in omega (arith, a, b)
 
 -- ---- a turn of the building
-module _ (modules : List Netlist) (f : Frame) (fs : List Frame) (path path' : Text) (flat flat' : Flat) (n : ℕ) (cells rest : List Instance)
-    (count : n ≡ cells_before modules f.rest.now) (front : cells ≡ take n f.rest.now) (back : rest ≡ drop n f.rest.now) (kept : path' ≡ path)
+module _ (modules : List Netlist) (f : Frame) (fs : List Frame) (path path' : Text) (flat flat' : Flat) (cells : List Instance)
+    (front : cells ≡ take (cells_before modules f.rest.now) f.rest.now) (kept : path' ≡ path)
     (added : flat' ≡ record flat { instances = flat.instances ++ map (flat_instance (ranges_of flat.nets) (scope_of path f)) cells }) where
   abbrev g1 : Frame
   g1 = after_cells modules f
 
-  split : rest ≡ drop (cells_before modules f.rest.now) f.rest.now
-  split = back ∙ ap (λ k. drop k f.rest.now) count
-
   grown : flat' ≡ with_cells modules f path flat
-  grown =
-      added
-      ∙ ap (λ cs. record flat { instances = flat.instances ++ map (flat_instance (ranges_of flat.nets) (scope_of path f)) cs })
-      (front ∙ ap (λ k. take k f.rest.now) count)
+  grown = added ∙ ap (λ cs. record flat { instances = flat.instances ++ map (flat_instance (ranges_of flat.nets) (scope_of path f)) cs }) front
 
   abbrev end : Flat
   end = with_cells modules f path flat
 
-  pub build_ended : rest ≡ [] → Comes modules (f ∷ fs) path flat fs path' flat' × (work modules (counts_of flat') fs < work modules (counts_of flat) (f ∷ fs))
+  pub build_ended : drop (cells_before modules f.rest.now) f.rest.now ≡ []
+      → Comes modules (f ∷ fs) path flat fs path' flat' × (work modules (counts_of flat') fs < work modules (counts_of flat) (f ∷ fs))
   build_ended none =
       let comes : Comes modules (f ∷ fs) path flat fs path end =
-      then_comes modules (f ∷ fs) (g1 ∷ fs) fs path path path flat end end (run modules f fs path flat) (ended modules g1 fs path end (sym split ∙ none)) in
+      then_comes modules (f ∷ fs) (g1 ∷ fs) fs path path path flat end end (run modules f fs path flat) (ended modules g1 fs path end none) in
       let less : work modules (counts_of end) fs < work modules (counts_of flat) (f ∷ fs) =
       run_ended modules (counts_of flat) (counts_of end) f fs (run_met modules f fs path flat) in
       rw (kept, grown) (comes, less)
 
-  module _ (d i : Instance) (some : 1 ≤ length rest) (is : i ≡ get_or rest 0 d) where
-    head : rest ≡ i ∷ rest_of rest
-    head = first_and_rest rest d i some is
-
-    -- an instance of a cell is not there
-    pub no_cell : module_of modules i.cell ≡ None → ⊥
-    no_cell none = head_is modules f.rest.now (rest_of rest) i (sym split ∙ head) none
-
-    pub build_no_limit : (m : Netlist) → module_of modules i.cell ≡ Some m → Ends modules (f ∷ fs) path flat → limit_of (counts_of flat') ≡ None
-    build_no_limit m e ends =
-        let at : limit_of (counts_of end) ≡ None = no_limit modules g1 fs path end i m (rest_of rest) (sym split ∙ head) e (run_ends modules f fs path flat ends) in
+  module _ (n : Next) (next : IsNext modules (drop (cells_before modules f.rest.now) f.rest.now) n) where
+    pub build_no_limit : Ends modules (f ∷ fs) path flat → limit_of (counts_of flat') ≡ None
+    build_no_limit ends =
+        let at : limit_of (counts_of end) ≡ None =
+        no_limit modules g1 fs path end n.instance.now n.«module».now n.more.instances.now next.first next.named (run_ends modules f fs path flat ends) in
         rw grown at
 
-    pub build_entered : (g b : Frame) (m : Netlist) (one new : List Frame) (far : Text) (last : Flat) → g.rest.now ≡ rest_of rest → g.path ≡ f.path
-        → g.nets.now ≡ f.nets.now → g.meant.items ≡ f.meant.items → module_of modules i.cell ≡ Some m → limit_of (counts_of flat') ≡ None
-        → length path ≡ f.path → AreNested f.path fs → IsEntered (ranges_of flat'.nets) (scope_of path' f) i m b → one ≡ g ∷ fs → new ≡ b ∷ one
-        → far ≡ prefix_below path' i.name → last ≡ entered_below flat' (scope_of path' f) i m
+    pub build_entered : (g b : Frame) (one new : List Frame) (far : Text) (last : Flat) → g.rest.now ≡ n.more.instances.now → g.path ≡ f.path
+        → g.nets.now ≡ f.nets.now → g.meant.items ≡ f.meant.items → Ends modules (f ∷ fs) path flat → length path ≡ f.path → AreNested f.path fs
+        → IsEntered (ranges_of flat'.nets) (scope_of path' f) n.instance.now n.«module».now b → one ≡ g ∷ fs → new ≡ b ∷ one
+        → far ≡ prefix_below path' n.instance.now.name → last ≡ entered_below flat' (scope_of path' f) n.instance.now n.«module».now
         → Comes modules (f ∷ fs) path flat new far last × AreNested (length far) new
         × (work modules (counts_of last) new < work modules (counts_of flat) (f ∷ fs))
-    build_entered g b m one new far last more same nets meant e limit len nested made pushed then_pushed way entered =
-        let turn = enter_turn modules g1 fs path end d i (subst (λ r. 1 ≤ length r) split some) (subst (λ r. i ≡ get_or r 0 d) split is) g (more ∙ ap rest_of split)
-        same nets meant b m one new far last e (subst (λ (x : Flat). limit_of (counts_of x) ≡ None) grown limit) len nested
+    build_entered g b one new far last more same nets meant ends len nested made pushed then_pushed way entered =
+        let i : Instance = n.instance.now in
+        let m : Netlist = n.«module».now in
+        let turn = enter_turn modules g1 fs path end i g (next.first ∙ ap (λ r. i ∷ r) (sym more))
+        same nets meant b m one new far last next.named (subst (λ (x : Flat). limit_of (counts_of x) ≡ None) grown (build_no_limit ends)) len nested
         (subst (λ (x : Flat). IsEntered (ranges_of x.nets) (scope_of path f) i m b) grown (subst (λ p. IsEntered (ranges_of flat'.nets) (scope_of p f) i m b) kept made))
         pushed then_pushed (way ∙ ap (λ p. prefix_below p i.name) kept)
         (entered ∙ (ap (λ p. entered_below flat' (scope_of p f) i m) kept ∙ ap (λ (x : Flat). entered_below x (scope_of path f) i m) grown)) in

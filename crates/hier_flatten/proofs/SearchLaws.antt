@@ -10,7 +10,7 @@ use Rattle.verilog_net.specs.declared.netlist.Instance.{Instance}
 use Rattle.verilog_net.specs.declared.netlist.Netlist.{Netlist}
 use Rattle.hier_flatten.specs.declared.circle.Mark.{Mark}
 use Rattle.hier_flatten.specs.declared.circle.Mark.TheVariants as marks
-use Rattle.hier_flatten.specs.declared.circle.Place.{Place}
+use Rattle.hier_flatten.specs.declared.circle.Visit.{Visit}
 use Rattle.hier_flatten.specs.Hierarchy.{ends, cell, inner, HasHierarchy, IsFinite, module_number, Contains, IsBelow, SomeContainsItself}
 use Rattle.hier_flatten.proofs.SliceLaws.{rest_of, first_and_rest, element_at, get_set_other}
 use Rattle.hier_flatten.specs.Search.{IsOn, IsChain, IsSearch, AreMet, new_in, most_in, work}
@@ -52,15 +52,15 @@ module _ (modules : List Netlist) where
   inner_below i is k m e there b h = (inner i m b.0 h.0, (refl, ap (λ o. o >>= slice_get modules) e ∙ there, b.1, h.1))
 
   -- ---- one instance more
-  on_same : (p q : Place) (ps : List Place) (n : ℕ) → q.number ≡ p.number → IsOn n (p ∷ ps) → IsOn n (q ∷ ps)
+  on_same : (p q : Visit) (ps : List Visit) (n : ℕ) → q.number ≡ p.number → IsOn n (p ∷ ps) → IsOn n (q ∷ ps)
   on_same p q ps n e (inl h) = inl (e ∙ h)
   on_same p q ps n e (inr h) = inr h
 
-  chain_same : (p q : Place) (ps : List Place) → q.number ≡ p.number → IsChain modules (p ∷ ps) → IsChain modules (q ∷ ps)
+  chain_same : (p q : Visit) (ps : List Visit) → q.number ≡ p.number → IsChain modules (p ∷ ps) → IsChain modules (q ∷ ps)
   chain_same p q [] e h = tt
   chain_same p q (r ∷ ps) e h = (subst (Contains modules r.number) (sym e) h.0, h.1)
 
-  pub one_on : (ms : List Mark) (ps : List Place) (p q : Place) (i : Instance) → q.number ≡ p.number → p.rest.now ≡ i ∷ q.rest.now
+  pub one_on : (ms : List Mark) (ps : List Visit) (p q : Visit) (i : Instance) → q.number ≡ p.number → p.rest.now ≡ i ∷ q.rest.now
       → (HasHierarchy modules q.rest.now → HasHierarchy modules p.rest.now) → IsSearch modules ms (p ∷ ps) → IsSearch modules ms (q ∷ ps)
   one_on ms ps p q i number rest below h =
       let at = h.places.0 in
@@ -82,7 +82,7 @@ module _ (modules : List Netlist) where
       }
 
   -- the same place again
-  pub once_more : (ms : List Mark) (ps : List Place) (p q : Place) → q.number ≡ p.number → q.rest.now ≡ p.rest.now
+  pub once_more : (ms : List Mark) (ps : List Visit) (p q : Visit) → q.number ≡ p.number → q.rest.now ≡ p.rest.now
       → IsSearch modules ms (p ∷ ps) → IsSearch modules ms (q ∷ ps)
   once_more ms ps p q number rest h =
       let at = h.places.0 in
@@ -104,15 +104,15 @@ module _ (modules : List Netlist) where
       }
 
   -- ---- a module is entered
-  abbrev pub IsNext : List Place → ℕ → Type 0
+  abbrev pub IsNext : List Visit → ℕ → Type 0
   IsNext [] n = Unit {0}
   IsNext (p ∷ ps) n = Contains modules p.number n
 
-  chain_next : (q : Place) (ps : List Place) → IsNext ps q.number → IsChain modules ps → IsChain modules (q ∷ ps)
+  chain_next : (q : Visit) (ps : List Visit) → IsNext ps q.number → IsChain modules ps → IsChain modules (q ∷ ps)
   chain_next q [] next h = tt
   chain_next q (p ∷ ps) next h = (next, h)
 
-  pub entered : (ms : List Mark) (ps : List Place) (q : Place) (m : Netlist) → slice_get modules q.number ≡ Some m
+  pub entered : (ms : List Mark) (ps : List Visit) (q : Visit) (m : Netlist) → slice_get modules q.number ≡ Some m
       → q.rest.now ≡ m.instances → IsNext ps q.number → IsSearch modules ms ps
       → IsSearch modules (set ms q.number marks.Open) (q ∷ ps)
   entered ms ps q m there rest next h =
@@ -144,15 +144,15 @@ module _ (modules : List Netlist) where
       }
 
   -- ---- a module is done
-  chain_rest : (p : Place) (ps : List Place) → IsChain modules (p ∷ ps) → IsChain modules ps
+  chain_rest : (p : Visit) (ps : List Visit) → IsChain modules (p ∷ ps) → IsChain modules ps
   chain_rest p [] h = tt
   chain_rest p (q ∷ ps) h = h.1
 
-  on_rest : (p : Place) (ps : List Place) (n : ℕ) → (n ≡ p.number → ⊥) → IsOn n (p ∷ ps) → IsOn n ps
+  on_rest : (p : Visit) (ps : List Visit) (n : ℕ) → (n ≡ p.number → ⊥) → IsOn n (p ∷ ps) → IsOn n ps
   on_rest p ps n other (inl h) = absurd (other (sym h))
   on_rest p ps n other (inr h) = h
 
-  pub done_with : (ms : List Mark) (ps : List Place) (p : Place) → p.rest.now ≡ [] → IsSearch modules ms (p ∷ ps)
+  pub done_with : (ms : List Mark) (ps : List Visit) (p : Visit) → p.rest.now ≡ [] → IsSearch modules ms (p ∷ ps)
       → IsSearch modules (set ms p.number marks.Done) ps
   done_with ms ps p rest h =
       let place = h.places.0 in
@@ -180,14 +180,14 @@ module _ (modules : List Netlist) where
       }
 
   -- ---- a module that is being looked through is met again
-  leads : (k : ℕ) (p : Place) (ps : List Place) → IsChain modules (p ∷ ps) → IsOn k (p ∷ ps) → (steps : ℕ) × IsBelow modules steps k p.number
+  leads : (k : ℕ) (p : Visit) (ps : List Visit) → IsChain modules (p ∷ ps) → IsOn k (p ∷ ps) → (steps : ℕ) × IsBelow modules steps k p.number
   leads k p ps chain (inl h) = (zero, sym h)
   leads k p [] chain (inr h) = absurd h
   leads k p (q ∷ ps) chain (inr h) =
       let rest = leads k q ps chain.1 h in
       (suc rest.0, (q.number, rest.1, chain.0))
 
-  pub holds : (ms : List Mark) (ps : List Place) (p : Place) (i : Instance) (is : List Instance) (k : ℕ) → IsSearch modules ms (p ∷ ps)
+  pub holds : (ms : List Mark) (ps : List Visit) (p : Visit) (i : Instance) (is : List Instance) (k : ℕ) → IsSearch modules ms (p ∷ ps)
       → p.rest.now ≡ i ∷ is → module_number modules i.cell ≡ Some k → Contains modules p.number k
   holds ms ps p i is k h rest named =
       let at = h.places.0 in
@@ -201,7 +201,7 @@ module _ (modules : List Netlist) where
         named = named;
       }
 
-  pub circle : (ms : List Mark) (ps : List Place) (p : Place) (i : Instance) (is : List Instance) (k : ℕ) → IsSearch modules ms (p ∷ ps)
+  pub circle : (ms : List Mark) (ps : List Visit) (p : Visit) (i : Instance) (is : List Instance) (k : ℕ) → IsSearch modules ms (p ∷ ps)
       → p.rest.now ≡ i ∷ is → module_number modules i.cell ≡ Some k → slice_get ms k ≡ Some marks.Open → SomeContainsItself modules
   circle ms ps p i is k h rest named mark =
       let way = leads k p ps h.chain (h.on k mark) in
@@ -251,22 +251,22 @@ most_at (n ∷ ms) zero m e =
     omega (arith, rest, same)
 most_at (n ∷ ms) (suc k) m e = let rest = most_at ms k m e in omega (arith, rest)
 
-module _ (modules : List Netlist) (ms : List Mark) (ps : List Place) where
-  pub less_on : (p q : Place) (i : Instance) → p.rest.now ≡ i ∷ q.rest.now → work modules ms (q ∷ ps) < work modules ms (p ∷ ps)
+module _ (modules : List Netlist) (ms : List Mark) (ps : List Visit) where
+  pub less_on : (p q : Visit) (i : Instance) → p.rest.now ≡ i ∷ q.rest.now → work modules ms (q ∷ ps) < work modules ms (p ∷ ps)
   unfolding work
   less_on p q i rest = let n : length p.rest.now ≡ length q.rest.now + 1 = ap length rest ∙ omega arith in omega (arith, n)
 
-  pub less_popped : (p : Place) → work modules ms ps < work modules ms (p ∷ ps)
+  pub less_popped : (p : Visit) → work modules ms ps < work modules ms (p ∷ ps)
   unfolding work
   less_popped p = omega arith
 
-  pub less_done : (p : Place) → work modules (set ms p.number marks.Done) ps < work modules ms (p ∷ ps)
+  pub less_done : (p : Visit) → work modules (set ms p.number marks.Done) ps < work modules ms (p ∷ ps)
   unfolding work
   less_done p =
       let fewer = mul-le-mul_right (most_in modules) (new_done ms p.number) in
       omega (arith, fewer)
 
-  pub less_entered : (p r q : Place) (m : Netlist) → r.rest.now ≡ p.rest.now → slice_get modules q.number ≡ Some m → q.rest.now ≡ m.instances
+  pub less_entered : (p r q : Visit) (m : Netlist) → r.rest.now ≡ p.rest.now → slice_get modules q.number ≡ Some m → q.rest.now ≡ m.instances
       → slice_get ms q.number ≡ Some marks.New → work modules (set ms q.number marks.Open) (q ∷ r ∷ ps) < work modules ms (p ∷ ps)
   unfolding work
   less_entered p r q m same there rest new =
@@ -278,7 +278,7 @@ module _ (modules : List Netlist) (ms : List Mark) (ps : List Place) where
       omega (arith, product, most, one, other)
 
 -- ---- one turn whole
-module _ (modules : List Netlist) (ms : List Mark) (ps : List Place) (p : Place) (d i : Instance) (some : 1 ≤ length p.rest.now)
+module _ (modules : List Netlist) (ms : List Mark) (ps : List Visit) (p : Visit) (d i : Instance) (some : 1 ≤ length p.rest.now)
     (is : i ≡ get_or p.rest.now 0 d) (search : IsSearch modules ms (p ∷ ps)) where
   first : p.rest.now ≡ i ∷ rest_of p.rest.now
   first = first_and_rest p.rest.now d i some is
@@ -291,7 +291,7 @@ module _ (modules : List Netlist) (ms : List Mark) (ps : List Place) (p : Place)
   IsPassed = (module_number modules i.cell ≡ None)
       ⊎ ((k : ℕ) × (module_number modules i.cell ≡ Some k) × (k < length modules) × (slice_get ms k ≡ Some marks.Done))
 
-  passed_below : (q : Place) → q.rest.now ≡ rest_of p.rest.now → IsPassed → HasHierarchy modules q.rest.now → HasHierarchy modules p.rest.now
+  passed_below : (q : Visit) → q.rest.now ≡ rest_of p.rest.now → IsPassed → HasHierarchy modules q.rest.now → HasHierarchy modules p.rest.now
   passed_below q rest (inl none) h =
       subst (HasHierarchy modules) (ap (λ r. i ∷ r) rest ∙ sym first) (cell_below modules i q.rest.now none h)
   passed_below q rest (inr k) h =
@@ -299,14 +299,14 @@ module _ (modules : List Netlist) (ms : List Mark) (ps : List Place) (p : Place)
       subst (HasHierarchy modules) (ap (λ r. i ∷ r) rest ∙ sym first)
       (inner_below modules i q.rest.now k.0 m.0 k.1 m.1 (search.done k.0 k.3 m.0 m.1) h)
 
-  pub goes_on : (q : Place) (new : List Place) → q.number ≡ p.number → q.rest.now ≡ rest_of p.rest.now → IsPassed → new ≡ q ∷ ps
+  pub goes_on : (q : Visit) (new : List Visit) → q.number ≡ p.number → q.rest.now ≡ rest_of p.rest.now → IsPassed → new ≡ q ∷ ps
       → IsSearch modules ms new × (work modules ms new < work modules ms (p ∷ ps))
   goes_on q new number rest passed pushed =
       let whole : p.rest.now ≡ i ∷ q.rest.now = first ∙ ap (λ r. i ∷ r) (sym rest) in
       subst (λ s. IsSearch modules ms s × (work modules ms s < work modules ms (p ∷ ps))) (sym pushed)
       (one_on modules ms ps p q i number whole (passed_below q rest passed) search, less_on modules ms ps p q i whole)
 
-  pub goes_in : (r q : Place) (one two : List Place) → r.number ≡ p.number → r.rest.now ≡ p.rest.now
+  pub goes_in : (r q : Visit) (one two : List Visit) → r.number ≡ p.number → r.rest.now ≡ p.rest.now
       → module_number modules i.cell ≡ Some q.number → q.number < length modules → IfSome (slice_get modules q.number) (λ m. q.rest.now ≡ m.instances)
       → slice_get ms q.number ≡ Some marks.New → one ≡ r ∷ ps → two ≡ q ∷ one
       → IsSearch modules (set ms q.number marks.Open) two × (work modules (set ms q.number marks.Open) two < work modules ms (p ∷ ps))
@@ -337,7 +337,7 @@ begun modules ms n e len =
     rw e start
 
 -- a module is entered where no other is being looked through
-pub first_entered : (modules : List Netlist) (ms : List Mark) (q : Place) (stack new : List Place) → slice_get ms q.number ≡ Some marks.New
+pub first_entered : (modules : List Netlist) (ms : List Mark) (q : Visit) (stack new : List Visit) → slice_get ms q.number ≡ Some marks.New
     → IfSome (slice_get modules q.number) (λ m. q.rest.now ≡ m.instances) → stack ≡ [] → new ≡ q ∷ stack → IsSearch modules ms []
     → IsSearch modules (set ms q.number marks.Open) new
 first_entered modules ms q stack new mark instances none pushed h =

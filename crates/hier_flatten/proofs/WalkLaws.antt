@@ -1,5 +1,5 @@
 -- One turn of the walk through the hierarchy.
-use Rattle.std.proofs.Common.{◌≡◌, refl, ℕ, zero, suc, ◌+◌, ◌*◌, ◌<◌, ◌≤◌, List, [], ◌∷◌, ◌++◌, length, take, get_or, Option, Some, None, Result, Ok, Err, sym, ap, ◌∙◌, subst, arith}
+use Rattle.std.proofs.Common.{◌≡◌, refl, ℕ, zero, suc, ◌+◌, ◌*◌, ◌<◌, ◌≤◌, List, [], ◌∷◌, ◌++◌, length, take, Option, Some, None, Result, Ok, Err, sym, ap, ◌∙◌, subst, arith}
 use Rattle.std.proofs.lemmas.List.{take_all, take_at, length-append}
 use Rattle.std.proofs.Math.Nat.{suc-mul}
 use Rattle.std.specs.List.{slice_get}
@@ -11,11 +11,10 @@ use Rattle.xt_model.specs.declared.fault.LimitKind.{LimitKind}
 use Rattle.verilog_net.specs.declared.netlist.Instance.{Instance}
 use Rattle.verilog_net.specs.declared.netlist.Netlist.{Netlist}
 use Rattle.hier_flatten.specs.declared.below.Frame.{Frame}
-use Rattle.hier_flatten.specs.Hierarchy.{Hierarchy, ends, cell, inner, IsHierarchy, HasHierarchy, module_number, module_of}
+use Rattle.hier_flatten.specs.Hierarchy.{Hierarchy, ends, cell, inner, IsHierarchy, HasHierarchy, module_number, module_of, links_of}
 use Rattle.hier_flatten.specs.Search.{most_in}
 use Rattle.hier_flatten.specs.Flat.{Scope, Flat, ranges_of, Counts, counts_of, flat_below, prefix_below, scope_below, entered_below, limit_of, unless_passed, top_scope, at_top, built}
-use Rattle.hier_flatten.specs.Walk.{scope_of, IsEntered, AreNested, AreHierarchies, rest_flat, Comes, Passes, Ends, room_in, work, Builds, Decides}
-use Rattle.hier_flatten.proofs.SliceLaws.{rest_of, first_and_rest}
+use Rattle.hier_flatten.specs.Walk.{scope_of, IsEntered, AreLinked, AreNested, AreHierarchies, rest_flat, Comes, Passes, Ends, room_in, work, Builds, Decides}
 use Rattle.hier_flatten.proofs.SearchLaws.{most_at}
 use Rattle.hier_flatten.proofs.FiniteLaws.{one_hierarchy}
 use Rattle.hier_flatten.proofs.GrowingLaws.{within}
@@ -199,6 +198,21 @@ module _ (modules : List Netlist) (counts : Counts) (f : Frame) (fs : List Frame
       let k : length b.rest.now ≡ length m.instances = ap length inside in
       omega (arith, product, most, n, k)
 
+-- ---- the numbers of modules
+pub linked_on : (modules : List Netlist) (f g b : Frame) (fs one new : List Frame) → AreLinked modules (f ∷ fs) → g.links.now ≡ links_of modules g.rest.now
+    → b.links.now ≡ links_of modules b.rest.now → one ≡ g ∷ fs → new ≡ b ∷ one → AreLinked modules new
+linked_on modules f g b fs one new linked more below pushed then_pushed =
+    let all : new ≡ b ∷ g ∷ fs = then_pushed ∙ ap (λ t. b ∷ t) pushed in
+    let both : AreLinked modules (b ∷ g ∷ fs) = (below, (more, linked.1)) in
+    rw all both
+
+pub linked_at_top : (modules : List Netlist) (f : Frame) (stack new : List Frame) (is : List Instance) → f.rest.now ≡ is → f.links.now ≡ links_of modules is
+    → stack ≡ [] → new ≡ f ∷ stack → AreLinked modules new
+linked_at_top modules f stack new is rest links none pushed =
+    let whole : new ≡ f ∷ [] = pushed ∙ ap (λ s. f ∷ s) none in
+    let linked : AreLinked modules (f ∷ []) = (links ∙ ap (links_of modules) (sym rest), tt) in
+    rw whole linked
+
 -- ---- the whole walk
 -- what is flat and what is left come to the flat netlist of the top
 abbrev pub Walks : List Netlist → Netlist → List Frame → Text → Flat → Type 0
@@ -229,12 +243,8 @@ begun modules top f h is scope rest = (
 )
 
 -- ---- one turn whole
-module _ (modules : List Netlist) (f : Frame) (fs : List Frame) (path : Text) (flat : Flat) (d i : Instance) (some : 1 ≤ length f.rest.now)
-    (is : i ≡ get_or f.rest.now 0 d) (g : Frame) (rest : g.rest.now ≡ rest_of f.rest.now) (same : g.path ≡ f.path) (nets : g.nets.now ≡ f.nets.now)
-    (meant : g.meant.items ≡ f.meant.items) where
-  first : f.rest.now ≡ i ∷ g.rest.now
-  first = first_and_rest f.rest.now d i some is ∙ ap (λ r. i ∷ r) (sym rest)
-
+module _ (modules : List Netlist) (f : Frame) (fs : List Frame) (path : Text) (flat : Flat) (i : Instance) (g : Frame) (first : f.rest.now ≡ i ∷ g.rest.now)
+    (same : g.path ≡ f.path) (nets : g.nets.now ≡ f.nets.now) (meant : g.meant.items ≡ f.meant.items) where
   pub enter_turn : (b : Frame) (m : Netlist) (one new : List Frame) (path' : Text) (flat' : Flat) → module_of modules i.cell ≡ Some m → limit_of (counts_of flat) ≡ None
       → length path ≡ f.path → AreNested f.path fs → IsEntered (ranges_of flat.nets) (scope_of path f) i m b → one ≡ g ∷ fs → new ≡ b ∷ one
       → path' ≡ prefix_below path i.name → flat' ≡ entered_below flat (scope_of path f) i m

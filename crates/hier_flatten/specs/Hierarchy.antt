@@ -1,5 +1,5 @@
 -- Modules and their instances. An instance is one of a module where its cell's name is that of a module of the text.
-use Rattle.std.specs.Prelude.{◌≡◌, ℕ, zero, suc, ◌+◌, Bool, not, List, [], ◌∷◌, ◌++◌, Option, Some, None}
+use Rattle.std.specs.Prelude.{◌≡◌, ℕ, zero, suc, ◌+◌, Bool, not, List, [], ◌∷◌, ◌++◌, map, Option, Some, None}
 use Rattle.std.specs.List.{slice_get, list_any, filter}
 use Rattle.std.specs.Str.{bytes_eq}
 use Rattle.name_numbers.specs.Names.{Text, value_of}
@@ -24,10 +24,18 @@ abbrev pub cells_by : Option ℕ → ℕ → ℕ
 cells_by None more = suc more
 cells_by (Some number) more = 0
 
+-- of each of these instances the number of its module
+abbrev pub links_of : List Netlist → List Instance → List (Option ℕ)
+links_of modules is = map (λ i. module_number modules i.cell) is
+
+-- how many of these, each without a number, come before the first one with a number
+abbrev pub cells_in : List (Option ℕ) → ℕ
+cells_in [] = 0
+cells_in (link ∷ links) = cells_by link (cells_in links)
+
 -- how many of these instances, each of a cell, come before the first one of a module
 abbrev pub cells_before : List Netlist → List Instance → ℕ
-cells_before modules [] = 0
-cells_before modules (i ∷ is) = cells_by (module_number modules i.cell) (cells_before modules is)
+cells_before modules is = cells_in (links_of modules is)
 
 -- ---- what is below instances
 

@@ -1,11 +1,13 @@
 -- The names of a flat netlist: no two are equal, and none is too long.
-use Rattle.std.specs.Prelude.{◌≡◌, ℕ, nat_lt, ◌&&◌, ◌||◌, Bool, true, false, List, [], ◌∷◌, length, map}
+use Rattle.std.specs.Prelude.{◌≡◌, ℕ, nat_lt, ◌==◌, ◌&&◌, ◌||◌, not, Bool, true, false}
+use Rattle.std.specs.Prelude.{List, [], ◌∷◌, ◌++◌, length, map}
 use Rattle.std.specs.Prelude.{Option, Some, None}
 use Rattle.std.specs.List.{list_any}
 use Rattle.name_numbers.specs.Names.{Text, has_name}
 use Rattle.xt_model.specs.Limits.{most_text_name}
 use Rattle.verilog_net.specs.declared.netlist.Net.{Net}
 use Rattle.verilog_net.specs.declared.netlist.Instance.{Instance}
+use Rattle.verilog_net.specs.declared.netlist.Netlist.{Netlist}
 use Rattle.verilog_net.specs.Nets.{Nets, NetBit, named_bit}
 
 -- some name is also one of those after it
@@ -41,12 +43,24 @@ has_long_name nets instances =
 
 -- ---- what the code keeps
 
+-- a table of the nets before the first one that has the name of an earlier one, and that one with those after it
+abbrev pub AreApart : Nets → Nets → Type 0
+AreApart table [] = is_repeated (map (λ net. net.0) table) ≡ false
+AreApart table (net ∷ more) = is_repeated (map (λ n. n.0) (table ++ net ∷ more)) ≡ true
+
 -- a table of these nets, or two of them have one name
 abbrev pub IsTabled : Nets → Option Nets → Type 0
 IsTabled nets None = is_repeated (map (λ net. net.0) nets) ≡ true
 IsTabled nets (Some table) = (is_repeated (map (λ net. net.0) nets) ≡ false) × (table ≡ nets)
 
--- the same, or some other names are equal
-abbrev pub IsDistinct : Nets → List Instance → Option Nets → Type 0
-IsDistinct nets instances None = has_equal_names nets instances ≡ true
-IsDistinct nets instances (Some table) = (has_equal_names nets instances ≡ false) × (table ≡ nets)
+-- ---- names that are apart by those of the modules alone
+abbrev pub is_slash : ℕ → Bool
+is_slash byte = byte == 47
+
+abbrev pub has_slash : Text → Bool
+has_slash name = list_any is_slash name
+
+-- the instances of a module have names of their own without a `/`
+abbrev pub has_plain_names : Netlist → Bool
+has_plain_names m =
+    not (list_any (λ i. has_slash i.name) m.instances) && not (is_repeated (map (λ i. i.name) m.instances))

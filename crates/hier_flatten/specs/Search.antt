@@ -7,16 +7,16 @@ use Rattle.verilog_net.specs.declared.netlist.Instance.{Instance}
 use Rattle.verilog_net.specs.declared.netlist.Netlist.{Netlist}
 use Rattle.hier_flatten.specs.declared.circle.Mark.{Mark}
 use Rattle.hier_flatten.specs.declared.circle.Mark.TheVariants as marks
-use Rattle.hier_flatten.specs.declared.circle.Place.{Place}
+use Rattle.hier_flatten.specs.declared.circle.Visit.{Visit}
 use Rattle.hier_flatten.specs.Hierarchy.{HasHierarchy, IsFinite, Contains, SomeContainsItself}
 
 -- the module of this number is being looked through
-abbrev pub IsOn : ℕ → List Place → Type 0
+abbrev pub IsOn : ℕ → List Visit → Type 0
 IsOn number [] = ⊥
 IsOn number (p ∷ more) = (p.number ≡ number) ⊎ IsOn number more
 
 -- instances of a module of which some are left: where these come to an end, so do all
-pub record IsPlace (modules : List Netlist) (p : Place) : Type 0 where
+pub record IsVisit (modules : List Netlist) (p : Visit) : Type 0 where
   pub holder : Netlist
   pub there : slice_get modules p.number ≡ Some holder
   pub passed : List Instance
@@ -24,16 +24,16 @@ pub record IsPlace (modules : List Netlist) (p : Place) : Type 0 where
   pub below : HasHierarchy modules p.rest.now → HasHierarchy modules holder.instances
 
 -- each module has an instance of the one that was entered after it
-abbrev pub IsChain : List Netlist → List Place → Type 0
+abbrev pub IsChain : List Netlist → List Visit → Type 0
 IsChain modules [] = Unit {0}
 IsChain modules (p ∷ []) = Unit {0}
 IsChain modules (p ∷ q ∷ more) = Contains modules q.number p.number × IsChain modules (q ∷ more)
 
-pub record IsSearch (modules : List Netlist) (ms : List Mark) (stack : List Place) : Type 0 where
+pub record IsSearch (modules : List Netlist) (ms : List Mark) (stack : List Visit) : Type 0 where
   pub count : length ms ≡ length modules
   pub done : (number : ℕ) → slice_get ms number ≡ Some marks.Done → IsFinite modules number
   pub on : (number : ℕ) → slice_get ms number ≡ Some marks.Open → IsOn number stack
-  pub places : AllByRecursion (IsPlace modules) stack
+  pub places : AllByRecursion (IsVisit modules) stack
   pub chain : IsChain modules stack
 
 -- what was entered stays so
@@ -57,9 +57,9 @@ abbrev pub most_in : List Netlist → ℕ
 most_in [] = 2
 most_in (m ∷ more) = length m.instances + most_in more
 
-abbrev pub left_in : List Place → ℕ
+abbrev pub left_in : List Visit → ℕ
 left_in [] = 0
 left_in (p ∷ more) = length p.rest.now + 1 + left_in more
 
-unfoldable pub work : List Netlist → List Mark → List Place → ℕ
+unfoldable pub work : List Netlist → List Mark → List Visit → ℕ
 work modules ms stack = new_in ms * most_in modules + left_in stack

@@ -1,5 +1,5 @@
 -- The walk through the hierarchy: modules at paths whose instances are being added, the innermost first.
-use Rattle.std.specs.Prelude.{◌≡◌, ℕ, ◌+◌, ◌-◌, ◌*◌, ◌<◌, ◌≤◌, ◌^◌, List, [], ◌∷◌, length, take}
+use Rattle.std.specs.Prelude.{◌≡◌, ℕ, ◌+◌, ◌-◌, ◌*◌, ◌<◌, ◌≤◌, ◌^◌, List, [], ◌∷◌, ◌++◌, length, take}
 use Rattle.std.specs.Prelude.{Option, Some, None, Result, Ok, Err}
 use Rattle.name_numbers.specs.Names.{Text}
 use Rattle.xt_model.specs.Limits.{most_instances}
@@ -9,10 +9,12 @@ use Rattle.verilog_net.specs.declared.netlist.Instance.{Instance}
 use Rattle.verilog_net.specs.declared.netlist.Netlist.{Netlist}
 use Rattle.verilog_net.specs.Nets.{Nets}
 use Rattle.hier_flatten.specs.declared.below.Frame.{Frame}
-use Rattle.hier_flatten.specs.Hierarchy.{Hierarchy, IsHierarchy}
+use Rattle.hier_flatten.specs.declared.index.Next.{Next}
+use Rattle.hier_flatten.specs.Hierarchy.{Hierarchy, IsHierarchy, module_of, links_of}
 use Rattle.hier_flatten.specs.Search.{most_in}
 use Rattle.hier_flatten.specs.Flat.{Scope, Flat, Ranges, ranges_of, Counts, counts_of}
 use Rattle.hier_flatten.specs.Flat.{flat_below, prefix_below, scope_below}
+use Rattle.hier_flatten.specs.Names.{AreApart}
 
 -- the module of a frame, whose names have this before them
 abbrev pub scope_at : Text → Frame → Scope
@@ -27,6 +29,19 @@ pub record IsEntered (flat : Ranges) (s : Scope) (i : Instance) (m : Netlist) (f
   pub scope : scope_at (prefix_below s.prefix i.name) f ≡ scope_below flat s i m
   pub rest : f.rest.now ≡ m.instances
   pub path : f.path ≡ length (prefix_below s.prefix i.name)
+
+-- the instances that are left have these numbers of modules
+abbrev pub AreLinked : List Netlist → List Frame → Type 0
+AreLinked modules [] = Unit {0}
+AreLinked modules (f ∷ fs) = (f.links.now ≡ links_of modules f.rest.now) × AreLinked modules fs
+
+-- the next of these instances, one of a module, with what is below it and after it
+pub record IsNext (modules : List Netlist) (left : List Instance) (n : Next) : Type 0 where
+  pub first : left ≡ n.instance.now ∷ n.more.instances.now
+  pub named : module_of modules n.instance.now.cell ≡ Some n.«module».now
+  pub inside : n.below.instances.now ≡ n.«module».now.instances
+  pub below : n.below.links.now ≡ links_of modules n.«module».now.instances
+  pub more : n.more.links.now ≡ links_of modules n.more.instances.now
 
 -- each path goes on from the one of the frame outside
 abbrev pub AreNested : ℕ → List Frame → Type 0
@@ -105,8 +120,9 @@ abbrev pub Decides : List Netlist → Netlist → (Hierarchy → Result Flat Lim
 Decides modules top built None = (flat : Flat) × Builds modules top built (Ok flat)
 Decides modules top built (Some what) = Builds modules top built (Err what)
 
--- what is kept beside the flat netlist as it is built
-pub record IsGrown (nets : Nets) (ranges : Ranges) (met : ℕ) : Type 0 where
-  pub kept : ranges ≡ ranges_of nets
-  pub few : length nets < 2 ^ 32
+-- what is kept of the flat netlist as it is built: its nets in a table and those after it, and their ranges
+pub record IsGrown (table more : Nets) (ranges : Ranges) (met : ℕ) : Type 0 where
+  pub kept : ranges ≡ ranges_of (table ++ more)
+  pub few : length ranges < 2 ^ 32
   pub entered : met ≤ most_instances
+  pub apart : AreApart table more

@@ -15,12 +15,13 @@ use std::alloc::{AllocError, Global};
 use verilog_net::{Instance, Name, Net, Netlist, PortRole, Wire};
 use xt_model::Row;
 
-/// A module at a path whose instances are being added: its nets, those of its instances that are left, how many bytes
-/// of the path are before its names, and what each of its nets is in the flat netlist.
+/// A module at a path whose instances are being added: its nets, those of its instances that are left with the numbers
+/// of their modules, how many bytes of the path are before its names, and what each of its nets is in the flat netlist.
 #[derive(Drop)]
 pub struct Frame<'a> {
     pub nets: &'a NameTable<Net>,
     pub rest: &'a [Instance],
+    pub links: &'a [Option<usize>],
     pub path: usize,
     pub meant: Vec<Wire>,
 }
@@ -138,15 +139,19 @@ fn add_own(
     let (Some((name, net)), Some(Wire::Open)) = (net, wire) else {
         return Ok(());
     };
-    let name = name_below(alloc, path, name)?;
+    let before = path.len();
+    path.extend_from_slice(name)?;
     growing.add_net(
-        name,
+        alloc,
+        path.as_slice(),
         Net {
             range: net.range,
             role: PortRole::Inner,
             declared: net.declared,
         },
-    )
+    )?;
+    path.truncate(before);
+    Ok(())
 }
 
 /// Adds the nets of a module at a path that have no connection.
@@ -200,8 +205,10 @@ pub fn frame_below<'a>(
     frame: &Frame<'a>,
     instance: &'a Instance,
     inner: &'a Netlist,
+    links: &'a [Option<usize>],
 ) -> Result<(Frame<'a>, Vec<Wire>), AllocError>
     requires { length flat.now < 2 ^ 32 }
+    ensures links { IfOk result (λ r. r.0.links.now ≡ links.entry.now) }
     ensures wires { IfOk result (λ r. (prefix : List ℕ) → r.1.items
         ≡ wires_below flat.now (scope_at prefix frame.now) instance.entry.now inner.entry.now) }
     ensures frame { IfOk result (λ r. (prefix : List ℕ) → length prefix ≡ frame.now.path
@@ -221,6 +228,7 @@ pub fn frame_below<'a>(
     let below = Frame {
         nets: &inner.nets,
         rest: inner.instances.as_slice(),
+        links,
         path,
         meant,
     };
@@ -235,6 +243,7 @@ pub fn enter<'a>(
     frame: &Frame<'a>,
     instance: &'a Instance,
     inner: &'a Netlist,
+    links: &'a [Option<usize>],
 ) -> Result<Frame<'a>, AllocError>
     requires path { length path.old.items ≡ frame.now.path }
     requires limit { limit_of (counts_of growing.old) ≡ None }
@@ -243,9 +252,10 @@ pub fn enter<'a>(
         ≡ entered_below growing.old (scope_of path.old.items frame.now) instance.entry.now inner.entry.now) }
     ensures frame { IfOk result (λ f. IsEntered (ranges_of growing.old.nets) (scope_of path.old.items frame.now)
         instance.entry.now inner.entry.now f) }
+    ensures links { IfOk result (λ f. f.links.now ≡ links.entry.now) }
 {
     growing.enter();
-    let (below, wires) = frame_below(alloc, growing.ranges(), frame, instance, inner)?;
+    let (below, wires) = frame_below(alloc, growing.ranges(), frame, instance, inner, links)?;
     path.extend_from_slice(instance.name.bytes())?;
     path.push(b'/')?;
     add_nets(alloc, growing, path, &inner.nets, wires.as_slice())?;
@@ -263,7 +273,7 @@ fn add_top_net(
     }) }
 {
     if let Some((name, net)) = net {
-        growing.add_net(Name::copied(alloc, name)?, *net)?;
+        growing.add_net(alloc, name, *net)?;
     }
     Ok(())
 }
@@ -280,7 +290,12 @@ fn add_top(alloc: Global, growing: &mut Growing, nets: &NameTable<Net>) -> Resul
 }
 
 /// The top, each of whose nets is a net of its own, and what they are connected to: nothing.
-pub fn top_frame<'a>(alloc: Global, top: &'a Netlist) -> Result<(Frame<'a>, Vec<Wire>), AllocError>
+pub fn top_frame<'a>(
+    alloc: Global,
+    top: &'a Netlist,
+    links: &'a [Option<usize>],
+) -> Result<(Frame<'a>, Vec<Wire>), AllocError>
+    ensures links { IfOk result (λ r. r.0.links.now ≡ links.entry.now) }
     ensures frame { IfOk result (λ r. (scope_of [] r.0 ≡ top_scope top.entry.now)
         × (r.0.rest.now ≡ top.entry.now.instances) × (r.0.path ≡ 0)) }
     ensures wires { IfOk result (λ r. r.1.items ≡ replicate (length top.entry.now.nets) Open) }
@@ -290,6 +305,7 @@ pub fn top_frame<'a>(alloc: Global, top: &'a Netlist) -> Result<(Frame<'a>, Vec<
     let frame = Frame {
         nets: &top.nets,
         rest: top.instances.as_slice(),
+        links,
         path: 0,
         meant,
     };
@@ -301,13 +317,15 @@ pub fn enter_top<'a>(
     alloc: Global,
     growing: &mut Growing,
     top: &'a Netlist,
+    links: &'a [Option<usize>],
 ) -> Result<Frame<'a>, AllocError>
     requires { growing.old ≡ record { nets = []; instances = []; entered = 0 } }
     ensures growing { OnOk result (growing.new ≡ at_top top.entry.now) }
+    ensures links { IfOk result (λ f. f.links.now ≡ links.entry.now) }
     ensures frame { IfOk result (λ f. (scope_of [] f ≡ top_scope top.entry.now) × (f.rest.now ≡ top.entry.now.instances)
         × (f.path ≡ 0)) }
 {
-    let (frame, _) = top_frame(alloc, top)?;
+    let (frame, _) = top_frame(alloc, top, links)?;
     add_top(alloc, growing, &top.nets)?;
     Ok(frame)
 }

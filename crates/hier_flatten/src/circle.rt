@@ -21,7 +21,7 @@ pub enum Mark {
 
 /// A module that is being looked through, by its number, and those of its instances that are left.
 #[derive(Drop)]
-pub struct Place<'a> {
+pub struct Visit<'a> {
     number: usize,
     rest: &'a [Instance],
 }
@@ -30,8 +30,8 @@ pub struct Place<'a> {
 fn look<'a>(
     index: &Index<'a>,
     marks: &mut [Mark],
-    stack: &mut Stack<Place<'a>>,
-    place: Place<'a>,
+    stack: &mut Stack<Visit<'a>>,
+    place: Visit<'a>,
 ) -> Result<bool, AllocError>
     requires { IsSearch index.now marks.old (place ∷ stack.old) }
     ensures goes { IfOk result (Looked index.now (IsSearch index.now marks.new stack.new)) }
@@ -39,7 +39,7 @@ fn look<'a>(
     ensures less { OnOk result
         (work index.now marks.new stack.new < work index.now marks.old (place.entry ∷ stack.old)) }
 {
-    let Place { number, rest } = place;
+    let Visit { number, rest } = place;
     let [instance, more @ ..] = rest else {
         marks[number] = Mark::Done;
         return Ok(false);
@@ -50,9 +50,9 @@ fn look<'a>(
             Mark::Open => return Ok(true),
             Mark::New => {
                 // The instance is looked at again once its module is done.
-                stack.push(Place { number, rest })?;
+                stack.push(Visit { number, rest })?;
                 marks[below] = Mark::Open;
-                stack.push(Place {
+                stack.push(Visit {
                     number: below,
                     rest: index.instances(below),
                 })?;
@@ -60,7 +60,7 @@ fn look<'a>(
             }
         }
     }
-    stack.push(Place { number, rest: more })?;
+    stack.push(Visit { number, rest: more })?;
     Ok(false)
 }
 
@@ -78,7 +78,7 @@ fn search<'a>(
 {
     let mut stack = Stack::new(alloc);
     marks[number] = Mark::Open;
-    stack.push(Place {
+    stack.push(Visit {
         number,
         rest: index.instances(number),
     })?;

@@ -1,12 +1,12 @@
 //! Whether the flat netlist passes a limit, before anything of it is built.
 
 ghost use Rattle.std.specs.Prelude.{◌≡◌, ◌<◌, ◌++◌, ◌∷◌, [], option_map, IfOk, OnOk};
-ghost use Rattle.hier_flatten.specs.Hierarchy.{HasHierarchy};
+ghost use Rattle.hier_flatten.specs.Hierarchy.{HasHierarchy, links_of};
 ghost use Rattle.hier_flatten.specs.Flat.{built, own_at, own_nets, ranges_of};
-ghost use Rattle.hier_flatten.specs.Walk.{CountedOn, Decides, work};
+ghost use Rattle.hier_flatten.specs.Walk.{AreLinked, CountedOn, Decides, work};
 
 use crate::below::{Frame, frame_below, top_frame, wire_at};
-use crate::index::Index;
+use crate::index::{Index, Rest};
 use crate::stack::Stack;
 use crate::tally::Tally;
 use name_numbers::NameTable;
@@ -64,35 +64,44 @@ fn count_names(tally: &mut Tally, path: usize, cells: &[Instance]) -> Result<(),
 
 /// Counts the instances of a module at a path, which was taken from the stack, up to the first one of a module, and the
 /// nets of its own that this one has. Answers the limit that is passed.
-fn step<'a>(
+fn step<'a, 'b>(
     alloc: Global,
-    index: &Index<'a>,
+    index: &'b Index<'a>,
     tally: &mut Tally,
-    stack: &mut Stack<Frame<'a>>,
-    frame: Frame<'a>,
+    stack: &mut Stack<Frame<'b>>,
+    frame: Frame<'b>,
 ) -> Result<Option<LimitKind>, AllocError>
-    ensures goes { IfOk result (CountedOn index.now frame.entry stack.old tally.old stack.new tally.new) }
+    requires { AreLinked index.now (frame ∷ stack.old) }
+    ensures linked { OnOk result (AreLinked index.entry.now stack.new) }
+    ensures goes { IfOk result (CountedOn index.entry.now frame.entry stack.old tally.old stack.new tally.new) }
     ensures less { OnOk result
-        (work index.now tally.new stack.new < work index.now tally.old (frame.entry ∷ stack.old)) }
+        (work index.entry.now tally.new stack.new < work index.entry.now tally.old (frame.entry ∷ stack.old)) }
 {
-    let count = index.cells_before(frame.rest);
-    let (cells, rest) = frame.rest.split_at(count);
+    let (cells, next) = index.next(Rest {
+        instances: frame.rest,
+        links: frame.links,
+    });
     count_names(tally, frame.path, cells)?;
-    tally.meet(count)?;
-    let [instance, more @ ..] = rest else {
-        return Ok(None);
-    };
-    let Some(module) = index.find(instance.cell.bytes()) else {
+    tally.meet(cells.len())?;
+    let Some(next) = next else {
         return Ok(None);
     };
     if let Some(what) = tally.limit() {
         return Ok(Some(what));
     }
-    let (below, wires) = frame_below(alloc, tally.ranges(), &frame, instance, module)?;
+    let (below, wires) = frame_below(
+        alloc,
+        tally.ranges(),
+        &frame,
+        next.instance,
+        next.module,
+        next.below.links,
+    )?;
     tally.meet(1)?;
-    count_nets(tally, below.path, &module.nets, wires.as_slice())?;
+    count_nets(tally, below.path, &next.module.nets, wires.as_slice())?;
     stack.push(Frame {
-        rest: more,
+        rest: next.more.instances,
+        links: next.more.links,
         ..frame
     })?;
     stack.push(below)?;
@@ -100,18 +109,20 @@ fn step<'a>(
 }
 
 /// Counts the flat netlist of the top. Answers the limit that it passes.
-pub fn passed_limit<'a>(
+pub fn passed_limit<'a, 'b>(
     alloc: Global,
-    index: &Index<'a>,
-    top: &'a Netlist,
+    index: &'b Index<'a>,
+    top: &'b Netlist,
+    links: &'b [Option<usize>],
     tally: &mut Tally,
 ) -> Result<Option<LimitKind>, AllocError>
     requires top { HasHierarchy index.now top.now.instances }
+    requires links { links.now ≡ links_of index.now top.now.instances }
     requires tally { tally.old ≡ record { ranges = []; met = 0 } }
-    ensures { IfOk result (Decides index.now top.entry.now (built top.entry.now)) }
+    ensures { IfOk result (Decides index.entry.now top.entry.now (built top.entry.now)) }
 {
     let mut stack = Stack::new(alloc);
-    let (frame, wires) = top_frame(alloc, top)?;
+    let (frame, wires) = top_frame(alloc, top, links)?;
     count_nets(tally, frame.path, &top.nets, wires.as_slice())?;
     stack.push(frame)?;
     'frames: while let Some(frame) = stack.pop() {

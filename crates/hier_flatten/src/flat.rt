@@ -1,6 +1,9 @@
 //! From the modules of a text to one flat netlist.
 
+ghost use Rattle.std.specs.Prelude.{IfOk};
+ghost use Rattle.std.specs.List.{All};
 ghost use Rattle.hier_flatten.specs.Meaning.{FlatMeans, AnswersFlat};
+ghost use Rattle.verilog_net.specs.Sound.{IsSoundModule, IsSoundNetlist};
 
 use crate::build::build;
 use crate::circle::contains_itself;
@@ -9,6 +12,7 @@ use crate::fault::FlatFault;
 use crate::fits::misfit;
 use crate::index::Index;
 use crate::names::with_names;
+use crate::plain::have_plain_names;
 use crate::tally::Tally;
 use crate::tops::top_of;
 use std::alloc::Global;
@@ -34,9 +38,13 @@ use xt_model::Code;
 /// modules, of their nets, of their instances and of the pins of these, each pin with four marks and each instance with
 /// two. Takes time linear in the modules and in the flat netlist, where an instance of a module counts with the
 /// declarations of the module and its own pins, and memory linear in the same.
+///
+/// Of sound modules, as `read_modules` gives them, the flat netlist is sound: its names have 1 to 1,024 bytes, and no
+/// two of its bits have one name.
 #[tactic(auto, unfolding(crate::specs::Meaning::FlatMeans))]
 pub fn flatten(alloc: Global, modules: &Modules, last_line: u32) -> Result<Netlist, FlatFault>
-    ensures { AnswersFlat result (FlatMeans modules.now.list last_line) }
+    ensures value { AnswersFlat result (FlatMeans modules.now.list last_line) }
+    ensures sound { All IsSoundModule modules.now.list → IfOk result IsSoundNetlist }
 {
     let index = Index::new(alloc, modules.list.as_slice())?;
     if let Some(line) = misfit(&index) {
@@ -57,10 +65,13 @@ pub fn flatten(alloc: Global, modules: &Modules, last_line: u32) -> Result<Netli
             code: Code::V9,
         });
     };
+    let links = index.links(alloc, top.instances.as_slice())?;
     let mut tally = Tally::new(alloc, index.modules());
-    if let Some(what) = passed_limit(alloc, &index, top, &mut tally)? {
+    if let Some(what) = passed_limit(alloc, &index, top, links.as_slice(), &mut tally)? {
         return Err(FlatFault::Limit { what });
     }
-    let flat = build(alloc, &index, top, &tally)?;
-    with_names(alloc, top, flat, last_line)
+    let flat = build(alloc, &index, top, links.as_slice(), &tally)?;
+    let all = index.modules();
+    let apart = have_plain_names(alloc, index.key(), all)?;
+    with_names(alloc, top, flat, apart, last_line)
 }

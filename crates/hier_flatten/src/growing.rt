@@ -1,8 +1,10 @@
 //! The flat netlist as far as it is built.
 
-ghost use Rattle.std.specs.Prelude.{◌≡◌, ◌<◌, ◌^◌, ◌++◌, ◌+◌, ◌∷◌, [], length, IfOk, OnOk, None};
+ghost use Rattle.std.specs.Prelude.{◌≡◌, ◌<◌, ◌^◌, ◌++◌, ◌+◌, ◌∷◌, [], length, IfOk, OnOk, OnErr, None};
 ghost use Rattle.hier_flatten.specs.Flat.{counts_of, limit_of, ranges_of};
+ghost use Rattle.hier_flatten.specs.Names.{AreApart, IsTabled};
 
+use name_numbers::{NameTable, TextKey};
 use std::alloc::{AllocError, Global};
 use std::marker::Model;
 use verilog_net::{Instance, Name, Net};
@@ -10,38 +12,70 @@ use verilog_net::{Instance, Name, Net};
 /// The greatest number of nets that a netlist has names for.
 const MOST_NAMES: usize = 4_294_967_295;
 
-/// The flat nets and instances so far. `ranges` has the ranges of the nets, and `entered` is how many instances of
-/// modules were met.
+/// The flat nets and instances so far. `table` has the nets by name, as long as no two have one name; the first one
+/// that has the name of an earlier one, and those after it, are in `more`. `ranges` has the ranges of the nets, and
+/// `entered` is how many instances of modules were met.
 #[derive(Drop)]
 pub struct Growing {
-    nets: Vec<(Name, Net)>,
+    table: NameTable<Net>,
+    more: Vec<(Name, Net)>,
     instances: Vec<Instance>,
     ranges: Vec<Option<(u32, u32)>>,
     entered: u32,
 }
 
 impl Model for Growing {
+    ghost use Rattle.std.specs.Prelude.{◌++◌};
     ghost use Rattle.hier_flatten.specs.Flat.{Flat};
     ghost use Rattle.hier_flatten.specs.Walk.{IsGrown};
 
     ghost Value = { Flat };
 
     ghost view = { λ g. record {
-      nets = g.nets.items;
+      nets = g.table ++ g.more.items;
       instances = g.instances.items;
       entered = g.entered;
     } };
 
-    ghost invariant = { λ g. IsGrown g.nets.items g.ranges.items g.entered };
+    ghost invariant = { λ g. IsGrown g.table g.more.items g.ranges.items g.entered };
+}
+
+/// Notes a further net: in the table, unless it or one before it has the name of an earlier one.
+fn put(
+    alloc: Global,
+    table: &mut NameTable<Net>,
+    more: &mut Vec<(Name, Net)>,
+    name: &[u8],
+    net: Net,
+) -> Result<(), AllocError>
+    requires { AreApart table.old more.old.items }
+    ensures apart { AreApart table.new more.new.items }
+    ensures nets { OnOk result
+        (table.new ++ more.new.items ≡ (table.old ++ more.old.items) ++ (name.now, net) ∷ []) }
+    ensures unchanged { OnErr result ((table.new ≡ table.old) × (more.new.items ≡ more.old.items)) }
+{
+    if !more.as_slice().is_empty() || table.find(name).is_some() {
+        more.push((Name::copied(alloc, name)?, net))?;
+        return Ok(());
+    }
+    table.set(alloc, name, net)?;
+    Ok(())
 }
 
 impl Growing {
-    /// Nothing so far, with room for this many nets and instances.
-    pub fn with_room(alloc: Global, nets: usize, instances: usize) -> Result<Growing, AllocError>
+    /// Nothing so far, with room for this many instances and the ranges of this many nets; names are hashed under this
+    /// key.
+    pub fn with_room(
+        alloc: Global,
+        key: TextKey,
+        nets: usize,
+        instances: usize,
+    ) -> Result<Growing, AllocError>
         ensures { IfOk result (λ g. g ≡ record { nets = []; instances = []; entered = 0 }) }
     {
         Ok(Growing {
-            nets: Vec::with_capacity(alloc, nets)?,
+            table: NameTable::new(alloc, key),
+            more: Vec::new(alloc),
             instances: Vec::with_capacity(alloc, instances)?,
             ranges: Vec::with_capacity(alloc, nets)?,
             entered: 0,
@@ -57,14 +91,14 @@ impl Growing {
     }
 
     /// A further net.
-    pub fn add_net(&mut self, name: Name, net: Net) -> Result<(), AllocError>
-        ensures { OnOk result (self.new ≡ record self.old { nets = self.old.nets ++ (name, net) ∷ [] }) }
+    pub fn add_net(&mut self, alloc: Global, name: &[u8], net: Net) -> Result<(), AllocError>
+        ensures { OnOk result (self.new ≡ record self.old { nets = self.old.nets ++ (name.now, net) ∷ [] }) }
     {
-        if self.nets.len() >= MOST_NAMES {
+        if self.ranges.len() >= MOST_NAMES {
             return Err(AllocError);
         }
         self.ranges.push(net.range)?;
-        if self.nets.push((name, net)).is_err() {
+        if put(alloc, &mut self.table, &mut self.more, name, net).is_err() {
             let _ = self.ranges.pop();
             return Err(AllocError);
         }
@@ -87,16 +121,21 @@ impl Growing {
         self.entered += 1;
     }
 
-    /// The nets and the instances.
-    pub fn into_parts(self) -> (Vec<(Name, Net)>, Vec<Instance>)
-        ensures nets { result.0.items ≡ self.nets }
+    /// A table of the nets, unless two have one name, and the instances.
+    pub fn into_parts(self) -> (Option<NameTable<Net>>, Vec<Instance>)
+        ensures nets { IsTabled self.nets result.0 }
         ensures instances { result.1.items ≡ self.instances }
     {
         let Growing {
-            nets,
+            table,
+            more,
             instances,
             ..
         } = self;
-        (nets, instances)
+        if more.is_empty() {
+            (Some(table), instances)
+        } else {
+            (None, instances)
+        }
     }
 }

@@ -13,6 +13,7 @@ mod growing;
 mod index;
 mod names;
 mod places;
+mod plain;
 mod stack;
 mod tables;
 mod tally;

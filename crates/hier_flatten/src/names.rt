@@ -1,51 +1,44 @@
 //! The names of a flat netlist.
 
-ghost use Rattle.std.specs.Prelude.{◌≡◌, map, IfOk};
+ghost use Rattle.std.specs.Prelude.{◌≡◌, ℕ, List, true, false, map, option_map, option_to_list, IfOk};
 ghost use Rattle.std.specs.List.{list_any};
-ghost use Rattle.hier_flatten.specs.Names.{is_repeated, has_bit_name, is_long, has_long_name};
-ghost use Rattle.hier_flatten.specs.Names.{IsTabled, IsDistinct};
+ghost use Rattle.hier_flatten.specs.Names.{is_repeated, has_bit_name, has_equal_names, is_long, has_long_name};
+ghost use Rattle.verilog_net.specs.declared.netlist.Net.{Net};
 ghost use Rattle.hier_flatten.specs.Meaning.{named, AnswersFlat};
 
 use crate::fault::FlatFault;
 use crate::growing::Growing;
 use name_numbers::{NameTable, Names, TextKey};
 use std::alloc::{AllocError, Global};
-use verilog_net::{Instance, Name, Net, Netlist, named_bit};
+use verilog_net::{Instance, Net, Netlist, named_bit};
 use xt_model::limits::MOST_TEXT_NAME;
 use xt_model::{Code, Row};
 
-/// A table of the nets, unless two have one name.
-fn table_of(
-    alloc: Global,
-    key: TextKey,
-    nets: &[(Name, Net)],
-) -> Result<Option<NameTable<Net>>, AllocError>
-    ensures { IfOk result (IsTabled nets.now) }
+/// Whether a net of one bit has the name of a bit of a bus.
+fn has_bit_name(table: &NameTable<Net>, net: Option<(&[u8], &Net)>) -> bool
+    ensures { result ≡ list_any (has_bit_name table.now)
+        (option_to_list (option_map (λ e. (e.0.now, e.1.now)) net.entry)) }
 {
-    let mut table = NameTable::new(alloc, key);
-    let mut rest = nets;
-    'nets: while let [entry, more @ ..] = rest {
-        let (name, net) = entry;
-        let count = table.len();
-        table.set(alloc, name.bytes(), *net)?;
-        if table.len() == count {
-            return Ok(None);
-        }
-        rest = more;
-    }
-    Ok(Some(table))
+    let Some((name, net)) = net else {
+        return false;
+    };
+    net.range.is_none() && named_bit(table, name).is_some()
 }
 
-/// Whether a net of one bit has the name of a bit of a bus.
-fn has_bit_name(table: &NameTable<Net>, net: &(Name, Net)) -> bool
-    ensures { result ≡ has_bit_name table.now net.now }
+/// Whether some net of one bit has the name of a bit of a bus.
+fn have_bit_names(table: &NameTable<Net>) -> bool
+    ensures { result ≡ list_any (has_bit_name table.now) table.now }
 {
-    let (name, net) = net;
-    net.range.is_none() && named_bit(table, name.bytes()).is_some()
+    for number in 0..table.len() {
+        if has_bit_name(table, table.get(number)) {
+            return true;
+        }
+    }
+    false
 }
 
 /// Whether two instances have one name.
-fn are_repeated(alloc: Global, key: TextKey, instances: &[Instance]) -> Result<bool, AllocError>
+pub fn are_repeated(alloc: Global, key: TextKey, instances: &[Instance]) -> Result<bool, AllocError>
     ensures { IfOk result (λ b. b ≡ is_repeated (map (λ i. i.name) instances.now)) }
 {
     let mut names = Names::new(alloc, key);
@@ -60,40 +53,34 @@ fn are_repeated(alloc: Global, key: TextKey, instances: &[Instance]) -> Result<b
     Ok(false)
 }
 
-/// Whether some net of one bit has the name of a bit of a bus.
-fn have_bit_names(table: &NameTable<Net>, nets: &[(Name, Net)]) -> bool
-    ensures { result ≡ list_any (has_bit_name table.now) nets.now }
-{
-    nets.iter().any(|net| has_bit_name(table, net))
-}
-
-/// Whether a name has more than 1,024 bytes.
-fn is_long(name: &Name) -> bool
-    ensures { result ≡ is_long name.now }
-{
-    name.bytes().len() > MOST_TEXT_NAME
-}
-
 /// Whether the name of a net has more than 1,024 bytes.
-fn is_long_net(net: &(Name, Net)) -> bool
-    ensures { result ≡ is_long net.now.0 }
+fn is_long_net(net: Option<(&[u8], &Net)>) -> bool
+    ensures { result ≡ list_any (λ (n : List ℕ × Net). is_long n.0)
+        (option_to_list (option_map (λ e. (e.0.now, e.1.now)) net.entry)) }
 {
-    let (name, _) = net;
-    is_long(name)
+    match net {
+        Some((name, _)) => name.len() > MOST_TEXT_NAME,
+        None => false,
+    }
 }
 
 /// Whether the name of an instance has more than 1,024 bytes.
 fn is_long_instance(instance: &Instance) -> bool
     ensures { result ≡ is_long instance.now.name }
 {
-    is_long(&instance.name)
+    instance.name.bytes().len() > MOST_TEXT_NAME
 }
 
 /// Whether a net has a name of more than 1,024 bytes.
-fn has_long_net(nets: &[(Name, Net)]) -> bool
+fn has_long_net(nets: &NameTable<Net>) -> bool
     ensures { result ≡ list_any (λ net. is_long net.0) nets.now }
 {
-    nets.iter().any(|net| is_long_net(net))
+    for number in 0..nets.len() {
+        if is_long_net(nets.get(number)) {
+            return true;
+        }
+    }
+    false
 }
 
 /// Whether an instance has a name of more than 1,024 bytes.
@@ -105,51 +92,59 @@ fn has_long_instance(instances: &[Instance]) -> bool
 
 /// Whether a net or an instance has a name of more than 1,024 bytes.
 #[tactic(auto, unfolding(crate::specs::Names::has_long_name))]
-fn has_long_name(nets: &[(Name, Net)], instances: &[Instance]) -> bool
+fn has_long_name(nets: &NameTable<Net>, instances: &[Instance]) -> bool
     ensures { result ≡ has_long_name nets.now instances.now }
 {
     has_long_net(nets) || has_long_instance(instances)
 }
 
-/// A table of the nets, unless two nets, two bits or two instances have one name.
-fn distinct_nets(
+/// Whether two bits of nets with names of their own, or two instances, have one name. The instances are not asked
+/// where their names are known to be `apart`.
+fn has_equal_names(
     alloc: Global,
-    key: TextKey,
-    nets: &[(Name, Net)],
+    nets: &NameTable<Net>,
     instances: &[Instance],
-) -> Result<Option<NameTable<Net>>, AllocError>
-    ensures { IfOk result (IsDistinct nets.now instances.now) }
+    apart: bool,
+) -> Result<bool, AllocError>
+    requires { apart ≡ true → is_repeated (map (λ i. i.name) instances.now) ≡ false }
+    ensures { IfOk result (λ b. is_repeated (map (λ net. net.0) nets.now) ≡ false
+        → b ≡ has_equal_names nets.now instances.now) }
 {
-    let Some(table) = table_of(alloc, key, nets)? else {
-        return Ok(None);
-    };
-    if have_bit_names(&table, nets) {
-        return Ok(None);
+    if have_bit_names(nets) {
+        return Ok(true);
     }
-    if are_repeated(alloc, key, instances)? {
-        return Ok(None);
+    if apart {
+        return Ok(false);
     }
-    Ok(Some(table))
+    let repeated = are_repeated(alloc, nets.key(), instances)?;
+    Ok(repeated)
 }
 
-/// The flat netlist of a top, where its names are in order.
+/// The flat netlist of a top, where its names are in order. Those of its instances may be known to be `apart`.
 pub fn with_names(
     alloc: Global,
     top: &Netlist,
     flat: Growing,
+    apart: bool,
     last_line: u32,
 ) -> Result<Netlist, FlatFault>
+    requires { apart ≡ true → is_repeated (map (λ i. i.name) flat.instances) ≡ false }
     ensures { AnswersFlat result (λ o. o ≡ named last_line top.now flat) }
 {
-    let (nets, instances) = flat.into_parts();
-    let key = top.nets.key();
-    let Some(table) = distinct_nets(alloc, key, nets.as_slice(), instances.as_slice())? else {
+    let (table, instances) = flat.into_parts();
+    let Some(nets) = table else {
         return Err(FlatFault::Refused {
             line: last_line,
             code: Code::V5,
         });
     };
-    if has_long_name(nets.as_slice(), instances.as_slice()) {
+    if has_equal_names(alloc, &nets, instances.as_slice(), apart)? {
+        return Err(FlatFault::Refused {
+            line: last_line,
+            code: Code::V5,
+        });
+    }
+    if has_long_name(&nets, instances.as_slice()) {
         return Err(FlatFault::Refused {
             line: last_line,
             code: Code::V1,
@@ -157,7 +152,7 @@ pub fn with_names(
     }
     Ok(Netlist {
         module: top.module.shared()?,
-        nets: table,
+        nets,
         instances: Row::from_vec(instances),
     })
 }

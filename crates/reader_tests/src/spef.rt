@@ -1,7 +1,7 @@
 //! Parasitics: short texts and one whole example, with what they mean worked out by hand.
 
 use crate::rows::{Reader, Texts, answer, compare, with_lines};
-use spef_read::{Name, Parasitics, read_spef};
+use spef_read::{NameId, Parasitics, read_spef};
 use std::alloc::{AllocError, Global};
 use std::process::Abort;
 use std::test::*;
@@ -309,7 +309,7 @@ fn the_example_is_refused_at_a_changed_line(rt: HostRuntime) -> Result<(), Fail>
 }
 
 /// Appends a name.
-fn push_name(parasitics: &Parasitics, name: Name, out: &mut Vec<u8>) -> Result<(), Fail> {
+fn push_name(parasitics: &Parasitics, name: NameId, out: &mut Vec<u8>) -> Result<(), Fail> {
     let Some(parts) = parasitics.parts(name) else {
         return Err(Fail::from("no name"));
     };

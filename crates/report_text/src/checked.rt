@@ -20,7 +20,7 @@ use std::alloc::{AllocError, Global};
 use xt_model::{Design, NoMemory, Row, Windows};
 
 /// The slacks of the checks of a design, and the worst setup check and the worst hold check with their paths.
-#[derive(Debug, Drop)]
+#[derive(Drop)]
 pub struct Checked {
     pub slacks: Row<Slack>,
     pub setup: Option<WorstPath>,

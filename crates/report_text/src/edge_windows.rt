@@ -11,14 +11,14 @@ use std::alloc::{AllocError, Global};
 use xt_model::{Design, Edge, Quad, Windows};
 
 /// The least and the greatest window of an edge of a net.
-#[derive(Clone, Copy, Debug, PartialEq, Eq)]
+#[derive(Clone, Copy)]
 pub struct EdgeWindows {
     pub low: Quad,
     pub high: Quad,
 }
 
 /// How wide windows are together, in fs: the least of some edges, and the greatest.
-#[derive(Clone, Copy, Debug, PartialEq, Eq)]
+#[derive(Clone, Copy)]
 pub struct Widths {
     pub least: i128,
     pub greatest: i128,

@@ -24,7 +24,7 @@ use xt_model::{Design, Edge, NetId, NoMemory, Windows};
 
 /// The worst check of a kind: its slack, the path by which its data comes in the greatest windows, and the delay in fs
 /// of the wire from the end of the path to the place of the check.
-#[derive(Debug, Drop)]
+#[derive(Drop)]
 pub struct WorstPath {
     pub slack: Slack,
     pub path: Path,

@@ -2,7 +2,6 @@ mod Agreeing
 mod OneBlock
 mod Blocks
 mod Netlists
-mod LinkedFaults
 mod Pieces
 mod Within
 mod OnePassed

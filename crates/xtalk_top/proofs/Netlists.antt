@@ -12,7 +12,7 @@ use Rattle.hier_flatten.specs.Alone.{is_alone}
 use Rattle.hier_flatten.specs.Meaning.{FlatMeans, Outcome as FlatOutcome}
 use Rattle.hier_flatten.specs.declared.fault.FlatFault.TheVariants as flat
 use Rattle.hier_flatten.proofs.MeaningLaws.{one_outcome}
-use Rattle.sound_reads.proofs.FlatNetlists.{flat_sound}
+use Rattle.hier_flatten.proofs.FlatNetlists.{flat_sound}
 use Rattle.flat_laws.proofs.Texts.{alone_is_flat}
 use Rattle.command_line.specs.Words.{Text}
 use Rattle.xtalk_top.specs.Linking.{FlatIn, ModulesIn, NetlistIn}

@@ -1,15 +1,15 @@
 //! The line and the status of a failure.
 
-ghost use Rattle.std.specs.Prelude.{◌≡◌, ℕ, ◌≤◌, List, [], ◌∷◌, ◌++◌, OnOk, OnErr, codes};
-ghost use Rattle.xt_io.specs.Outside.{Rose, appended, IsPrefixAppended};
+ghost use Rattle.std.specs.Prelude.{◌≡◌, ℕ, [], ◌∷◌, ◌++◌, codes};
+ghost use Rattle.std.specs.Fmt.{decimal};
+ghost use Rattle.std.specs.List.{flat_map};
 ghost use Rattle.xtalk_top.specs.Call.{line_of, status_of, WritesLine};
 ghost use Rattle.xtalk_top.specs.FailureWords.{count_limit_words, first_name, kind_word, limit_words, link_words};
 ghost use Rattle.xtalk_top.specs.FailureWords.{name_field, one_name, two_names, what_word, window_limit_words};
 ghost use Rattle.xtalk_top.specs.declared.refusal.Failure.TheVariants.{NoText};
 ghost use Rattle.xtalk_top.specs.declared.refusal.Stop.TheVariants.{Refused};
 ghost use Rattle.xtalk_top.specs.declared.refusal.Refusal.TheVariants.{File};
-ghost use Rattle.xtalk_top.specs.declared.refusal.FileRefusal.TheVariants.{Content, TooLong};
-ghost use Rattle.xtalk_top.specs.declared.refusal.TextRefusal.TheVariants.{At};
+ghost use Rattle.xtalk_top.specs.declared.refusal.FileRefusal.TheVariants.{TooLong};
 
 use crate::refusal::{
     DesignRefusal, Failure, FileRefusal, PassedLimit, Refusal, Stop, TextRefusal, Unlinked,
@@ -18,8 +18,8 @@ use command_line::FileName;
 use envelope::What;
 use itoa::Buffer;
 use link_rules::LinkRefusal;
-use xt_io::{Failed, MOST_BYTES, Sink, write_whole};
-use xt_model::{Code, LimitKind, Name};
+use xt_io::{MOST_BYTES, Sink, write_whole};
+use xt_model::{LimitKind, Name};
 
 /// Writes the line of a failure, and gives its status. A fault of the sink cuts the line off and changes nothing
 /// else.
@@ -28,7 +28,7 @@ pub fn refuse<E: Sink>(err: &mut E, failure: Failure) -> u8
     ensures line { WritesLine (E.written err.old) (E.written err.new) (E.faults err.old) (E.faults err.new)
         (line_of failure) }
 {
-    let _ = write_line(err, &failure);
+    write_line(err, &failure);
     status(&failure)
 }
 
@@ -78,46 +78,37 @@ fn word_of_what(what: What) -> &'static [u8]
 }
 
 // Writes the line as far as the sink takes it.
-fn write_line<E: Sink>(err: &mut E, failure: &Failure) -> Result<(), Failed>
-    ensures ok { OnOk result (E.written err.new ≡ appended (E.written err.old)
-        (line_of failure.now)) }
-    ensures err { OnErr result (IsPrefixAppended (E.written err.old) (E.written err.new)
-        (line_of failure.now)) }
-    ensures failed { OnErr result (Rose (E.faults err.old) (E.faults err.new)) }
+fn write_line<E: Sink>(err: &mut E, failure: &Failure)
+    ensures { WritesLine (E.written err.old) (E.written err.new) (E.faults err.old) (E.faults err.new)
+        (line_of failure.now) }
 {
     match failure {
         Failure::NoText(stop) => write_stop(err, stop),
-        Failure::Unwritten => write_whole(err, b"write fault\n"),
+        Failure::Unwritten => write_pieces(err, &[b"write fault\n"]),
     }
 }
 
 // Writes why there is no text.
-fn write_stop<E: Sink>(err: &mut E, stop: &Stop) -> Result<(), Failed>
-    ensures ok { OnOk result (E.written err.new ≡ appended (E.written err.old)
-        (line_of (NoText stop.now))) }
-    ensures err { OnErr result (IsPrefixAppended (E.written err.old) (E.written err.new)
-        (line_of (NoText stop.now))) }
-    ensures failed { OnErr result (Rose (E.faults err.old) (E.faults err.new)) }
+fn write_stop<E: Sink>(err: &mut E, stop: &Stop)
+    ensures { WritesLine (E.written err.old) (E.written err.new) (E.faults err.old) (E.faults err.new)
+        (line_of (NoText stop.now)) }
 {
     match stop {
         Stop::Refused(why) => write_refusal(err, why),
         Stop::Unread { file } => {
-            write_three(err, b"read fault: ", file.as_str().as_bytes(), b"\n")
+            write_pieces(err, &[b"read fault: ", file.as_str().as_bytes(), b"\n"])
         }
-        Stop::NoMemory => write_whole(err, b"out of memory\n"),
+        Stop::NoMemory => write_pieces(err, &[b"out of memory\n"]),
     }
 }
 
 // Writes why the words and the files mean no text.
-fn write_refusal<E: Sink>(err: &mut E, why: &Refusal) -> Result<(), Failed>
-    ensures ok { OnOk result (E.written err.new ≡ appended (E.written err.old)
-        (line_of (NoText (Refused why.now)))) }
-    ensures err { OnErr result (IsPrefixAppended (E.written err.old) (E.written err.new)
-        (line_of (NoText (Refused why.now)))) }
-    ensures failed { OnErr result (Rose (E.faults err.old) (E.faults err.new)) }
+fn write_refusal<E: Sink>(err: &mut E, why: &Refusal)
+    ensures { WritesLine (E.written err.old) (E.written err.new) (E.faults err.old) (E.faults err.new)
+        (line_of (NoText (Refused why.now))) }
 {
     match why {
-        Refusal::Words => write_whole(err, b"xtalk: bad command line\n"),
+        Refusal::Words => write_pieces(err, &[b"xtalk: bad command line\n"]),
         Refusal::File { file, why } => write_file_refusal(err, file, why),
         Refusal::Linking(Unlinked::Refused(why)) => write_unlinked(err, why),
         Refusal::Linking(Unlinked::Beyond(limit)) => write_count_limit(err, limit),
@@ -126,55 +117,54 @@ fn write_refusal<E: Sink>(err: &mut E, why: &Refusal) -> Result<(), Failed>
 }
 
 // Writes why a file of this name gives nothing.
-fn write_file_refusal<E: Sink>(
-    err: &mut E,
-    file: &FileName,
-    why: &FileRefusal,
-) -> Result<(), Failed>
-    ensures ok { OnOk result (E.written err.new ≡ appended (E.written err.old)
-        (line_of (NoText (Refused (File file.now why.now))))) }
-    ensures err { OnErr result (IsPrefixAppended (E.written err.old) (E.written err.new)
-        (line_of (NoText (Refused (File file.now why.now))))) }
-    ensures failed { OnErr result (Rose (E.faults err.old) (E.faults err.new)) }
+fn write_file_refusal<E: Sink>(err: &mut E, file: &FileName, why: &FileRefusal)
+    ensures { WritesLine (E.written err.old) (E.written err.new) (E.faults err.old) (E.faults err.new)
+        (line_of (NoText (Refused (File file.now why.now)))) }
 {
     match why {
         FileRefusal::TooLong => write_length(err, file),
-        FileRefusal::Content(TextRefusal::At { line, code }) => write_place(
-            err, file, *line, *code,
-        ),
+        FileRefusal::Content(TextRefusal::At { line, code }) => {
+            write_place(err, file, *line, code.text().as_bytes())
+        }
         FileRefusal::Content(TextRefusal::Beyond(limit)) => write_count_limit(err, limit),
     }
 }
 
 // Writes where a text is refused, and why.
-fn write_place<E: Sink>(err: &mut E, file: &FileName, line: u32, code: Code) -> Result<(), Failed>
-    ensures ok { OnOk result (E.written err.new ≡ appended (E.written err.old)
-        (line_of (NoText (Refused (File file.now (Content (At line code))))))) }
-    ensures err { OnErr result (IsPrefixAppended (E.written err.old) (E.written err.new)
-        (line_of (NoText (Refused (File file.now (Content (At line code))))))) }
-    ensures failed { OnErr result (Rose (E.faults err.old) (E.faults err.new)) }
+fn write_place<E: Sink>(err: &mut E, file: &FileName, line: u32, code: &[u8])
+    ensures { WritesLine (E.written err.old) (E.written err.new) (E.faults err.old) (E.faults err.new)
+        ((file.now ++ (codes ":" ++ (decimal line ++ (codes ": " ++ code.now)))) ++ 10 ∷ []) }
 {
     let mut buffer = Buffer::new();
-    write_three(
+    write_pieces(
         err,
-        file.as_str().as_bytes(),
-        b":",
-        buffer.format(line).as_bytes(),
-    )?;
-    write_three(err, b": ", code.text().as_bytes(), b"\n")
+        &[
+            file.as_str().as_bytes(),
+            b":",
+            buffer.format(line).as_bytes(),
+            b": ",
+            code,
+            b"\n",
+        ],
+    )
 }
 
 // Writes which file is too long.
-fn write_length<E: Sink>(err: &mut E, file: &FileName) -> Result<(), Failed>
-    ensures ok { OnOk result (E.written err.new ≡ appended (E.written err.old)
-        (line_of (NoText (Refused (File file.now TooLong))))) }
-    ensures err { OnErr result (IsPrefixAppended (E.written err.old) (E.written err.new)
-        (line_of (NoText (Refused (File file.now TooLong))))) }
-    ensures failed { OnErr result (Rose (E.faults err.old) (E.faults err.new)) }
+fn write_length<E: Sink>(err: &mut E, file: &FileName)
+    ensures { WritesLine (E.written err.old) (E.written err.new) (E.faults err.old) (E.faults err.new)
+        (line_of (NoText (Refused (File file.now TooLong)))) }
 {
     let mut buffer = Buffer::new();
-    write_two(err, b"limit: file ", file.as_str().as_bytes())?;
-    write_three(err, b" ", buffer.format(MOST_BYTES + 1).as_bytes(), b"\n")
+    write_pieces(
+        err,
+        &[
+            b"limit: file ",
+            file.as_str().as_bytes(),
+            b" ",
+            buffer.format(MOST_BYTES + 1).as_bytes(),
+            b"\n",
+        ],
+    )
 }
 
 // The word for what has a limit.
@@ -196,32 +186,30 @@ fn word_of_kind(what: LimitKind) -> &'static [u8]
 }
 
 // Writes a code with one name after it.
-fn write_one_name<E: Sink>(err: &mut E, code: &[u8], name: &[u8]) -> Result<(), Failed>
-    ensures ok { OnOk result (E.written err.new ≡ appended (E.written err.old)
-        ((codes "link: " ++ one_name code.now name.now) ++ 10 ∷ [])) }
-    ensures err { OnErr result (IsPrefixAppended (E.written err.old) (E.written err.new)
-        ((codes "link: " ++ one_name code.now name.now) ++ 10 ∷ [])) }
-    ensures failed { OnErr result (Rose (E.faults err.old) (E.faults err.new)) }
+fn write_one_name<E: Sink>(err: &mut E, code: &[u8], name: &[u8])
+    ensures { WritesLine (E.written err.old) (E.written err.new) (E.faults err.old) (E.faults err.new)
+        ((codes "link: " ++ one_name code.now name.now) ++ 10 ∷ []) }
 {
-    write_three(err, b"link: ", code, b" ")?;
-    write_two(err, name, b"\n")
+    write_pieces(err, &[b"link: ", code, b" ", name, b"\n"])
 }
 
 // Writes a code with two names after it.
-fn write_two_names<E: Sink>(
-    err: &mut E,
-    code: &[u8],
-    first: &Name,
-    second: &Name,
-) -> Result<(), Failed>
-    ensures ok { OnOk result (E.written err.new ≡ appended (E.written err.old)
-        ((codes "link: " ++ two_names code.now first.now second.now) ++ 10 ∷ [])) }
-    ensures err { OnErr result (IsPrefixAppended (E.written err.old) (E.written err.new)
-        ((codes "link: " ++ two_names code.now first.now second.now) ++ 10 ∷ [])) }
-    ensures failed { OnErr result (Rose (E.faults err.old) (E.faults err.new)) }
+fn write_two_names<E: Sink>(err: &mut E, code: &[u8], first: &Name, second: &Name)
+    ensures { WritesLine (E.written err.old) (E.written err.new) (E.faults err.old) (E.faults err.new)
+        ((codes "link: " ++ two_names code.now first.now second.now) ++ 10 ∷ []) }
 {
-    write_three(err, b"link: ", code, b" ")?;
-    write_four(err, first.bytes(), b" ", second.bytes(), b"\n")
+    write_pieces(
+        err,
+        &[
+            b"link: ",
+            code,
+            b" ",
+            first.bytes(),
+            b" ",
+            second.bytes(),
+            b"\n",
+        ],
+    )
 }
 
 // The first name, or nothing.
@@ -235,12 +223,9 @@ fn first_of(names: &[Name]) -> &[u8]
 }
 
 // Writes why the files of a block make no design together.
-fn write_unlinked<E: Sink>(err: &mut E, why: &LinkRefusal) -> Result<(), Failed>
-    ensures ok { OnOk result (E.written err.new ≡ appended (E.written err.old)
-        ((codes "link: " ++ link_words why.now) ++ 10 ∷ [])) }
-    ensures err { OnErr result (IsPrefixAppended (E.written err.old) (E.written err.new)
-        ((codes "link: " ++ link_words why.now) ++ 10 ∷ [])) }
-    ensures failed { OnErr result (Rose (E.faults err.old) (E.faults err.new)) }
+fn write_unlinked<E: Sink>(err: &mut E, why: &LinkRefusal)
+    ensures { WritesLine (E.written err.old) (E.written err.new) (E.faults err.old) (E.faults err.new)
+        ((codes "link: " ++ link_words why.now) ++ 10 ∷ []) }
 {
     match why {
         LinkRefusal::K1 { instance, cell } => write_two_names(err, b"K1", instance, cell),
@@ -255,33 +240,18 @@ fn write_unlinked<E: Sink>(err: &mut E, why: &LinkRefusal) -> Result<(), Failed>
 }
 
 // Writes which limit is passed, at which net, and by what.
-fn write_limit<E: Sink>(
-    err: &mut E,
-    what: &[u8],
-    name: &Option<Name>,
-    value: &[u8],
-) -> Result<(), Failed>
-    ensures ok { OnOk result (E.written err.new ≡ appended (E.written err.old)
-        (limit_words what.now name.now value.now ++ 10 ∷ [])) }
-    ensures err { OnErr result (IsPrefixAppended (E.written err.old) (E.written err.new)
-        (limit_words what.now name.now value.now ++ 10 ∷ [])) }
-    ensures failed { OnErr result (Rose (E.faults err.old) (E.faults err.new)) }
+fn write_limit<E: Sink>(err: &mut E, what: &[u8], name: &Option<Name>, value: &[u8])
+    ensures { WritesLine (E.written err.old) (E.written err.new) (E.faults err.old) (E.faults err.new)
+        (limit_words what.now name.now value.now ++ 10 ∷ []) }
 {
     let (name, space) = name_pieces(name);
-    write_three(err, b"limit: ", what, b" ")?;
-    write_four(err, name, space, value, b"\n")
+    write_pieces(err, &[b"limit: ", what, b" ", name, space, value, b"\n"])
 }
 
 // Writes which limit a text or a block passes.
-fn write_count_limit<E: Sink>(
-    err: &mut E,
-    limit: &PassedLimit<LimitKind, u128>,
-) -> Result<(), Failed>
-    ensures ok { OnOk result (E.written err.new ≡ appended (E.written err.old)
-        (count_limit_words limit.now ++ 10 ∷ [])) }
-    ensures err { OnErr result (IsPrefixAppended (E.written err.old) (E.written err.new)
-        (count_limit_words limit.now ++ 10 ∷ [])) }
-    ensures failed { OnErr result (Rose (E.faults err.old) (E.faults err.new)) }
+fn write_count_limit<E: Sink>(err: &mut E, limit: &PassedLimit<LimitKind, u128>)
+    ensures { WritesLine (E.written err.old) (E.written err.new) (E.faults err.old) (E.faults err.new)
+        (count_limit_words limit.now ++ 10 ∷ []) }
 {
     let mut buffer = Buffer::new();
     write_limit(
@@ -293,12 +263,9 @@ fn write_count_limit<E: Sink>(
 }
 
 // Writes which limit a window of an envelope passes.
-fn write_window_limit<E: Sink>(err: &mut E, limit: &PassedLimit<What, i128>) -> Result<(), Failed>
-    ensures ok { OnOk result (E.written err.new ≡ appended (E.written err.old)
-        (window_limit_words limit.now ++ 10 ∷ [])) }
-    ensures err { OnErr result (IsPrefixAppended (E.written err.old) (E.written err.new)
-        (window_limit_words limit.now ++ 10 ∷ [])) }
-    ensures failed { OnErr result (Rose (E.faults err.old) (E.faults err.new)) }
+fn write_window_limit<E: Sink>(err: &mut E, limit: &PassedLimit<What, i128>)
+    ensures { WritesLine (E.written err.old) (E.written err.new) (E.faults err.old) (E.faults err.new)
+        (window_limit_words limit.now ++ 10 ∷ []) }
 {
     let mut buffer = Buffer::new();
     write_limit(
@@ -319,49 +286,14 @@ fn name_pieces(name: &Option<Name>) -> (&[u8], &[u8])
     }
 }
 
-// Writes four pieces one after another; after a failure some first part of the four was written.
-fn write_four<S: Sink>(
-    sink: &mut S,
-    first: &[u8],
-    second: &[u8],
-    third: &[u8],
-    fourth: &[u8],
-) -> Result<(), Failed>
-    ensures counts { S.faults sink.old ≤ S.faults sink.new }
-    ensures ok { OnOk result (S.written sink.new ≡ appended (S.written sink.old)
-        (first.now ++ (second.now ++ (third.now ++ fourth.now)))) }
-    ensures err { OnErr result (IsPrefixAppended (S.written sink.old) (S.written sink.new)
-        (first.now ++ (second.now ++ (third.now ++ fourth.now)))) }
-    ensures failed { OnErr result (Rose (S.faults sink.old) (S.faults sink.new)) }
+// Writes pieces one after another, as far as the sink takes them.
+fn write_pieces<E: Sink>(err: &mut E, pieces: &[&[u8]])
+    ensures { WritesLine (E.written err.old) (E.written err.new) (E.faults err.old) (E.faults err.new)
+        (flat_map (λ piece. piece.now) pieces.now) }
 {
-    write_whole(sink, first)?;
-    write_three(sink, second, third, fourth)
-}
-
-// Writes three pieces one after another; after a failure some first part of the three was written.
-fn write_three<S: Sink>(
-    sink: &mut S,
-    first: &[u8],
-    second: &[u8],
-    third: &[u8],
-) -> Result<(), Failed>
-    ensures counts { S.faults sink.old ≤ S.faults sink.new }
-    ensures ok { OnOk result (S.written sink.new ≡ appended (S.written sink.old)
-        (first.now ++ (second.now ++ third.now))) }
-    ensures err { OnErr result (IsPrefixAppended (S.written sink.old) (S.written sink.new)
-        (first.now ++ (second.now ++ third.now))) }
-    ensures failed { OnErr result (Rose (S.faults sink.old) (S.faults sink.new)) }
-{
-    write_whole(sink, first)?;
-    write_two(sink, second, third)
-}
-
-fn write_two<S: Sink>(sink: &mut S, first: &[u8], second: &[u8]) -> Result<(), Failed>
-    ensures counts { S.faults sink.old ≤ S.faults sink.new }
-    ensures ok { OnOk result (S.written sink.new ≡ appended (S.written sink.old) (first.now ++ second.now)) }
-    ensures err { OnErr result (IsPrefixAppended (S.written sink.old) (S.written sink.new) (first.now ++ second.now)) }
-    ensures failed { OnErr result (Rose (S.faults sink.old) (S.faults sink.new)) }
-{
-    write_whole(sink, first)?;
-    write_whole(sink, second)
+    for piece in pieces {
+        let Ok(()) = write_whole(err, piece) else {
+            return;
+        };
+    }
 }

@@ -5,11 +5,15 @@ use Rattle.hier_flatten.specs.Hierarchy.{IsFinite, top_of}
 use Rattle.hier_flatten.specs.Flat.{built}
 use Rattle.hier_flatten.specs.Walk.{Decides}
 use Rattle.hier_flatten.specs.Meaning.{FlatMeans, AnswersFlat}
+use Rattle.std.specs.List.{list_all}
+use Rattle.hier_flatten.specs.Names.{has_plain_names}
+use Rattle.hier_flatten.proofs.PathLaws.{apart_below}
+use Rattle.hier_flatten.proofs.FlatNetlists.{flat_answer}
 use Rattle.hier_flatten.proofs.MeaningLaws.{no_top_means, top_finite, limit_means, names_mean}
 use Rattle.hier_flatten.proofs.flat.flatten.Goals as goal
 
-pub returns-in_default-2 : goal.returns-in_default-2
-returns-in_default-2 c =
+pub returns-in_default-2-clause-value : goal.returns-in_default-2-clause-value
+returns-in_default-2-clause-value c =
     let same : c.in_ok-index.index ≡ c.args.modules.now.list = c.in_ok-index.ensures ∙ c.as_slice.ensures in
     let ends : (number : ℕ) → IsFinite c.in_ok-index.index number = rw c.if-branch.false at c.in_ok-contains_itself.ensures in
     let none : top_of c.in_ok-index.index ≡ None = sym c.in_ok-top.ensures ∙ ap (option_map (λ m. m.now)) c.in_default-2.is in
@@ -21,8 +25,8 @@ passed_limit-requires-clause-top c =
     let ends : (number : ℕ) → IsFinite c.in_ok-index.index number = rw c.if-branch.false at c.in_ok-contains_itself.ensures in
     top_finite c.in_ok-index.index c.args.last_line c.in-Some-2.top.now ends (sym c.in_ok-top.ensures ∙ ap (option_map (λ m. m.now)) c.in-Some-2.is)
 
-pub returns-in-Some-3 : goal.returns-in-Some-3
-returns-in-Some-3 c =
+pub returns-in-Some-3-clause-value : goal.returns-in-Some-3-clause-value
+returns-in-Some-3-clause-value c =
     let same : c.in_ok-index.index ≡ c.args.modules.now.list = c.in_ok-index.ensures ∙ c.as_slice.ensures in
     let ends : (number : ℕ) → IsFinite c.in_ok-index.index number = rw c.if-branch.false at c.in_ok-contains_itself.ensures in
     let passed : Decides c.in_ok-index.index c.in-Some-2.top.now (built c.in-Some-2.top.now) (Some c.in-Some-3.what) = rw c.in-Some-3.is at c.in_ok-what.ensures in
@@ -30,13 +34,21 @@ returns-in-Some-3 c =
     (limit_means c.in_ok-index.index c.args.last_line c.in-Some-2.top.now (sym c.misfit.ensures ∙ c.in_default.is) ends
     (sym c.in_ok-top.ensures ∙ ap (option_map (λ m. m.now)) c.in-Some-2.is) c.in-Some-3.what passed)
 
-pub build-requires : goal.build-requires
-build-requires c = rw c.in_default-3.is at c.in_ok-what.ensures
+pub build-requires-clause-none : goal.build-requires-clause-none
+build-requires-clause-none c = rw c.in_default-3.is at c.in_ok-what.ensures
 
-pub returns : goal.returns
-returns c =
+pub with_names-requires : goal.with_names-requires
+with_names-requires c = λ plain.
+    apart_below c.in_ok-index.index c.in-Some-2.top.now c.in_ok-flat.flat (sym c.in_ok-top.ensures ∙ ap (option_map (λ m. m.now)) c.in-Some-2.is)
+    (ap (list_all has_plain_names) (sym c.modules-all.ensures) ∙ (sym c.in_ok-apart.ensures ∙ plain)) c.in_ok-flat.ensures
+
+pub returns-clause-value : goal.returns-clause-value
+returns-clause-value c =
     let same : c.in_ok-index.index ≡ c.args.modules.now.list = c.in_ok-index.ensures ∙ c.as_slice.ensures in
     let ends : (number : ℕ) → IsFinite c.in_ok-index.index number = rw c.if-branch.false at c.in_ok-contains_itself.ensures in
     subst (λ ms. AnswersFlat c.with_names.result (FlatMeans ms c.args.last_line)) same
     (names_mean c.in_ok-index.index c.args.last_line c.in-Some-2.top.now (sym c.misfit.ensures ∙ c.in_default.is) ends
     (sym c.in_ok-top.ensures ∙ ap (option_map (λ m. m.now)) c.in-Some-2.is) c.in_ok-flat.flat c.with_names.result c.in_ok-flat.ensures c.with_names.ensures)
+
+pub returns-clause-sound : goal.returns-clause-sound
+returns-clause-sound c = λ sound. flat_answer c.args.modules.now.list sound c.args.last_line c.with_names.result (returns-clause-value c)

@@ -25,8 +25,9 @@ pub returns-in-Ok-lone_module-clause-sound : goal.returns-in-Ok-lone_module-clau
 returns-in-Ok-lone_module-clause-sound c =
     lone_sound c.args.bytes.now c.in-Ok.modules.list c.in-Ok-lone_module.netlist c.in-Ok.ensures.value c.in-Ok-lone_module.ensures.ok c.in-Ok.ensures.sound
 
-pub flatten-requires : goal.flatten-requires
-flatten-requires c = subst (λ (m : Modules). All IsSoundModule m.list) (sym c.in-Err.ensures.err.0) c.in-Ok.ensures.sound
+pub returns-in-Ok-flatten-clause-sound : goal.returns-in-Ok-flatten-clause-sound
+returns-in-Ok-flatten-clause-sound c =
+    c.in-Ok-flatten.ensures.sound (subst (λ (m : Modules). All IsSoundModule m.list) (sym c.in-Err.ensures.err.0) c.in-Ok.ensures.sound)
 
 pub returns-in-Err-Refused-flatten-clause-stop : goal.returns-in-Err-Refused-flatten-clause-stop
 returns-in-Err-Refused-flatten-clause-stop c =

@@ -1,15 +1,10 @@
-use Rattle.std.proofs.Common.{◌∷◌, [], codes}
-use Rattle.std.proofs.lemmas.Result.{on_err_weaker, err_from_is_err_and}
-use Rattle.xtalk_top.proofs.Pieces.{begins, goes_on, name_pieces}
+use Rattle.std.proofs.Common.{[], ◌∷◌, codes, subst}
+use Rattle.command_line.specs.Words.{Text}
+use Rattle.xtalk_top.specs.Call.{WritesLine}
+use Rattle.xtalk_top.proofs.Pieces.{name_pieces}
 use Rattle.xtalk_top.proofs.refuse.write_one_name.Goals as goal
 
-pub returns-in_err-write_three-clause-err : goal.returns-in_err-write_three-clause-err
-returns-in_err-write_three-clause-err g c =
-    let pieces = name_pieces (codes "link: ") c.args.code.now (codes " ") c.args.name.now (10 ∷ []) in
-    let failed = err_from_is_err_and c.from_residual.result c.from_residual.ensures.1 in
-    rw failed.1 (begins _ _ _ _ _ pieces c.in_err-write_three.ensures.err)
-
-pub returns-clause-err : goal.returns-clause-err
-returns-clause-err g c =
-    let pieces = name_pieces (codes "link: ") c.args.code.now (codes " ") c.args.name.now (10 ∷ []) in
-    on_err_weaker c.write_two.result (goes_on _ _ _ _ _ _ pieces c.in_ok-write_three.ensures.ok) c.write_two.ensures.err
+pub returns : goal.returns
+returns g c =
+    let Line : Text → Type 0 = WritesLine (g.E.Sink.written c.args.err.now) (g.E.Sink.written c.write_pieces.new.err) (g.E.Sink.faults c.args.err.now) (g.E.Sink.faults c.write_pieces.new.err) in
+    subst Line (name_pieces (codes "link: ") c.args.code.now (codes " ") c.args.name.now (10 ∷ [])) c.write_pieces.ensures

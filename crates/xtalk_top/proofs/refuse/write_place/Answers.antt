@@ -1,17 +1,12 @@
-use Rattle.std.proofs.Common.{◌∙◌, refl, ◌∷◌, [], codes}
-use Rattle.std.proofs.lemmas.Result.{on_err_weaker, err_from_is_err_and}
+use Rattle.std.proofs.Common.{[], ◌∷◌, ◌∙◌, codes, refl, subst}
 use Rattle.std.specs.Fmt.{decimal}
-use Rattle.xt_model.specs.Codes.{code_text}
-use Rattle.xtalk_top.proofs.Pieces.{begins, goes_on, place_pieces}
+use Rattle.command_line.specs.Words.{Text}
+use Rattle.xtalk_top.specs.Call.{WritesLine}
+use Rattle.xtalk_top.proofs.Pieces.{place_pieces}
 use Rattle.xtalk_top.proofs.refuse.write_place.Goals as goal
 
-pub returns-in_err-write_three-clause-err : goal.returns-in_err-write_three-clause-err
-returns-in_err-write_three-clause-err g c =
-    let pieces = place_pieces _ (codes ":") _ (codes ": ") _ (10 ∷ []) c.args.file.now (decimal c.args.line) (code_text c.args.code) (c.as_bytes.ensures.value ∙ c.as_str.ensures) (c.as_bytes-2.ensures.value ∙ c.format.ensures.text) refl in
-    let failed = err_from_is_err_and c.from_residual.result c.from_residual.ensures.1 in
-    rw failed.1 (begins _ _ _ _ _ pieces c.in_err-write_three.ensures.err)
-
-pub returns-clause-err : goal.returns-clause-err
-returns-clause-err g c =
-    let pieces = place_pieces _ (codes ":") _ (codes ": ") _ (10 ∷ []) c.args.file.now (decimal c.args.line) (code_text c.args.code) (c.as_bytes.ensures.value ∙ c.as_str.ensures) (c.as_bytes-2.ensures.value ∙ c.format.ensures.text) (c.as_bytes-3.ensures.value ∙ c.text.ensures) in
-    on_err_weaker c.write_three-2.result (goes_on _ _ _ _ _ _ pieces c.in_ok-write_three.ensures.ok) c.write_three-2.ensures.err
+pub returns : goal.returns
+returns g c =
+    let Line : Text → Type 0 = WritesLine (g.E.Sink.written c.args.err.now) (g.E.Sink.written c.write_pieces.new.err) (g.E.Sink.faults c.args.err.now) (g.E.Sink.faults c.write_pieces.new.err) in
+    let pieces = place_pieces c.as_bytes.result.now (codes ":") c.as_bytes-2.result.now (codes ": ") c.args.code.now (10 ∷ []) c.args.file.now (decimal c.args.line) c.args.code.now (c.as_bytes.ensures.value ∙ c.as_str.ensures) (c.as_bytes-2.ensures.value ∙ c.format.ensures.text) refl in
+    subst Line pieces c.write_pieces.ensures

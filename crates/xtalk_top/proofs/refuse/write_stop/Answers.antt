@@ -1,11 +1,10 @@
-use Rattle.std.proofs.Common.{◌∙◌}
+use Rattle.std.proofs.Common.{[], ◌∷◌, ◌∙◌, codes, subst}
+use Rattle.command_line.specs.Words.{Text}
+use Rattle.xtalk_top.specs.Call.{WritesLine}
+use Rattle.xtalk_top.proofs.Pieces.{file_pieces}
 use Rattle.xtalk_top.proofs.refuse.write_stop.Goals as goal
 
-pub returns-in-Unread-clause-ok : goal.returns-in-Unread-clause-ok
-returns-in-Unread-clause-ok g c = rw c.in-Unread.is (rw (c.as_bytes.ensures.value ∙ c.as_str.ensures) at c.write_three.ensures.ok)
-
-pub returns-in-Unread-clause-err : goal.returns-in-Unread-clause-err
-returns-in-Unread-clause-err g c = rw c.in-Unread.is (rw (c.as_bytes.ensures.value ∙ c.as_str.ensures) at c.write_three.ensures.err)
-
-pub returns-in-NoMemory-clause-ok : goal.returns-in-NoMemory-clause-ok
-returns-in-NoMemory-clause-ok g c = rw c.in-NoMemory.is c.write_whole.ensures.ok
+pub returns-in-Unread : goal.returns-in-Unread
+returns-in-Unread g c =
+    let Line : Text → Type 0 = WritesLine (g.E.Sink.written c.args.err.now) (g.E.Sink.written c.write_pieces.new.err) (g.E.Sink.faults c.args.err.now) (g.E.Sink.faults c.write_pieces.new.err) in
+    rw c.in-Unread.is (subst Line (file_pieces (codes "read fault: ") c.as_bytes.result.now (10 ∷ []) _ (c.as_bytes.ensures.value ∙ c.as_str.ensures)) c.write_pieces.ensures)

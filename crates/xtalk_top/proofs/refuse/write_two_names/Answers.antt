@@ -1,15 +1,11 @@
-use Rattle.std.proofs.Common.{refl, ◌∷◌, [], codes}
-use Rattle.std.proofs.lemmas.Result.{on_err_weaker, err_from_is_err_and}
-use Rattle.xtalk_top.proofs.Pieces.{begins, goes_on, names_pieces}
+use Rattle.std.proofs.Common.{[], ◌∷◌, codes, subst}
+use Rattle.command_line.specs.Words.{Text}
+use Rattle.xtalk_top.specs.Call.{WritesLine}
+use Rattle.xtalk_top.proofs.Pieces.{names_pieces}
 use Rattle.xtalk_top.proofs.refuse.write_two_names.Goals as goal
 
-pub returns-in_err-write_three-clause-err : goal.returns-in_err-write_three-clause-err
-returns-in_err-write_three-clause-err g c =
-    let pieces = names_pieces (codes "link: ") c.args.code.now (codes " ") _ (codes " ") _ (10 ∷ []) c.args.first.now c.args.second.now refl refl in
-    let failed = err_from_is_err_and c.from_residual.result c.from_residual.ensures.1 in
-    rw failed.1 (begins _ _ _ _ _ pieces c.in_err-write_three.ensures.err)
-
-pub returns-clause-err : goal.returns-clause-err
-returns-clause-err g c =
-    let pieces = names_pieces (codes "link: ") c.args.code.now (codes " ") _ (codes " ") _ (10 ∷ []) c.args.first.now c.args.second.now c.bytes.ensures.value c.bytes-2.ensures.value in
-    on_err_weaker c.write_four.result (goes_on _ _ _ _ _ _ pieces c.in_ok-write_three.ensures.ok) c.write_four.ensures.err
+pub returns : goal.returns
+returns g c =
+    let Line : Text → Type 0 = WritesLine (g.E.Sink.written c.args.err.now) (g.E.Sink.written c.write_pieces.new.err) (g.E.Sink.faults c.args.err.now) (g.E.Sink.faults c.write_pieces.new.err) in
+    let pieces = names_pieces (codes "link: ") c.args.code.now (codes " ") c.bytes.result.now (codes " ") c.bytes-2.result.now (10 ∷ []) c.args.first.now c.args.second.now c.bytes.ensures.value c.bytes-2.ensures.value in
+    subst Line pieces c.write_pieces.ensures
