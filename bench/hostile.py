@@ -10,8 +10,10 @@ the greatest memory in bytes and beyond that of an empty run for each byte of te
 the program said. A line with a `!` took more than 20 seconds, or more than 12 bytes of memory for a byte of text and
 64 MB. The last line counts these.
 """
+import itertools
 import os
 import resource
+import string
 import subprocess
 import sys
 import tempfile
@@ -135,6 +137,13 @@ def wide_ports_passed_on(size):
     inner = "module n (a); input [200000:0] a; BUF b (.A(a[7])); endmodule\n"
     instances = many(size, lambda i: f"n u{i} (.a(b));\n")
     return block(net=f"{inner}module top (b); input [1:200001] b; {instances}endmodule\n")
+
+
+def wires_of_short_names(size):
+    """As many nets as a design may have, by names of few bytes in one statement."""
+    first, more = string.ascii_uppercase, string.ascii_uppercase + string.digits
+    words = ("".join(word) for length in range(4) for word in itertools.product(first, *[more] * length))
+    return block(net=f"module m; wire {','.join(itertools.islice(words, min(size // 4, 262142)))}; endmodule\n")
 
 
 def many_pins(size):
@@ -291,7 +300,7 @@ def long_names(size):
 
 TEXTS = [
     bus_named_often, two_buses_in_turn, all_inputs_often, bits_one_by_one, commands_for_bits, clock_among_its_bus, many_ports,
-    long_cell_name, wide_buses, many_wires, many_pins, one_long_comment,
+    long_cell_name, wide_buses, many_wires, wires_of_short_names, many_pins, one_long_comment,
     modules_that_double, modules_in_modules, modules_in_a_circle, names_along_a_path, modules_beside_modules,
     wide_ports_passed_on,
     long_mapped_name, long_mapped_couplings, one_name_in_two_ways, many_mapped_names, many_nodes, slashes_and_quotes,
