@@ -200,8 +200,7 @@ impl<'a> Index<'a> {
         requires { rest.links.now ≡ links_of self.now rest.instances.now }
         ensures cells { result.0.now
             ≡ take (cells_before self.entry.now rest.entry.instances.now) rest.entry.instances.now }
-        ensures next {
-            let left = drop (cells_before self.entry.now rest.entry.instances.now) rest.entry.instances.now in
+        ensures next { let all = rest.entry.instances.now in let left = drop (cells_before self.entry.now all) all in
             MatchOption result.1 (left ≡ []) (IsNext self.entry.now left) }
     {
         let count = cells_in(rest.links);
