@@ -66,7 +66,7 @@ pub fn names_of_group(
         line,
         code: Code::L1,
     };
-    let mut names = Vec::new(alloc);
+    let mut names = Vec::with_capacity(alloc, args.len())?;
     let mut rest = args;
     'names: while let Some((arg, more)) = rest.split_first() {
         let name = content(alloc, bytes, *arg)?;

@@ -85,7 +85,19 @@ fn add_pins(
     Ok(())
 }
 
-/// The pins of a cell, in the order of the text, after the tables so far.
+/// How many names the pin groups of a cell have.
+fn names_in(bytes: &[u8], group: &Group) -> usize {
+    let mut count = 0_usize;
+    let mut rest = group.inner();
+    'pins: while let Some((inner, more)) = first_named(bytes, b"pin", rest) {
+        count = count.saturating_add(inner.args().len());
+        rest = more;
+    }
+    count
+}
+
+/// The pins of a cell, in the order of the text, after the tables so far. There is room for all of them from the
+/// start, so that nothing is given back in between that no later list fits in.
 #[tactic(auto, unfolding(crate::specs::Cells::pins_of))]
 pub fn pins_of(
     alloc: Global,
@@ -96,7 +108,7 @@ pub fn pins_of(
     ensures { Gives (λ pins. (tables.new.items, pins)) result
         (pins_of text.now.bytes.now text.now.scales text.now.templates.now (tree_of group.now) tables.old.items) }
 {
-    let mut pins = Vec::new(alloc);
+    let mut pins = Vec::with_capacity(alloc, names_in(text.bytes, group))?;
     let mut firsts = Vec::new(alloc);
     let mut rest = group.inner();
     'pins: while let Some((inner, more)) = first_named(text.bytes, b"pin", rest) {
