@@ -16,6 +16,7 @@ use Rattle.verilog_net.specs.declared.netlist.Netlist.{Netlist}
 use Rattle.verilog_net.specs.declared.netlist.Wire.{Wire}
 use Rattle.verilog_net.specs.declared.netlist.Wire.TheVariants as wires
 use Rattle.verilog_net.specs.Nets.{Nets}
+use Rattle.verilog_net.specs.Sound.{IsSoundInstance}
 use Rattle.hier_flatten.specs.Places.{place_in, bit_at}
 use Rattle.hier_flatten.specs.Fits.{range_at, cell_pin_fits, pins_fit, instance_fits, misfit_from, misfit}
 use Rattle.hier_flatten.specs.Hierarchy.{Hierarchy, ends, cell, IsHierarchy, HasHierarchy, IsFinite, module_of, is_instanced, top_of}
@@ -25,7 +26,7 @@ use Rattle.hier_flatten.specs.Meaning.{FlatMeans}
 use Rattle.hier_flatten.proofs.MeaningLaws.{built_means}
 use Rattle.verilog_net.proofs.OwnNames.{Shape, shapes, AreNamedApart, named_apart}
 use Rattle.text_forms.proofs.NameLaws.{short_name}
-use Rattle.verilog_net.proofs.FineStates.{IsFineInstance, IsFineModule}
+use Rattle.verilog_net.proofs.FineStates.{IsFineModule}
 use Rattle.flat_laws.proofs.Known.{IsBitOf, IsConnected, AreConnected, HaveConnected, IsClosed}
 use Rattle.flat_laws.proofs.ScalarNames.{scalars_free}
 
@@ -204,9 +205,9 @@ short_nets : (nets : Nets) → AllByRecursion (λ s. is_name s.0 ≡ true) (shap
 short_nets [] h = refl
 short_nets (net ∷ nets) h = or_from (is_long net.0) (list_any (λ n. is_long n.0) nets) (long_not net.0 (short_name net.0 h.0).short) (short_nets nets h.1)
 
-short_instances : (is : List Instance) → AllByRecursion IsFineInstance is → list_any (λ i. is_long i.name) is ≡ false
+short_instances : (is : List Instance) → AllByRecursion IsSoundInstance is → list_any (λ i. is_long i.name) is ≡ false
 short_instances [] h = refl
-short_instances (i ∷ is) h = or_from (is_long i.name) (list_any (λ j. is_long j.name) is) (long_not i.name (short_name i.name h.0.name).short) (short_instances is h.1)
+short_instances (i ∷ is) h = or_from (is_long i.name) (list_any (λ j. is_long j.name) is) (long_not i.name h.0.name.short) (short_instances is h.1)
 
 module _ (m : Netlist) (fine : IsFineModule m) (closed : IsClosed m) where
   equal_not : has_equal_names m.nets m.instances ≡ false

@@ -4,11 +4,13 @@ use Rattle.std.specs.Prelude.{Option, Some, None, Result, Ok, Err, if◌then◌e
 use Rattle.std.specs.List.{AllByRecursion}
 use Rattle.std.proofs.Common.{arith, subst}
 use Rattle.std.proofs.lemmas.Bool.{leb-true}
+use Rattle.std.proofs.lemmas.List.Elements.{All-from_recursion}
 use Rattle.name_numbers.specs.Names.{Text, found}
 use Rattle.xt_model.specs.declared.code.Code.{Code}
 use Rattle.xt_model.specs.declared.code.Code.TheVariants.{V3, V4}
-use Rattle.text_forms.specs.Names.{is_name}
-use Rattle.text_forms.proofs.Bytes.{each_push}
+use Rattle.text_forms.specs.Names.{is_name, IsShortName}
+use Rattle.text_forms.proofs.Bytes.{each_push, each-weaker}
+use Rattle.text_forms.proofs.NameLaws.{short_name}
 use Rattle.text_forms.proofs.Kept.{kept, kept_if, kept_unless}
 use Rattle.verilog_net.specs.declared.netlist.Net.{Net}
 use Rattle.verilog_net.specs.declared.netlist.Netlist.{Netlist}
@@ -21,28 +23,23 @@ use Rattle.verilog_net.specs.Nets.{Nets, NetBit, most_bit, value_after, number_o
 use Rattle.verilog_net.specs.Meaning.{State, nothing, begin_module, name_module, netlist_of, end_module, with_further, declare_again, declare_new}
 use Rattle.verilog_net.specs.Meaning.{declare_as, declare, left_as, left_bound, right_as, right_bound, begin_further, begin_pin, connect}
 use Rattle.verilog_net.specs.Meaning.{connect_new, connect_found, connect_as, connect_name, connect_within, connect_bit_as, connect_bit, instance_of, end_instance}
+use Rattle.verilog_net.specs.Sound.{IsSoundInstance}
 use Rattle.verilog_net.proofs.OwnNames.{shapes, IsBounded, AreFine, none_fine, further_fine, again_fine}
 
 abbrev pub IsNamed : Text → Type 0
 IsNamed name = is_name name ≡ true
 
--- an instance whose cell, name and pins have names
-pub record IsFineInstance (i : Instance) : Type 0 where
-  pub cell : IsNamed i.cell
-  pub name : IsNamed i.name
-  pub pins : AllByRecursion (λ p. IsNamed p.0) i.pins
-
--- a module whose bits have names of their own, and whose instances have names
+-- a module whose bits have names of their own, and whose instances are sound
 pub record IsFineModule (m : Netlist) : Type 0 where
   pub nets : (named : BitNets) × AreFine (shapes m.nets) named
-  pub instances : AllByRecursion IsFineInstance m.instances
+  pub instances : AllByRecursion IsSoundInstance m.instances
 
 -- by the parts of a state that count, so that it is the same where others change
 pub record AreFineParts (done : List Netlist) (known : Nets) (named : BitNets) (placed : List Instance) (bound : ℕ)
     (bounds : Option (ℕ × ℕ)) (given : List (Text × Wire)) : Type 0 where
   pub ended : AllByRecursion IsFineModule done
   pub nets : AreFine (shapes known) named
-  pub instances : AllByRecursion IsFineInstance placed
+  pub instances : AllByRecursion IsSoundInstance placed
   pub left : bound ≤ most_bit
   pub range : IsBounded bounds
   pub pins : AllByRecursion (λ p. IsNamed p.0) given
@@ -50,7 +47,7 @@ pub record AreFineParts (done : List Netlist) (known : Nets) (named : BitNets) (
 -- what is true of each part is true of all
 fine_of : {done : List Netlist} {known : Nets} {named : BitNets} {placed : List Instance} {bound : ℕ}
     {bounds : Option (ℕ × ℕ)} {given : List (Text × Wire)}
-    → AllByRecursion IsFineModule done → AreFine (shapes known) named → AllByRecursion IsFineInstance placed → bound ≤ most_bit
+    → AllByRecursion IsFineModule done → AreFine (shapes known) named → AllByRecursion IsSoundInstance placed → bound ≤ most_bit
     → IsBounded bounds → AllByRecursion (λ p. IsNamed p.0) given → AreFineParts done known named placed bound bounds given
 fine_of ended nets instances left range pins =
     record { ended = ended; nets = nets; instances = instances; left = left; range = range; pins = pins }
@@ -236,6 +233,10 @@ module _ (s : State) (h : IsFine s) (s' : State) where
 
   pub end_instance_fine : IsInInstance s → ◌≡◌ {A = Result State Code} (Ok (end_instance s)) (Ok s') → Instanced s'
   end_instance_fine i e =
-      let whole : IsFineInstance (instance_of s) = record { cell = i.0; name = i.1; pins = h.pins } in
-      let instances = each_push IsFineInstance s.instances (instance_of s) h.instances whole in
+      let whole : IsSoundInstance (instance_of s) = record {
+        cell = short_name s.cell i.0;
+        name = short_name s.instance i.1;
+        pins = All-from_recursion (λ p. IsShortName p.0) s.pins (each-weaker (λ p. IsNamed p.0) (λ p. IsShortName p.0) (λ p n. short_name p.0 n) s.pins h.pins);
+      } in
+      let instances = each_push IsSoundInstance s.instances (instance_of s) h.instances whole in
       kept Instanced e (fine_of h.ended h.nets instances h.left h.range tt, i)

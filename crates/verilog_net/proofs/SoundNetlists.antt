@@ -8,7 +8,6 @@ use Rattle.std.proofs.lemmas.List.Elements.{All-from_recursion}
 use Rattle.name_numbers.specs.Names.{Text}
 use Rattle.verilog_net.specs.declared.netlist.Netlist.{Netlist}
 use Rattle.verilog_net.specs.Reading.{text_state, modules_in}
-use Rattle.verilog_net.specs.declared.netlist.Instance.{Instance}
 use Rattle.verilog_net.specs.declared.netlist.PortRole.{PortRole}
 use Rattle.text_forms.specs.Names.{is_name, IsShortName}
 use Rattle.verilog_net.specs.Nets.{Nets, most_bit, has_bit}
@@ -19,7 +18,7 @@ use Rattle.text_forms.proofs.NameLaws.{short_name}
 use Rattle.verilog_net.proofs.BitNames.{tail, same_number, same_bus}
 use Rattle.verilog_net.proofs.OwnNames.{Shape, shape, shapes, IsDistinct, AreDistinct, clear_distinct, IsBounded, bit_bounded}
 use Rattle.verilog_net.proofs.FineTexts.{modules_fine}
-use Rattle.verilog_net.proofs.FineStates.{IsNamed, IsFineInstance, IsFineModule}
+use Rattle.verilog_net.proofs.FineStates.{IsFineModule}
 
 -- ---- the numbers of a bus's bits
 abbrev AreApart : List ℕ → Type 0
@@ -173,13 +172,6 @@ net_names : (nets : Nets) → AllByRecursion (λ s. is_name s.0 ≡ true) (shape
 net_names [] h = tt
 net_names (e ∷ more) h = (short_name e.0 h.0, net_names more h.1)
 
-instance_sound : (i : Instance) → IsFineInstance i → IsSoundInstance i
-instance_sound i h = record {
-  cell = short_name i.cell h.cell;
-  name = short_name i.name h.name;
-  pins = All-from_recursion (λ p. IsShortName p.0) i.pins (each-weaker (λ p. IsNamed p.0) (λ p. IsShortName p.0) (λ p n. short_name p.0 n) i.pins h.pins);
-}
-
 pub own_names : (m : Netlist) → AreDistinct (shapes m.nets) → AllByRecursion (λ t. IsBounded t.1) (shapes m.nets) → HaveOwnNames m
 unfolding bits
 own_names m c b = record { differ = λ i j x y lt at bt. differ_at (bits_from 0 m.nets) i j x y (all_differ 0 m.nets c b) lt at bt }
@@ -188,7 +180,7 @@ pub netlist_sound : (m : Netlist) → IsFineModule m → IsSoundNetlist m
 netlist_sound m h = record {
   nets = All-from_recursion (λ e. IsShortName e.0) m.nets (net_names m.nets h.nets.1.names);
   own = own_names m (clear_distinct (shapes m.nets) h.nets.1.clear) h.nets.1.bounded;
-  instances = All-from_recursion IsSoundInstance m.instances (each-weaker IsFineInstance IsSoundInstance instance_sound m.instances h.instances);
+  instances = All-from_recursion IsSoundInstance m.instances h.instances;
 }
 
 -- ---- modules of a text
@@ -204,7 +196,7 @@ pub module_sound : (m : Netlist) → IsFineModule m → IsSoundModule m
 module_sound m h = record {
   nets = All-from_recursion (λ e. IsShortName e.0) m.nets (net_names m.nets h.nets.1.names);
   ranges = All-from_recursion (λ e. IfSome e.1.range (λ r. (r.0 ≤ most_bit) × (r.1 ≤ most_bit))) m.nets (net_ranges m.nets h.nets.1.bounded);
-  instances = All-from_recursion IsSoundInstance m.instances (each-weaker IsFineInstance IsSoundInstance instance_sound m.instances h.instances);
+  instances = All-from_recursion IsSoundInstance m.instances h.instances;
 }
 
 -- ---- the modules of a text
