@@ -1,6 +1,6 @@
-//! One form of a netlist by what may come next.
+//! One form of a netlist from its first token on, by what may come next.
 
-ghost use Rattle.std.specs.Prelude.{◌≡◌, [], ◌∷◌};
+ghost use Rattle.std.specs.Prelude.{◌≡◌, ◌∷◌};
 ghost use Rattle.text_forms.specs.Tokens.{token_of};
 ghost use Rattle.verilog_net.specs.Forms.{role_of, first_form, start_forms, behind_module_forms};
 ghost use Rattle.verilog_net.specs.Forms.{module_name_forms, header_forms, listed_forms, body_forms};
@@ -41,10 +41,9 @@ fn role_of(word: &[u8]) -> PortRole
 }
 
 /// At the start of a text.
-fn at_start<'a>(terms: &mut Terms<'a, Sort>) -> Result<FormRead<'a>, Refused>
-    ensures { Reads (λ r. (whole_of r, terms.new)) result (first_form start_forms terms.old) }
+fn at_start<'a>(first: Term<'a, Sort>, terms: &Terms<'a, Sort>) -> Result<FormRead<'a>, Refused>
+    ensures { Reads (λ r. (whole_of r, terms.now)) result (first_form start_forms (token_of first.entry ∷ terms.now)) }
 {
-    let first = terms.any()?;
     match first.sort {
         Sort::Module => Ok(done(Item::ModuleBegins, first.line, Context::ModuleName)),
         Sort::Unsupported => Ok(done(Item::Refused(Code::V1), first.line, Context::Done)),
@@ -53,10 +52,13 @@ fn at_start<'a>(terms: &mut Terms<'a, Sort>) -> Result<FormRead<'a>, Refused>
 }
 
 /// After `endmodule`.
-fn behind_module<'a>(terms: &mut Terms<'a, Sort>) -> Result<FormRead<'a>, Refused>
-    ensures { Reads (λ r. (whole_of r, terms.new)) result (first_form behind_module_forms terms.old) }
+fn behind_module<'a>(
+    first: Term<'a, Sort>,
+    terms: &Terms<'a, Sort>,
+) -> Result<FormRead<'a>, Refused>
+    ensures { Reads (λ r. (whole_of r, terms.now)) result
+        (first_form behind_module_forms (token_of first.entry ∷ terms.now)) }
 {
-    let first = terms.any()?;
     match first.sort {
         Sort::Module => Ok(done(Item::ModuleBegins, first.line, Context::ModuleName)),
         Sort::End => Ok(done(Item::Nothing, first.line, Context::Done)),
@@ -66,11 +68,14 @@ fn behind_module<'a>(terms: &mut Terms<'a, Sort>) -> Result<FormRead<'a>, Refuse
 }
 
 /// The name of a module.
-fn module_name<'a>(terms: &mut Terms<'a, Sort>) -> Result<FormRead<'a>, Refused>
-    ensures { Reads (λ r. (whole_of r, terms.new)) result (first_form module_name_forms terms.old) }
+fn module_name<'a>(name: Term<'a, Sort>, terms: &Terms<'a, Sort>) -> Result<FormRead<'a>, Refused>
+    ensures { Reads (λ r. (whole_of r, terms.now)) result
+        (first_form module_name_forms (token_of name.entry ∷ terms.now)) }
 {
-    let name = terms.expect(Sort::Name)?;
-    Ok(done(Item::ModuleName(name.text), name.line, Context::Header))
+    match name.sort {
+        Sort::Name => Ok(done(Item::ModuleName(name.text), name.line, Context::Header)),
+        _ => Err(name.refused()),
+    }
 }
 
 /// A name of the header, after the `(` or the `,` before it.
@@ -106,10 +111,9 @@ fn header_end<'a>(
 }
 
 /// After the name of a module.
-fn header<'a>(terms: &mut Terms<'a, Sort>) -> Result<FormRead<'a>, Refused>
-    ensures { Reads (λ r. (whole_of r, terms.new)) result (first_form header_forms terms.old) }
+fn header<'a>(first: Term<'a, Sort>, terms: &mut Terms<'a, Sort>) -> Result<FormRead<'a>, Refused>
+    ensures { Reads (λ r. (whole_of r, terms.new)) result (first_form header_forms (token_of first.entry ∷ terms.old)) }
 {
-    let first = terms.any()?;
     match first.sort {
         Sort::Semicolon => Ok(done(Item::Nothing, first.line, Context::Body)),
         Sort::LeftParen => header_name(first, terms),
@@ -119,10 +123,9 @@ fn header<'a>(terms: &mut Terms<'a, Sort>) -> Result<FormRead<'a>, Refused>
 }
 
 /// After a name of the header.
-fn listed<'a>(terms: &mut Terms<'a, Sort>) -> Result<FormRead<'a>, Refused>
-    ensures { Reads (λ r. (whole_of r, terms.new)) result (first_form listed_forms terms.old) }
+fn listed<'a>(first: Term<'a, Sort>, terms: &mut Terms<'a, Sort>) -> Result<FormRead<'a>, Refused>
+    ensures { Reads (λ r. (whole_of r, terms.new)) result (first_form listed_forms (token_of first.entry ∷ terms.old)) }
 {
-    let first = terms.any()?;
     match first.sort {
         Sort::Comma => header_name(first, terms),
         Sort::RightParen => header_end(first, terms),
@@ -132,10 +135,9 @@ fn listed<'a>(terms: &mut Terms<'a, Sort>) -> Result<FormRead<'a>, Refused>
 }
 
 /// A statement, or the end of the module.
-fn in_body<'a>(terms: &mut Terms<'a, Sort>) -> Result<FormRead<'a>, Refused>
-    ensures { Reads (λ r. (whole_of r, terms.new)) result (first_form body_forms terms.old) }
+fn in_body<'a>(first: Term<'a, Sort>, terms: &mut Terms<'a, Sort>) -> Result<FormRead<'a>, Refused>
+    ensures { Reads (λ r. (whole_of r, terms.new)) result (first_form body_forms (token_of first.entry ∷ terms.old)) }
 {
-    let first = terms.any()?;
     match first.sort {
         Sort::Direction | Sort::NetType => {
             let role = role_of(first.text);
@@ -168,28 +170,44 @@ fn in_body<'a>(terms: &mut Terms<'a, Sort>) -> Result<FormRead<'a>, Refused>
 }
 
 /// After the left bound of a range.
-fn left_bound<'a>(terms: &mut Terms<'a, Sort>) -> Result<FormRead<'a>, Refused>
-    ensures { Reads (λ r. (whole_of r, terms.new)) result (first_form left_bound_forms terms.old) }
+fn left_bound<'a>(
+    first: Term<'a, Sort>,
+    terms: &mut Terms<'a, Sort>,
+) -> Result<FormRead<'a>, Refused>
+    ensures { Reads (λ r. (whole_of r, terms.new)) result
+        (first_form left_bound_forms (token_of first.entry ∷ terms.old)) }
 {
-    terms.expect(Sort::Colon)?;
-    let number = terms.expect(Sort::Number)?;
-    Ok(done(Item::Right(number.text), number.line, Context::RightBound))
+    match first.sort {
+        Sort::Colon => {
+            let number = terms.expect(Sort::Number)?;
+            Ok(done(Item::Right(number.text), number.line, Context::RightBound))
+        }
+        _ => Err(first.refused()),
+    }
 }
 
 /// After the right bound of a range.
-fn right_bound<'a>(terms: &mut Terms<'a, Sort>) -> Result<FormRead<'a>, Refused>
-    ensures { Reads (λ r. (whole_of r, terms.new)) result (first_form right_bound_forms terms.old) }
+fn right_bound<'a>(
+    first: Term<'a, Sort>,
+    terms: &mut Terms<'a, Sort>,
+) -> Result<FormRead<'a>, Refused>
+    ensures { Reads (λ r. (whole_of r, terms.new)) result
+        (first_form right_bound_forms (token_of first.entry ∷ terms.old)) }
 {
-    terms.expect(Sort::RightBracket)?;
-    let name = terms.expect(Sort::Name)?;
-    Ok(done(Item::Further(name.text), name.line, Context::Declared))
+    match first.sort {
+        Sort::RightBracket => {
+            let name = terms.expect(Sort::Name)?;
+            Ok(done(Item::Further(name.text), name.line, Context::Declared))
+        }
+        _ => Err(first.refused()),
+    }
 }
 
 /// After a declared name.
-fn declared<'a>(terms: &mut Terms<'a, Sort>) -> Result<FormRead<'a>, Refused>
-    ensures { Reads (λ r. (whole_of r, terms.new)) result (first_form declared_forms terms.old) }
+fn declared<'a>(first: Term<'a, Sort>, terms: &mut Terms<'a, Sort>) -> Result<FormRead<'a>, Refused>
+    ensures { Reads (λ r. (whole_of r, terms.new)) result
+        (first_form declared_forms (token_of first.entry ∷ terms.old)) }
 {
-    let first = terms.any()?;
     match first.sort {
         Sort::Comma => {
             let name = terms.expect(Sort::Name)?;
@@ -201,10 +219,10 @@ fn declared<'a>(terms: &mut Terms<'a, Sort>) -> Result<FormRead<'a>, Refused>
 }
 
 /// After the name of an instance.
-fn opening<'a>(terms: &mut Terms<'a, Sort>) -> Result<FormRead<'a>, Refused>
-    ensures { Reads (λ r. (whole_of r, terms.new)) result (first_form opening_forms terms.old) }
+fn opening<'a>(first: Term<'a, Sort>, terms: &Terms<'a, Sort>) -> Result<FormRead<'a>, Refused>
+    ensures { Reads (λ r. (whole_of r, terms.now)) result
+        (first_form opening_forms (token_of first.entry ∷ terms.now)) }
 {
-    let first = terms.any()?;
     match first.sort {
         Sort::LeftParen => Ok(done(Item::Nothing, first.line, Context::Pins)),
         Sort::LeftBracket => Ok(done(Item::Refused(Code::V3), first.line, Context::Done)),
@@ -213,10 +231,9 @@ fn opening<'a>(terms: &mut Terms<'a, Sort>) -> Result<FormRead<'a>, Refused>
 }
 
 /// After the `(` of an instance.
-fn pins<'a>(terms: &mut Terms<'a, Sort>) -> Result<FormRead<'a>, Refused>
-    ensures { Reads (λ r. (whole_of r, terms.new)) result (first_form pins_forms terms.old) }
+fn pins<'a>(first: Term<'a, Sort>, terms: &mut Terms<'a, Sort>) -> Result<FormRead<'a>, Refused>
+    ensures { Reads (λ r. (whole_of r, terms.new)) result (first_form pins_forms (token_of first.entry ∷ terms.old)) }
 {
-    let first = terms.any()?;
     match first.sort {
         Sort::RightParen => Ok(done(Item::InstanceEnds, first.line, Context::Closed)),
         Sort::Dot => {
@@ -231,11 +248,13 @@ fn pins<'a>(terms: &mut Terms<'a, Sort>) -> Result<FormRead<'a>, Refused>
 }
 
 /// After the name of a pin.
-fn pin<'a>(terms: &mut Terms<'a, Sort>) -> Result<FormRead<'a>, Refused>
-    ensures { Reads (λ r. (whole_of r, terms.new)) result (first_form pin_forms terms.old) }
+fn pin<'a>(first: Term<'a, Sort>, terms: &Terms<'a, Sort>) -> Result<FormRead<'a>, Refused>
+    ensures { Reads (λ r. (whole_of r, terms.now)) result (first_form pin_forms (token_of first.entry ∷ terms.now)) }
 {
-    let paren = terms.expect(Sort::LeftParen)?;
-    Ok(done(Item::Nothing, paren.line, Context::Connection))
+    match first.sort {
+        Sort::LeftParen => Ok(done(Item::Nothing, first.line, Context::Connection)),
+        _ => Err(first.refused()),
+    }
 }
 
 /// After the `[` of a bit to which a pin is connected.
@@ -276,10 +295,13 @@ fn net_or_bit<'a>(
 }
 
 /// After the `(` of a pin.
-fn connection<'a>(terms: &mut Terms<'a, Sort>) -> Result<FormRead<'a>, Refused>
-    ensures { Reads (λ r. (whole_of r, terms.new)) result (first_form connection_forms terms.old) }
+fn connection<'a>(
+    first: Term<'a, Sort>,
+    terms: &mut Terms<'a, Sort>,
+) -> Result<FormRead<'a>, Refused>
+    ensures { Reads (λ r. (whole_of r, terms.new)) result
+        (first_form connection_forms (token_of first.entry ∷ terms.old)) }
 {
-    let first = terms.any()?;
     match first.sort {
         Sort::RightParen => Ok(done(Item::NoConnection, first.line, Context::Connected)),
         Sort::Constant => {
@@ -293,11 +315,14 @@ fn connection<'a>(terms: &mut Terms<'a, Sort>) -> Result<FormRead<'a>, Refused>
 }
 
 /// After the `]` of a bit.
-fn bit_given<'a>(terms: &mut Terms<'a, Sort>) -> Result<FormRead<'a>, Refused>
-    ensures { Reads (λ r. (whole_of r, terms.new)) result (first_form bit_given_forms terms.old) }
+fn bit_given<'a>(first: Term<'a, Sort>, terms: &Terms<'a, Sort>) -> Result<FormRead<'a>, Refused>
+    ensures { Reads (λ r. (whole_of r, terms.now)) result
+        (first_form bit_given_forms (token_of first.entry ∷ terms.now)) }
 {
-    let paren = terms.expect(Sort::RightParen)?;
-    Ok(done(Item::Nothing, paren.line, Context::Connected))
+    match first.sort {
+        Sort::RightParen => Ok(done(Item::Nothing, first.line, Context::Connected)),
+        _ => Err(first.refused()),
+    }
 }
 
 /// After the `,` of a pin.
@@ -322,10 +347,13 @@ fn further_pin<'a>(
 }
 
 /// After the `)` of a pin.
-fn connected<'a>(terms: &mut Terms<'a, Sort>) -> Result<FormRead<'a>, Refused>
-    ensures { Reads (λ r. (whole_of r, terms.new)) result (first_form connected_forms terms.old) }
+fn connected<'a>(
+    first: Term<'a, Sort>,
+    terms: &mut Terms<'a, Sort>,
+) -> Result<FormRead<'a>, Refused>
+    ensures { Reads (λ r. (whole_of r, terms.new)) result
+        (first_form connected_forms (token_of first.entry ∷ terms.old)) }
 {
-    let first = terms.any()?;
     match first.sort {
         Sort::RightParen => Ok(done(Item::InstanceEnds, first.line, Context::Closed)),
         Sort::Comma => further_pin(first, terms),
@@ -334,10 +362,9 @@ fn connected<'a>(terms: &mut Terms<'a, Sort>) -> Result<FormRead<'a>, Refused>
 }
 
 /// After the `)` of an instance.
-fn closed<'a>(terms: &mut Terms<'a, Sort>) -> Result<FormRead<'a>, Refused>
-    ensures { Reads (λ r. (whole_of r, terms.new)) result (first_form closed_forms terms.old) }
+fn closed<'a>(first: Term<'a, Sort>, terms: &mut Terms<'a, Sort>) -> Result<FormRead<'a>, Refused>
+    ensures { Reads (λ r. (whole_of r, terms.new)) result (first_form closed_forms (token_of first.entry ∷ terms.old)) }
 {
-    let first = terms.any()?;
     match first.sort {
         Sort::Comma => {
             let name = terms.expect(Sort::Name)?;
@@ -349,35 +376,28 @@ fn closed<'a>(terms: &mut Terms<'a, Sort>) -> Result<FormRead<'a>, Refused>
     }
 }
 
-/// After the end of the text.
-fn at_end<'a>(terms: &mut Terms<'a, Sort>) -> Result<FormRead<'a>, Refused>
-    ensures { Reads (λ r. (whole_of r, terms.new)) result (first_form [] terms.old) }
-{
-    let first = terms.any()?;
-    Err(first.refused())
-}
-
 /// The next form.
 pub fn read_form<'a>(context: Context, terms: &mut Terms<'a, Sort>) -> Result<FormRead<'a>, Refused>
     ensures { Reads (λ r. (whole_of r, terms.new)) result (first_form (forms_in context) terms.old) }
 {
+    let first = terms.any()?;
     match context {
-        Context::Start => at_start(terms),
-        Context::BehindModule => behind_module(terms),
-        Context::ModuleName => module_name(terms),
-        Context::Header => header(terms),
-        Context::Listed => listed(terms),
-        Context::Body => in_body(terms),
-        Context::LeftBound => left_bound(terms),
-        Context::RightBound => right_bound(terms),
-        Context::Declared => declared(terms),
-        Context::Opening => opening(terms),
-        Context::Pins => pins(terms),
-        Context::Pin => pin(terms),
-        Context::Connection => connection(terms),
-        Context::BitGiven => bit_given(terms),
-        Context::Connected => connected(terms),
-        Context::Closed => closed(terms),
-        Context::Done => at_end(terms),
+        Context::Start => at_start(first, &*terms),
+        Context::BehindModule => behind_module(first, &*terms),
+        Context::ModuleName => module_name(first, &*terms),
+        Context::Header => header(first, terms),
+        Context::Listed => listed(first, terms),
+        Context::Body => in_body(first, terms),
+        Context::LeftBound => left_bound(first, terms),
+        Context::RightBound => right_bound(first, terms),
+        Context::Declared => declared(first, terms),
+        Context::Opening => opening(first, &*terms),
+        Context::Pins => pins(first, terms),
+        Context::Pin => pin(first, &*terms),
+        Context::Connection => connection(first, terms),
+        Context::BitGiven => bit_given(first, &*terms),
+        Context::Connected => connected(first, terms),
+        Context::Closed => closed(first, terms),
+        Context::Done => Err(first.refused()),
     }
 }
