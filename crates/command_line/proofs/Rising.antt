@@ -9,10 +9,11 @@ use Rattle.report_kind.specs.Kind.{kind_of}
 use Rattle.report_kind.specs.declared.kind.ReportKind.TheVariants.{All}
 use Rattle.command_line.specs.Grammar.{Text}
 use Rattle.command_line.specs.declared.values.Engine.TheVariants.{Rounds}
-use Rattle.command_line.specs.Values.{engine, if_said, miller_numbers, net_count, number_of, said_or, three_of, worker_count}
-use Rattle.command_line.specs.Words.{block_files, job_for, job_of, solve_options}
+use Rattle.command_line.specs.Values.{engine, if_said, miller_numbers, number_of, said_or, three_of, worker_count}
+use Rattle.command_line.specs.Words.{block_files, gen_job, job_for, job_of, replay_options, solve_options}
 use Rattle.command_line.specs.declared.words.CommandName.{CommandName}
 use Rattle.command_line.specs.declared.words.CommandName.TheVariants as command
+use Rattle.command_line.specs.declared.words.GenJob.{GenJob}
 use Rattle.command_line.specs.declared.words.Job.{Job}
 use Rattle.command_line.specs.declared.words.SolveOptions.{SolveOptions}
 use Rattle.command_line.specs.declared.words.Job.TheVariants.{Eco, Gen, Link, Replay, Report, Solve}
@@ -58,21 +59,32 @@ options_rise get =
     if_both AreMiller AreRising (if_said miller_numbers (get (codes "miller"))) _ (said_rises (get (codes "miller"))) (λ miller rise.
     if_second AreRising (said_or Rounds engine (get (codes "engine"))) _ (λ chosen. rise))))
 
+abbrev IsRising : ℕ × ℕ × Option MillerNumbers → Type 0
+IsRising o = AreMiller o.2
+
+replay_rises : (get : Text → Option Text) → IfSome (replay_options get) IsRising
+replay_rises get =
+    if_second IsRising (get (codes "order") >>= number_of 64) _ (λ order. if_second IsRising (get (codes "workers") >>= worker_count) _ (λ workers.
+    if_both AreMiller IsRising (if_said miller_numbers (get (codes "miller"))) _ (said_rises (get (codes "miller"))) (λ miller rise. rise)))
+
+-- a job to generate a design has none
+no_miller : (o : Option GenJob) → IfSome (option_map Gen o) HasRising
+no_miller None = tt
+no_miller (Some job) = tt
+
 job_rise : (name : CommandName) (get : Text → Option Text) → IfSome (job_for name get) HasRising
 job_rise command.Report get =
-    if_second HasRising (block_files get) _ (λ files. if_both AreRising HasRising (solve_options get) _ (options_rise get) (λ o rise. rise))
+    if_both AreRising HasRising (solve_options get) _ (options_rise get) (λ o rise. if_second HasRising (block_files get) _ (λ files. rise))
 job_rise command.Link get =
-    if_second HasRising (block_files get) _ (λ files. if_both AreMiller HasRising (if_said miller_numbers (get (codes "miller"))) _ (said_rises (get (codes "miller"))) (λ miller rise. rise))
+    if_both AreMiller HasRising (if_said miller_numbers (get (codes "miller"))) _ (said_rises (get (codes "miller"))) (λ miller rise. if_second HasRising (block_files get) _ (λ files. rise))
 job_rise command.Solve get =
-    if_second HasRising (get (codes "file")) _ (λ file. if_both AreRising HasRising (solve_options get) _ (options_rise get) (λ o rise. rise))
+    if_both AreRising HasRising (solve_options get) _ (options_rise get) (λ o rise. if_second HasRising (get (codes "file")) _ (λ file. rise))
 job_rise command.Replay get =
-    if_second HasRising (get (codes "file")) _ (λ file. if_second HasRising (get (codes "order") >>= number_of 64) _ (λ order. if_second HasRising (get (codes "workers") >>= worker_count) _ (λ workers.
-    if_both AreMiller HasRising (if_said miller_numbers (get (codes "miller"))) _ (said_rises (get (codes "miller"))) (λ miller rise. rise))))
+    if_both IsRising HasRising (replay_options get) _ (replay_rises get) (λ o rise. if_second HasRising (get (codes "file")) _ (λ file. rise))
 job_rise command.Eco get =
-    if_second HasRising (get (codes "file")) _ (λ file. if_second HasRising (get (codes "edits")) _ (λ edits. if_second HasRising (said_or 1 worker_count (get (codes "workers"))) _ (λ workers.
-    if_both AreMiller HasRising (if_said miller_numbers (get (codes "miller"))) _ (said_rises (get (codes "miller"))) (λ miller rise. rise))))
-job_rise command.Gen get =
-    if_second HasRising (get (codes "number") >>= number_of 64) _ (λ number. if_second HasRising (get (codes "nets") >>= net_count) _ (λ nets. if_second HasRising (said_or 1 worker_count (get (codes "workers"))) _ (λ workers. tt)))
+    if_second HasRising (said_or 1 worker_count (get (codes "workers"))) _ (λ workers. if_both AreMiller HasRising (if_said miller_numbers (get (codes "miller"))) _ (said_rises (get (codes "miller"))) (λ miller rise.
+    if_second HasRising (get (codes "file")) _ (λ file. if_second HasRising (get (codes "edits")) _ (λ edits. rise))))
+job_rise command.Gen get = no_miller (gen_job get)
 
 pub job_rises : (words : List Text) → IfSome (job_of words) HasRising
 job_rises words = of_words HasRising job_rise words

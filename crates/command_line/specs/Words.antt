@@ -1,7 +1,9 @@
 -- The commands, what may follow the word of each, and the job that the words ask for.
-use Rattle.std.specs.Prelude.{ℕ, ◌≤◌, if◌then◌else◌, List, [], ◌∷◌, codes, Option, Some, None}
+use Rattle.std.specs.Prelude.{ℕ, ◌≡◌, ◌≤◌, if◌then◌else◌, List, [], ◌∷◌, codes}
+use Rattle.std.specs.Prelude.{Option, Some, None, option_map, Result, Ok, Err}
 use Rattle.std.specs.Str.{bytes_eq}
 use Rattle.xt_model.specs.Limits.{most_generated, most_workers}
+use Rattle.xt_model.specs.Miller.{MillerNumbers}
 use Rattle.xt_model.specs.Options.{◌>>=◌}
 use Rattle.report_kind.specs.Kind.{kind_of}
 use Rattle.report_kind.specs.declared.kind.ReportKind.TheVariants.{All}
@@ -12,7 +14,10 @@ use Rattle.command_line.specs.declared.values.Engine.TheVariants.{Rounds}
 use Rattle.command_line.specs.Values.{engine, if_said, miller_numbers, net_count, number_of, said_or, worker_count}
 use Rattle.command_line.specs.declared.words.CommandName.{CommandName}
 use Rattle.command_line.specs.declared.words.CommandName.TheVariants as command
+use Rattle.command_line.specs.declared.grammar.WordsFault.{WordsFault}
+use Rattle.command_line.specs.declared.grammar.WordsFault.TheVariants.{Bad, NoMemory}
 use Rattle.command_line.specs.declared.words.BlockFiles.{BlockFiles}
+use Rattle.command_line.specs.declared.words.GenJob.{GenJob}
 use Rattle.command_line.specs.declared.words.SolveOptions.{SolveOptions}
 use Rattle.command_line.specs.declared.words.Job.{Job}
 use Rattle.command_line.specs.declared.words.Job.TheVariants.{Report, Solve, Replay, Eco, Link, Gen}
@@ -102,51 +107,57 @@ solve_options given = do
 -- four files to link and to solve; the design's own Miller numbers are the classical ones
 abbrev pub report_job : (Text → Option Text) → Option Job
 report_job given = do
-  files ← block_files given
   o ← solve_options given
+  files ← block_files given
   Some (Report (record { files = files; workers = o.workers; kind = o.kind; miller = o.miller; engine = o.engine }))
 
 -- four files to link, by the classical Miller numbers unless the words say otherwise
 abbrev pub link_job : (Text → Option Text) → Option Job
 link_job given = do
-  files ← block_files given
   miller ← if_said miller_numbers (given (codes "miller"))
+  files ← block_files given
   Some (Link (record { files = files; miller = miller }))
 
 -- a linked text to solve
 abbrev pub solve_job : (Text → Option Text) → Option Job
 solve_job given = do
-  file ← given (codes "file")
   o ← solve_options given
+  file ← given (codes "file")
   Some (Solve (record { file = file; workers = o.workers; kind = o.kind; miller = o.miller; engine = o.engine }))
+
+-- the number of an order, how many workers, and Miller numbers in place of the text's own where the words say any
+abbrev pub replay_options : (Text → Option Text) → Option (ℕ × ℕ × Option MillerNumbers)
+replay_options given = do
+  order ← given (codes "order") >>= number_of 64
+  workers ← given (codes "workers") >>= worker_count
+  miller ← if_said miller_numbers (given (codes "miller"))
+  Some (order, workers, miller)
 
 -- a linked text to solve by `workers` workers in the order of a number, with its own Miller numbers unless the words
 -- say otherwise
 abbrev pub replay_job : (Text → Option Text) → Option Job
 replay_job given = do
+  o ← replay_options given
   file ← given (codes "file")
-  order ← given (codes "order") >>= number_of 64
-  workers ← given (codes "workers") >>= worker_count
-  miller ← if_said miller_numbers (given (codes "miller"))
-  Some (Replay (record { file = file; order = order; workers = workers; miller = miller }))
+  Some (Replay (record { file = file; order = o.0; workers = o.1; miller = o.2 }))
 
 -- a linked text and a text of edits, by one worker and with the text's own Miller numbers unless the words say
 -- otherwise
 abbrev pub eco_job : (Text → Option Text) → Option Job
 eco_job given = do
-  file ← given (codes "file")
-  edits ← given (codes "edits")
   workers ← said_or 1 worker_count (given (codes "workers"))
   miller ← if_said miller_numbers (given (codes "miller"))
+  file ← given (codes "file")
+  edits ← given (codes "edits")
   Some (Eco (record { file = file; edits = edits; workers = workers; miller = miller }))
 
 -- a design to generate and to solve, by one worker unless the words say otherwise
-abbrev pub gen_job : (Text → Option Text) → Option Job
+abbrev pub gen_job : (Text → Option Text) → Option GenJob
 gen_job given = do
   number ← given (codes "number") >>= number_of 64
   nets ← given (codes "nets") >>= net_count
   workers ← said_or 1 worker_count (given (codes "workers"))
-  Some (Gen (record { number = number; nets = nets; workers = workers }))
+  Some (record { number = number; nets = nets; workers = workers })
 
 abbrev pub job_for : CommandName → (Text → Option Text) → Option Job
 job_for command.Report given = report_job given
@@ -154,7 +165,13 @@ job_for command.Solve given = solve_job given
 job_for command.Replay given = replay_job given
 job_for command.Eco given = eco_job given
 job_for command.Link given = link_job given
-job_for command.Gen given = gen_job given
+job_for command.Gen given = option_map Gen (gen_job given)
+
+-- reading gives what the words say, and `Bad` where they say nothing; or there was no memory
+abbrev pub Reads : {T : Type 0} → Option T → Result T WordsFault → Type 0
+Reads said (Ok value) = said ≡ Some value
+Reads said (Err Bad) = said ≡ None
+Reads said (Err NoMemory) = Unit {0}
 
 -- the job that the words ask for: the first word names a command, those after it are of its form, and each says what
 -- its name wants

@@ -1,10 +1,10 @@
 //! The commands, and the jobs that they ask for.
 
-ghost use Rattle.std.specs.Prelude.{◌≡◌, ◌⊎◌, IfOk, None, Some, codes, option_map};
+ghost use Rattle.std.specs.Prelude.{◌≡◌, ◌⊎◌, IfOk, None, Some, option_map};
 ghost use Rattle.clap.specs.Words.{first_value, found_of};
 ghost use Rattle.command_line.specs.Forms.{form_of};
 ghost use Rattle.command_line.specs.Words;
-ghost use Rattle.command_line.specs.Words.{bytes_of, job_of};
+ghost use Rattle.command_line.specs.Words.{Reads, bytes_of, job_of};
 
 use crate::file_name::FileName;
 pub use crate::grammar::WordsFault;
@@ -15,7 +15,7 @@ use crate::values::{
 };
 use clap::ArgMatches;
 use report_kind::ReportKind;
-use std::alloc::{AllocError, Global};
+use std::alloc::Global;
 use xt_model::Miller;
 
 /// What the words ask for.
@@ -187,38 +187,29 @@ fn rule_of(command: CommandName) -> CommandRule
 
 // ---- jobs
 
-// The name of a file, if the words have one.
-fn file_name(alloc: Global, word: Option<&str>) -> Result<Option<FileName>, AllocError>
-    ensures { IfOk result (λ name. name ≡ option_map (λ w. w.now) word.entry) }
+// The name of a file, where the words have one.
+fn file_name(alloc: Global, word: Option<&str>) -> Result<FileName, WordsFault>
+    ensures { Reads (option_map (λ w. w.now) word.entry) result }
 {
-    match word {
-        Some(word) => Ok(Some(FileName::new(String::from_str(alloc, word)?))),
-        None => Ok(None),
+    let Some(word) = word else {
+        return Err(WordsFault::Bad);
+    };
+    match String::from_str(alloc, word) {
+        Ok(name) => Ok(FileName::new(name)),
+        Err(_) => Err(WordsFault::NoMemory),
     }
 }
 
-// The files of a block, if the words have all four.
-fn block_files(alloc: Global, given: &ArgMatches) -> Result<Option<BlockFiles>, AllocError>
-    ensures { IfOk result (λ files. files ≡ Words.block_files (first_value (found_of given.now))) }
+// The files of a block, where the words have all four.
+fn block_files(alloc: Global, given: &ArgMatches) -> Result<BlockFiles, WordsFault>
+    ensures { Reads (Words.block_files (first_value (found_of given.now))) result }
 {
-    let Some(lib) = file_name(alloc, given.get_str("lib"))? else {
-        return Ok(None);
-    };
-    let Some(netlist) = file_name(alloc, given.get_str("netlist"))? else {
-        return Ok(None);
-    };
-    let Some(spef) = file_name(alloc, given.get_str("spef"))? else {
-        return Ok(None);
-    };
-    let Some(sdc) = file_name(alloc, given.get_str("sdc"))? else {
-        return Ok(None);
-    };
-    Ok(Some(BlockFiles {
-        lib,
-        netlist,
-        spef,
-        sdc,
-    }))
+    Ok(BlockFiles {
+        lib: file_name(alloc, given.get_str("lib"))?,
+        netlist: file_name(alloc, given.get_str("netlist"))?,
+        spef: file_name(alloc, given.get_str("spef"))?,
+        sdc: file_name(alloc, given.get_str("sdc"))?,
+    })
 }
 
 // What the options of `report` and `solve` say.
@@ -233,122 +224,113 @@ fn solve_options(given: &ArgMatches) -> Option<SolveOptions>
     })
 }
 
-fn report_job(files: Option<BlockFiles>, given: &ArgMatches) -> Option<Job>
-    requires { files ≡ Words.block_files (first_value (found_of given.now)) }
-    ensures { result ≡ Words.report_job (first_value (found_of given.now)) }
+fn report_job(alloc: Global, given: &ArgMatches) -> Result<Job, WordsFault>
+    ensures { Reads (Words.report_job (first_value (found_of given.now))) result }
 {
-    let files = files?;
-    let SolveOptions {
-        workers,
-        kind,
+    let Some(options) = solve_options(given) else {
+        return Err(WordsFault::Bad);
+    };
+    Ok(Job::Report(ReportJob {
+        files: block_files(alloc, given)?,
+        workers: options.workers,
+        kind: options.kind,
+        miller: options.miller,
+        engine: options.engine,
+    }))
+}
+
+fn link_job(alloc: Global, given: &ArgMatches) -> Result<Job, WordsFault>
+    ensures { Reads (Words.link_job (first_value (found_of given.now))) result }
+{
+    let Some(miller) = miller_if_said(given.get_str("miller")) else {
+        return Err(WordsFault::Bad);
+    };
+    Ok(Job::Link(LinkJob {
+        files: block_files(alloc, given)?,
         miller,
-        engine,
-    } = solve_options(given)?;
-    Some(Job::Report(ReportJob {
-        files,
+    }))
+}
+
+fn solve_job(alloc: Global, given: &ArgMatches) -> Result<Job, WordsFault>
+    ensures { Reads (Words.solve_job (first_value (found_of given.now))) result }
+{
+    let Some(options) = solve_options(given) else {
+        return Err(WordsFault::Bad);
+    };
+    Ok(Job::Solve(SolveJob {
+        file: file_name(alloc, given.get_str("file"))?,
+        workers: options.workers,
+        kind: options.kind,
+        miller: options.miller,
+        engine: options.engine,
+    }))
+}
+
+// From which number the order of `replay` is picked, by how many workers, and by which Miller numbers.
+fn replay_options(given: &ArgMatches) -> Option<(u64, u32, Option<Miller>)>
+    ensures { result ≡ Words.replay_options (first_value (found_of given.now)) }
+{
+    let order = number(given.get_str("order")?)?;
+    let workers = worker_count(given.get_str("workers")?)?;
+    let miller = miller_if_said(given.get_str("miller"))?;
+    Some((order, workers, miller))
+}
+
+fn replay_job(alloc: Global, given: &ArgMatches) -> Result<Job, WordsFault>
+    ensures { Reads (Words.replay_job (first_value (found_of given.now))) result }
+{
+    let Some((order, workers, miller)) = replay_options(given) else {
+        return Err(WordsFault::Bad);
+    };
+    Ok(Job::Replay(ReplayJob {
+        file: file_name(alloc, given.get_str("file"))?,
+        order,
         workers,
-        kind,
         miller,
-        engine,
     }))
 }
 
-fn link_job(files: Option<BlockFiles>, given: &ArgMatches) -> Option<Job>
-    requires { files ≡ Words.block_files (first_value (found_of given.now)) }
-    ensures { result ≡ Words.link_job (first_value (found_of given.now)) }
+fn eco_job(alloc: Global, given: &ArgMatches) -> Result<Job, WordsFault>
+    ensures { Reads (Words.eco_job (first_value (found_of given.now))) result }
 {
-    Some(Job::Link(LinkJob {
-        files: files?,
-        miller: miller_if_said(given.get_str("miller"))?,
-    }))
-}
-
-fn solve_job(file: Option<FileName>, given: &ArgMatches) -> Option<Job>
-    requires { file ≡ first_value (found_of given.now) (codes "file") }
-    ensures { result ≡ Words.solve_job (first_value (found_of given.now)) }
-{
-    let file = file?;
-    let SolveOptions {
+    let Some(workers) = workers_or_one(given.get_str("workers")) else {
+        return Err(WordsFault::Bad);
+    };
+    let Some(miller) = miller_if_said(given.get_str("miller")) else {
+        return Err(WordsFault::Bad);
+    };
+    Ok(Job::Eco(EcoJob {
+        file: file_name(alloc, given.get_str("file"))?,
+        edits: file_name(alloc, given.get_str("edits"))?,
         workers,
-        kind,
         miller,
-        engine,
-    } = solve_options(given)?;
-    Some(Job::Solve(SolveJob {
-        file,
-        workers,
-        kind,
-        miller,
-        engine,
     }))
 }
 
-fn replay_job(file: Option<FileName>, given: &ArgMatches) -> Option<Job>
-    requires { file ≡ first_value (found_of given.now) (codes "file") }
-    ensures { result ≡ Words.replay_job (first_value (found_of given.now)) }
-{
-    Some(Job::Replay(ReplayJob {
-        file: file?,
-        order: number(given.get_str("order")?)?,
-        workers: worker_count(given.get_str("workers")?)?,
-        miller: miller_if_said(given.get_str("miller"))?,
-    }))
-}
-
-fn eco_job(file: Option<FileName>, edits: Option<FileName>, given: &ArgMatches) -> Option<Job>
-    requires file { file ≡ first_value (found_of given.now) (codes "file") }
-    requires edits { edits ≡ first_value (found_of given.now) (codes "edits") }
-    ensures { result ≡ Words.eco_job (first_value (found_of given.now)) }
-{
-    Some(Job::Eco(EcoJob {
-        file: file?,
-        edits: edits?,
-        workers: workers_or_one(given.get_str("workers"))?,
-        miller: miller_if_said(given.get_str("miller"))?,
-    }))
-}
-
-fn gen_job(given: &ArgMatches) -> Option<Job>
+fn gen_job(given: &ArgMatches) -> Option<GenJob>
     ensures { result ≡ Words.gen_job (first_value (found_of given.now)) }
 {
-    Some(Job::Gen(GenJob {
+    Some(GenJob {
         number: number(given.get_str("number")?)?,
         nets: net_count(given.get_str("nets")?)?,
         workers: workers_or_one(given.get_str("workers"))?,
-    }))
-}
-
-// The job of a command whose words are these, if they say one.
-fn job_for(
-    alloc: Global,
-    command: CommandName,
-    given: &ArgMatches,
-) -> Result<Option<Job>, AllocError>
-    ensures { IfOk result (λ job. job ≡ Words.job_for command (first_value (found_of given.now))) }
-{
-    match command {
-        CommandName::Report => Ok(report_job(block_files(alloc, given)?, given)),
-        CommandName::Solve => Ok(solve_job(file_name(alloc, given.get_str("file"))?, given)),
-        CommandName::Replay => Ok(replay_job(file_name(alloc, given.get_str("file"))?, given)),
-        CommandName::Eco => {
-            let file = file_name(alloc, given.get_str("file"))?;
-            let edits = file_name(alloc, given.get_str("edits"))?;
-            Ok(eco_job(file, edits, given))
-        }
-        CommandName::Link => Ok(link_job(block_files(alloc, given)?, given)),
-        CommandName::Gen => Ok(gen_job(given)),
-    }
+    })
 }
 
 // The job of a command whose words are these, or why there is none.
-fn job_said(alloc: Global, command: CommandName, given: &ArgMatches) -> Result<Job, WordsFault>
-    ensures said { IfOk result (λ job. Words.job_for command (first_value (found_of given.now)) ≡ Some job) }
-    ensures bad { result ≡ Err WordsFault.Bad → Words.job_for command (first_value (found_of given.now)) ≡ None }
+fn job_for(alloc: Global, command: CommandName, given: &ArgMatches) -> Result<Job, WordsFault>
+    ensures { Reads (Words.job_for command (first_value (found_of given.now))) result }
 {
-    match job_for(alloc, command, given) {
-        Ok(Some(job)) => Ok(job),
-        Ok(None) => Err(WordsFault::Bad),
-        Err(_) => Err(WordsFault::NoMemory),
+    match command {
+        CommandName::Report => report_job(alloc, given),
+        CommandName::Solve => solve_job(alloc, given),
+        CommandName::Replay => replay_job(alloc, given),
+        CommandName::Eco => eco_job(alloc, given),
+        CommandName::Link => link_job(alloc, given),
+        CommandName::Gen => match gen_job(given) {
+            Some(job) => Ok(Job::Gen(job)),
+            None => Err(WordsFault::Bad),
+        },
     }
 }
 
@@ -366,7 +348,7 @@ pub fn parse_words(alloc: Global, words: &[String]) -> Result<Job, WordsFault>
         return Err(WordsFault::Bad);
     };
     match read(alloc, &rule_of(command), words) {
-        Ok(given) => job_said(alloc, command, &given),
+        Ok(given) => job_for(alloc, command, &given),
         Err(fault) => Err(fault),
     }
 }
