@@ -25,14 +25,14 @@ counted_push ranges new range bits width h few is most pushed =
     } in
     rw pushed counted
 
-pub grown_push : (table more new later : Nets) (ranges longer : Ranges) (name : Text) (net : Net) (entered : ℕ) → IsGrown table more ranges entered
-    → length ranges < 4294967295 → longer ≡ ranges ++ net.range ∷ [] → AreApart new later → new ++ later ≡ (table ++ more) ++ (name, net) ∷ []
-    → IsGrown new later longer entered
-grown_push table more new later ranges longer name net entered h few range apart whole =
-    let longer_by : length longer ≡ length ranges + 1 = ap length range ∙ length_push ranges net.range in
+pub grown_push : (table more new later : Nets) (ranges longer : Ranges) (name : Text) (net : Net) (bits width entered : ℕ)
+    → IsGrown table more ranges bits entered → length ranges < 4294967295 → width ≡ width_of net.range → width ≤ 2 ^ 32
+    → longer ≡ ranges ++ net.range ∷ [] → AreApart new later → new ++ later ≡ (table ++ more) ++ (name, net) ∷ []
+    → IsGrown new later longer (bits + width) entered
+grown_push table more new later ranges longer name net bits width entered h few is most range apart whole =
     record {
       kept = range ∙ (ap (λ r. r ++ net.range ∷ []) h.kept ∙ (sym (ranges_added (table ++ more) ((name, net) ∷ [])) ∙ ap ranges_of (sym whole)));
-      few = omega (arith, longer_by, few);
+      counted = counted_push ranges longer net.range bits width h.counted few is most range;
       entered = h.entered;
       apart = apart;
     }
@@ -50,7 +50,7 @@ unfolding limit_of
 within counts e = limit_by (counts.met + 1) (bits_in counts.ranges) e
 
 -- one instance of a module more
-pub grown_enter : (table more : Nets) (ranges : Ranges) (entered met : ℕ) (counts : Counts) → limit_of counts ≡ None → counts.met ≡ met + entered
-    → IsGrown table more ranges entered → IsGrown table more ranges (entered + 1)
-grown_enter table more ranges entered met counts limit is h =
-    let room = within counts limit in record { kept = h.kept; few = h.few; entered = omega (arith, room, is); apart = h.apart }
+pub grown_enter : (table more : Nets) (ranges : Ranges) (bits entered met : ℕ) (counts : Counts) → limit_of counts ≡ None → counts.met ≡ met + entered
+    → IsGrown table more ranges bits entered → IsGrown table more ranges bits (entered + 1)
+grown_enter table more ranges bits entered met counts limit is h =
+    let room = within counts limit in record { kept = h.kept; counted = h.counted; entered = omega (arith, room, is); apart = h.apart }

@@ -14,9 +14,9 @@ use Rattle.hier_flatten.specs.declared.index.Next.{Next}
 use Rattle.hier_flatten.specs.Hierarchy.{Hierarchy, IsHierarchy, module_number, module_of, cells_by, cells_in, cells_before}
 use Rattle.hier_flatten.specs.Search.{most_in}
 use Rattle.hier_flatten.specs.Flat.{Scope, Flat, ranges_of, Counts, counts_of, flat_below, flat_instance, limit_of, prefix_below, entered_below}
-use Rattle.hier_flatten.specs.Walk.{scope_of, IsEntered, IsNext, AreNested, AreHierarchies, rest_flat, Comes, Passes, Ends, room_in, work}
+use Rattle.hier_flatten.specs.Walk.{scope_of, IsEntered, IsNext, AreNested, AreHierarchies, rest_flat, Comes, Passes, room_in, work}
 use Rattle.hier_flatten.proofs.SliceLaws.{rest_of, first_and_rest}
-use Rattle.hier_flatten.proofs.WalkLaws.{cell_is, ended, less_ended, enter_turn, no_limit}
+use Rattle.hier_flatten.proofs.WalkLaws.{cell_is, ended, less_ended, enter_turn, passes}
 
 -- a list that is longer by nothing
 grown_by_none : (h : Hierarchy) (s : Scope) (flat : Flat) → flat_below h s flat ≡ flat_below h s (record flat { instances = flat.instances ++ [] })
@@ -127,12 +127,6 @@ module _ (modules : List Netlist) (f : Frame) (fs : List Frame) (path : Text) (f
       let c : length (take n f.rest.now) ≡ n = length-take-le n f.rest.now (few_before modules f.rest.now) in
       omega (arith, a, b, c)
 
-  -- and what is left passes no limit either
-  pub run_ends : Ends modules (f ∷ fs) path flat → Ends modules (f1 ∷ fs) path flat1
-  run_ends ends =
-      let t = run.each ends.hs ends.below in
-      record { hs = t.0; below = t.1; whole = ends.whole; comes = sym t.2 ∙ ends.comes }
-
   pub run_passes : (what : LimitKind) → Passes modules (f1 ∷ fs) path flat1 what → Passes modules (f ∷ fs) path flat what
   run_passes what beyond hs a =
       let t = run.each hs a in
@@ -179,24 +173,30 @@ module _ (modules : List Netlist) (f : Frame) (fs : List Frame) (path path' : Te
       run_ended modules (counts_of flat) (counts_of end) f fs (run_met modules f fs path flat) in
       rw (kept, grown) (comes, less)
 
+  pub build_less : work modules (counts_of flat') fs < work modules (counts_of flat) (f ∷ fs)
+  build_less =
+      let less : work modules (counts_of end) fs < work modules (counts_of flat) (f ∷ fs) =
+      run_ended modules (counts_of flat) (counts_of end) f fs (run_met modules f fs path flat) in
+      rw grown less
+
   module _ (n : Next) (next : IsNext modules (drop (cells_before modules f.rest.now) f.rest.now) n) where
-    pub build_no_limit : Ends modules (f ∷ fs) path flat → limit_of (counts_of flat') ≡ None
-    build_no_limit ends =
-        let at : limit_of (counts_of end) ≡ None =
-        no_limit modules g1 fs path end n.instance.now n.«module».now n.more.instances.now next.first next.named (run_ends modules f fs path flat ends) in
-        rw grown at
+    pub build_passed : (what : LimitKind) → limit_of (counts_of flat') ≡ Some what → Passes modules (f ∷ fs) path flat what
+    build_passed what limit =
+        run_passes modules f fs path flat what
+        (passes modules g1 fs path end n.instance.now n.«module».now n.more.instances.now next.first next.named what
+        (subst (λ (x : Flat). limit_of (counts_of x) ≡ Some what) grown limit))
 
     pub build_entered : (g b : Frame) (one new : List Frame) (far : Text) (last : Flat) → g.rest.now ≡ n.more.instances.now → g.path ≡ f.path
-        → g.nets.now ≡ f.nets.now → g.meant.items ≡ f.meant.items → Ends modules (f ∷ fs) path flat → length path ≡ f.path → AreNested f.path fs
+        → g.nets.now ≡ f.nets.now → g.meant.items ≡ f.meant.items → limit_of (counts_of flat') ≡ None → length path ≡ f.path → AreNested f.path fs
         → IsEntered (ranges_of flat'.nets) (scope_of path' f) n.instance.now n.«module».now b → one ≡ g ∷ fs → new ≡ b ∷ one
         → far ≡ prefix_below path' n.instance.now.name → last ≡ entered_below flat' (scope_of path' f) n.instance.now n.«module».now
         → Comes modules (f ∷ fs) path flat new far last × AreNested (length far) new
         × (work modules (counts_of last) new < work modules (counts_of flat) (f ∷ fs))
-    build_entered g b one new far last more same nets meant ends len nested made pushed then_pushed way entered =
+    build_entered g b one new far last more same nets meant limit len nested made pushed then_pushed way entered =
         let i : Instance = n.instance.now in
         let m : Netlist = n.«module».now in
         let turn = enter_turn modules g1 fs path end i g (next.first ∙ ap (λ r. i ∷ r) (sym more))
-        same nets meant b m one new far last next.named (subst (λ (x : Flat). limit_of (counts_of x) ≡ None) grown (build_no_limit ends)) len nested
+        same nets meant b m one new far last next.named (subst (λ (x : Flat). limit_of (counts_of x) ≡ None) grown limit) len nested
         (subst (λ (x : Flat). IsEntered (ranges_of x.nets) (scope_of path f) i m b) grown (subst (λ p. IsEntered (ranges_of flat'.nets) (scope_of p f) i m b) kept made))
         pushed then_pushed (way ∙ ap (λ p. prefix_below p i.name) kept)
         (entered ∙ (ap (λ p. entered_below flat' (scope_of p f) i m) kept ∙ ap (λ (x : Flat). entered_below x (scope_of path f) i m) grown)) in

@@ -14,9 +14,8 @@ use Rattle.hier_flatten.specs.declared.below.Frame.{Frame}
 use Rattle.hier_flatten.specs.Hierarchy.{Hierarchy, ends, cell, inner, IsHierarchy, HasHierarchy, module_number, module_of, links_of}
 use Rattle.hier_flatten.specs.Search.{most_in}
 use Rattle.hier_flatten.specs.Flat.{Scope, Flat, ranges_of, Counts, counts_of, flat_below, prefix_below, scope_below, entered_below, limit_of, unless_passed, top_scope, at_top, built}
-use Rattle.hier_flatten.specs.Walk.{scope_of, IsEntered, AreLinked, AreNested, AreHierarchies, rest_flat, Comes, Passes, Ends, room_in, work, Builds, Decides}
+use Rattle.hier_flatten.specs.Walk.{scope_of, IsEntered, AreLinked, AreNested, AreHierarchies, rest_flat, Comes, Passes, room_in, work, Builds}
 use Rattle.hier_flatten.proofs.SearchLaws.{most_at}
-use Rattle.hier_flatten.proofs.FiniteLaws.{one_hierarchy}
 use Rattle.hier_flatten.proofs.GrowingLaws.{within}
 
 abbrev Built : Type 0
@@ -286,42 +285,9 @@ walk_failed modules top f stack fs path cut flat what popped shorter nested walk
     failed modules top f fs path flat what order.1 (subst (λ s. Walks modules top s path flat) popped walks)
     (subst (λ p. Passes modules (f ∷ fs) p flat what) shorter beyond)
 
--- ---- a top that passes no limit
-pub walk_ends : (modules : List Netlist) (top : Netlist) (f : Frame) (stack fs : List Frame) (path cut : Text) (flat : Flat)
-    → stack ≡ f ∷ fs → cut ≡ take f.path path → AreNested (length path) stack → Walks modules top stack path flat
-    → Decides modules top (built top) None → Ends modules (f ∷ fs) cut flat
-walk_ends modules top f stack fs path cut flat popped shorter nested walks (whole, (k, also, comes)) =
-    let order : AreNested (length path) (f ∷ fs) = subst (AreNested (length path)) popped nested in
-    let w : Walks modules top (f ∷ fs) path flat = subst (λ s. Walks modules top s path flat) popped walks in
-    let same : built top w.2.0 ≡ built top k = ap (built top) (one_hierarchy modules top.instances w.2.0 k w.2.1 also) in
-    record {
-      hs = w.0;
-      below = w.1;
-      whole = whole;
-      comes = ap (λ p. rest_flat w.0 (f ∷ fs) p flat) shorter ∙ (sym (taken w.0 f fs path flat order.1) ∙ (sym w.2.2 ∙ (same ∙ comes)));
-    }
-
--- where the limits are passed no more, an instance of a module passes none
+-- where an instance of a module passes a limit, so does all that is left
 module _ (modules : List Netlist) (f : Frame) (fs : List Frame) (path : Text) (flat : Flat) (i : Instance) (m : Netlist) (is : List Instance)
     (rest : f.rest.now ≡ i ∷ is) (e : module_of modules i.cell ≡ Some m) where
-  passes_none : (o : Option LimitKind) (r : Built) (k l : Flat → Built) (whole : Flat) → ((unless_passed o r >>= k) >>= l) ≡ Ok whole → o ≡ None
-  passes_none None r k l whole e = refl
-  passes_none (Some what) r k l whole e = absurd (cc)
-
-  no_limit_by : (hs : List Hierarchy) → AreHierarchies modules (f ∷ fs) hs → (whole : Flat) → rest_flat hs (f ∷ fs) path flat ≡ Ok whole
-      → limit_of (counts_of flat) ≡ None
-  no_limit_by [] a whole comes = absurd a
-  no_limit_by (h ∷ hs) a whole comes =
-      let inside = inner_is modules i m is h e (subst (λ t. IsHierarchy modules t h) rest a.0) in
-      let s = scope_of path f in
-      passes_none (limit_of (counts_of flat)) (flat_below inside.below (scope_below (ranges_of flat.nets) s i m) (entered_below flat s i m))
-      (flat_below inside.more s) (rest_flat hs fs path) whole
-      (sym (ap (λ k. flat_below k s flat >>= rest_flat hs fs path) inside.whole) ∙ comes)
-
-  pub no_limit : Ends modules (f ∷ fs) path flat → limit_of (counts_of flat) ≡ None
-  no_limit e = no_limit_by e.hs e.below e.whole e.comes
-
-  -- and where it passes one, so does all that is left
   pub passes : (what : LimitKind) → limit_of (counts_of flat) ≡ Some what → Passes modules (f ∷ fs) path flat what
   passes what limit [] a = absurd a
   passes what limit (h ∷ hs) a =

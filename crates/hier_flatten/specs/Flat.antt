@@ -152,11 +152,14 @@ abbrev pub counts_of : Flat → Counts
 counts_of flat = record { ranges = ranges_of flat.nets; met = length flat.instances + flat.entered }
 
 -- the limit that is passed where a further instance of a module is met: it is counted, its nets are not yet
-unfoldable pub limit_of : Counts → Option LimitKind
-limit_of counts =
-    if nat_lt most_instances (counts.met + 1) then Some limits.Instances
-    else if nat_lt most_nets (bits_in counts.ranges) then Some limits.Nets
+abbrev pub limit_after : ℕ → ℕ → Option LimitKind
+limit_after met bits =
+    if nat_lt most_instances (met + 1) then Some limits.Instances
+    else if nat_lt most_nets bits then Some limits.Nets
     else None
+
+unfoldable pub limit_of : Counts → Option LimitKind
+limit_of counts = limit_after counts.met (bits_in counts.ranges)
 
 -- what comes of an instance of a module, unless it passes a limit
 abbrev pub unless_passed : Option LimitKind → Result Flat LimitKind → Result Flat LimitKind

@@ -1,5 +1,5 @@
 -- The walk through the hierarchy: modules at paths whose instances are being added, the innermost first.
-use Rattle.std.specs.Prelude.{◌≡◌, ℕ, ◌+◌, ◌-◌, ◌*◌, ◌<◌, ◌≤◌, ◌^◌, List, [], ◌∷◌, ◌++◌, length, take}
+use Rattle.std.specs.Prelude.{◌≡◌, ℕ, ◌+◌, ◌-◌, ◌*◌, ◌≤◌, List, [], ◌∷◌, ◌++◌, length, take}
 use Rattle.std.specs.Prelude.{Option, Some, None, Result, Ok, Err}
 use Rattle.name_numbers.specs.Names.{Text}
 use Rattle.xt_model.specs.Limits.{most_instances}
@@ -12,7 +12,7 @@ use Rattle.hier_flatten.specs.declared.below.Frame.{Frame}
 use Rattle.hier_flatten.specs.declared.index.Next.{Next}
 use Rattle.hier_flatten.specs.Hierarchy.{Hierarchy, IsHierarchy, module_of, links_of}
 use Rattle.hier_flatten.specs.Search.{most_in}
-use Rattle.hier_flatten.specs.Flat.{Scope, Flat, Ranges, ranges_of, Counts, counts_of}
+use Rattle.hier_flatten.specs.Flat.{Scope, Flat, Ranges, ranges_of, Counts, counts_of, IsCounted}
 use Rattle.hier_flatten.specs.Flat.{flat_below, prefix_below, scope_below}
 use Rattle.hier_flatten.specs.Names.{AreApart}
 
@@ -71,12 +71,10 @@ abbrev pub Passes : List Netlist → List Frame → Text → Flat → LimitKind 
 Passes modules fs path flat what =
     (hs : List Hierarchy) → AreHierarchies modules fs hs → rest_flat hs fs path flat ≡ Err what
 
--- what is left comes to an end and passes none
-pub record Ends (modules : List Netlist) (fs : List Frame) (path : Text) (flat : Flat) : Type 0 where
-  pub hs : List Hierarchy
-  pub below : AreHierarchies modules fs hs
-  pub whole : Flat
-  pub comes : rest_flat hs fs path flat ≡ Ok whole
+-- the innermost of what is left was added: it passes a limit, or comes to the same as before
+abbrev pub AddedOn : List Netlist → List Frame → Text → Flat → List Frame → Text → Flat → Option LimitKind → Type 0
+AddedOn modules old path flat new path' flat' None = Comes modules old path flat new path' flat'
+AddedOn modules old path flat new path' flat' (Some what) = Passes modules old path flat what
 
 -- ---- counting
 
@@ -120,9 +118,9 @@ abbrev pub Decides : List Netlist → Netlist → (Hierarchy → Result Flat Lim
 Decides modules top built None = (flat : Flat) × Builds modules top built (Ok flat)
 Decides modules top built (Some what) = Builds modules top built (Err what)
 
--- what is kept of the flat netlist as it is built: its nets in a table and those after it, and their ranges
-pub record IsGrown (table more : Nets) (ranges : Ranges) (met : ℕ) : Type 0 where
+-- what is kept of the flat netlist as it is built: its nets in a table and those after it, their ranges and their bits
+pub record IsGrown (table more : Nets) (ranges : Ranges) (bits met : ℕ) : Type 0 where
   pub kept : ranges ≡ ranges_of (table ++ more)
-  pub few : length ranges < 2 ^ 32
+  pub counted : IsCounted ranges bits
   pub entered : met ≤ most_instances
   pub apart : AreApart table more

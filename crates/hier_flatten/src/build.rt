@@ -1,19 +1,21 @@
 //! The flat netlist of the top, one instance after another.
 
-ghost use Rattle.std.specs.Prelude.{◌≡◌, ◌<◌, ◌∷◌, length, Ok, None, IfOk, OnOk};
-ghost use Rattle.hier_flatten.specs.Hierarchy.{links_of};
+ghost use Rattle.std.specs.Prelude.{◌≡◌, ◌<◌, ◌∷◌, length, IfOk, OnOk};
+ghost use Rattle.hier_flatten.specs.Hierarchy.{HasHierarchy, links_of};
 ghost use Rattle.hier_flatten.specs.Flat.{built, counts_of};
-ghost use Rattle.hier_flatten.specs.Walk.{AreNested, AreLinked, Comes, Ends, Builds, Decides, work};
+ghost use Rattle.hier_flatten.specs.Walk.{AreNested, AreLinked, AddedOn, Builds, work};
 
 use crate::below::{Frame, add_cells, enter, enter_top};
 use crate::growing::Growing;
 use crate::index::{Index, Rest};
 use crate::stack::Stack;
-use crate::tally::Tally;
+use crate::totals::Total;
 use std::alloc::{AllocError, Global};
 use verilog_net::Netlist;
+use xt_model::LimitKind;
 
-/// Goes on by the instances of a module at a path, which was taken from the stack, up to the first one of a module.
+/// Goes on by the instances of a module at a path, which was taken from the stack, up to the first one of a module, and
+/// by that one. Answers the limit that is passed.
 fn step<'a, 'b>(
     alloc: Global,
     index: &'b Index<'a>,
@@ -21,12 +23,11 @@ fn step<'a, 'b>(
     path: &mut Vec<u8>,
     stack: &mut Stack<Frame<'b>>,
     frame: Frame<'b>,
-) -> Result<(), AllocError>
+) -> Result<Option<LimitKind>, AllocError>
     requires path { length path.old.items ≡ frame.path }
     requires nested { AreNested frame.path stack.old }
     requires linked { AreLinked index.now (frame ∷ stack.old) }
-    requires ends { Ends index.now (frame ∷ stack.old) path.old.items growing.old }
-    ensures goes { OnOk result (Comes index.entry.now (frame.entry ∷ stack.old) path.old.items growing.old
+    ensures goes { IfOk result (AddedOn index.entry.now (frame.entry ∷ stack.old) path.old.items growing.old
         stack.new path.new.items growing.new) }
     ensures nested { OnOk result (AreNested (length path.new.items) stack.new) }
     ensures linked { OnOk result (AreLinked index.entry.now stack.new) }
@@ -40,8 +41,11 @@ fn step<'a, 'b>(
     });
     add_cells(alloc, growing, path, &frame, cells)?;
     let Some(next) = next else {
-        return Ok(());
+        return Ok(None);
     };
+    if let Some(what) = growing.limit() {
+        return Ok(Some(what));
+    }
     let below = enter(
         alloc,
         growing,
@@ -57,29 +61,31 @@ fn step<'a, 'b>(
         ..frame
     })?;
     stack.push(below)?;
-    Ok(())
+    Ok(None)
 }
 
-/// The flat nets and instances of the top, which passes no limit; `tally` has their numbers.
+/// The flat nets and instances of the top, with room for its `total`, or the limit that they pass.
 pub fn build<'a, 'b>(
     alloc: Global,
     index: &'b Index<'a>,
     top: &'b Netlist,
     links: &'b [Option<usize>],
-    tally: &Tally,
-) -> Result<Growing, AllocError>
-    requires none { Decides index.now top.now (built top.now) None }
+    total: Total,
+) -> Result<Result<Growing, LimitKind>, AllocError>
+    requires top { HasHierarchy index.now top.now.instances }
     requires links { links.now ≡ links_of index.now top.now.instances }
-    ensures { IfOk result (λ flat. Builds index.entry.now top.entry.now (built top.entry.now) (Ok flat)) }
+    ensures { IfOk result (Builds index.entry.now top.entry.now (built top.entry.now)) }
 {
     let key = top.nets.key();
-    let mut growing = Growing::with_room(alloc, key, tally.ranges().len(), tally.cells())?;
+    let mut growing = Growing::with_room(alloc, key, total)?;
     let mut path = Vec::new(alloc);
     let mut stack = Stack::new(alloc);
     stack.push(enter_top(alloc, &mut growing, top, links)?)?;
     'frames: while let Some(frame) = stack.pop() {
         path.truncate(frame.path);
-        step(alloc, index, &mut growing, &mut path, &mut stack, frame)?;
+        if let Some(what) = step(alloc, index, &mut growing, &mut path, &mut stack, frame)? {
+            return Ok(Err(what));
+        }
     }
-    Ok(growing)
+    Ok(Ok(growing))
 }

@@ -26,11 +26,13 @@ pub struct Visit<'a> {
     rest: &'a [Instance],
 }
 
-/// Goes on by one instance of a module, which was taken from the stack. Answers whether a module contains itself.
+/// Goes on by one instance of a module, which was taken from the stack; one with no instance left is appended to
+/// `order`. Answers whether a module contains itself.
 fn look<'a>(
     index: &Index<'a>,
     marks: &mut [Mark],
     stack: &mut Stack<Visit<'a>>,
+    order: &mut Vec<usize>,
     place: Visit<'a>,
 ) -> Result<bool, AllocError>
     requires { IsSearch index.now marks.old (place ∷ stack.old) }
@@ -41,6 +43,7 @@ fn look<'a>(
 {
     let Visit { number, rest } = place;
     let [instance, more @ ..] = rest else {
+        order.push(number)?;
         marks[number] = Mark::Done;
         return Ok(false);
     };
@@ -64,11 +67,13 @@ fn look<'a>(
     Ok(false)
 }
 
-/// Looks through a module and all that is below it. Answers whether one of these contains itself.
+/// Looks through a module and all that is below it, which are appended to `order`. Answers whether one of these
+/// contains itself.
 fn search<'a>(
     alloc: Global,
     index: &Index<'a>,
     marks: &mut [Mark],
+    order: &mut Vec<usize>,
     number: usize,
 ) -> Result<bool, AllocError>
     requires search { IsSearch index.now marks.old [] }
@@ -83,20 +88,25 @@ fn search<'a>(
         rest: index.instances(number),
     })?;
     'places: while let Some(place) = stack.pop() {
-        if look(index, marks, &mut stack, place)? {
+        if look(index, marks, &mut stack, order, place)? {
             return Ok(true);
         }
     }
     Ok(false)
 }
 
-/// Whether some module contains itself, at some depth.
-pub fn contains_itself(alloc: Global, index: &Index) -> Result<bool, AllocError>
+/// Whether some module contains itself, at some depth. Where none does, the numbers of all are appended to `order`,
+/// each after those of the modules below it.
+pub fn contains_itself(
+    alloc: Global,
+    index: &Index,
+    order: &mut Vec<usize>,
+) -> Result<bool, AllocError>
     ensures { IfOk result (Looked index.now ((number : ℕ) → IsFinite index.now number)) }
 {
     let mut marks = vec![in alloc; Mark::New; index.modules().len()]?;
     for number in 0..marks.len() {
-        if marks[number] == Mark::New && search(alloc, index, &mut marks, number)? {
+        if marks[number] == Mark::New && search(alloc, index, &mut marks, order, number)? {
             return Ok(true);
         }
     }

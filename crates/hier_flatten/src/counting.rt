@@ -1,14 +1,15 @@
 //! Whether the flat netlist passes a limit, before anything of it is built.
 
-ghost use Rattle.std.specs.Prelude.{◌≡◌, ◌<◌, ◌++◌, ◌∷◌, [], option_map, IfOk, OnOk};
+ghost use Rattle.std.specs.Prelude.{◌≡◌, ◌<◌, ◌++◌, ◌∷◌, [], option_map, Err, IfSome, IfOk, OnOk};
 ghost use Rattle.hier_flatten.specs.Hierarchy.{HasHierarchy, links_of};
 ghost use Rattle.hier_flatten.specs.Flat.{built, own_at, own_nets, ranges_of};
-ghost use Rattle.hier_flatten.specs.Walk.{AreLinked, CountedOn, Decides, work};
+ghost use Rattle.hier_flatten.specs.Walk.{AreLinked, Builds, CountedOn, Decides, work};
 
 use crate::below::{Frame, frame_below, top_frame, wire_at};
 use crate::index::{Index, Rest};
 use crate::stack::Stack;
 use crate::tally::Tally;
+use crate::totals::Total;
 use name_numbers::NameTable;
 use std::alloc::{AllocError, Global};
 use verilog_net::{Instance, Net, Netlist, Wire};
@@ -53,7 +54,6 @@ fn count_nets(
 fn count_names(tally: &mut Tally, path: usize, cells: &[Instance]) -> Result<(), AllocError>
     ensures { OnOk result (tally.new ≡ tally.old) }
 {
-    tally.count_cells(cells.len());
     let mut rest = cells;
     'cells: while let [cell, more @ ..] = rest {
         tally.count_name(path.saturating_add(cell.name.bytes().len()))?;
@@ -109,7 +109,7 @@ fn step<'a, 'b>(
 }
 
 /// Counts the flat netlist of the top. Answers the limit that it passes.
-pub fn passed_limit<'a, 'b>(
+fn passed_limit<'a, 'b>(
     alloc: Global,
     index: &'b Index<'a>,
     top: &'b Netlist,
@@ -132,4 +132,24 @@ pub fn passed_limit<'a, 'b>(
         }
     }
     Ok(None)
+}
+
+/// The limit that the flat netlist of the top passes, if it is not within all limits by the `total` of the top.
+pub fn limit_ahead<'a, 'b>(
+    alloc: Global,
+    index: &'b Index<'a>,
+    top: &'b Netlist,
+    links: &'b [Option<usize>],
+    total: Total,
+) -> Result<Option<LimitKind>, AllocError>
+    requires top { HasHierarchy index.now top.now.instances }
+    requires links { links.now ≡ links_of index.now top.now.instances }
+    ensures { IfOk result (λ o. IfSome o (λ what.
+        Builds index.entry.now top.entry.now (built top.entry.now) (Err what))) }
+{
+    if total.is_within() {
+        return Ok(None);
+    }
+    let mut tally = Tally::new(alloc, index.modules());
+    passed_limit(alloc, index, top, links, &mut tally)
 }

@@ -7,14 +7,14 @@ ghost use Rattle.verilog_net.specs.Sound.{IsSoundModule, IsSoundNetlist};
 
 use crate::build::build;
 use crate::circle::contains_itself;
-use crate::counting::passed_limit;
+use crate::counting::limit_ahead;
 use crate::fault::FlatFault;
 use crate::fits::misfit;
 use crate::index::Index;
 use crate::names::with_names;
 use crate::plain::have_plain_names;
-use crate::tally::Tally;
 use crate::tops::top_of;
+use crate::totals::total_of;
 use std::alloc::Global;
 use verilog_net::{Modules, Netlist};
 use xt_model::Code;
@@ -32,12 +32,13 @@ use xt_model::Code;
 /// contains itself at some depth; `V9`, at the last line, modules of which not exactly one is instanced by none; the
 /// limits of instances and nets, which are 262,144 of each (nets by bits), as each instance of a module is met; `V5`,
 /// at the last line, two nets, two bits or two instances with one name; `V1`, at the last line, a name of more than
-/// 1,024 bytes. Limits are decided before anything is built. Where a name has more than 1,024 bytes, and all names of
-/// nets and of instances of cells together have more than 64 MB and four times the bytes of the text, that is want of
-/// memory, before any of them is made. The bytes of the text are taken as those that it has at least: of the names of
-/// modules, of their nets, of their instances and of the pins of these, each pin with four marks and each instance with
-/// two. Takes time linear in the modules and in the flat netlist, where an instance of a module counts with the
-/// declarations of the module and its own pins, and memory linear in the same.
+/// 1,024 bytes. Before anything is built the modules are summed up, and where the sums pass a limit the flat netlist is
+/// counted first; of sound modules one that passes a limit is not built. Where a name has more than 1,024 bytes, and
+/// all names of nets and of instances of cells together have more than 64 MB and four times the bytes of the text, that
+/// is want of memory, before any of them is made. The bytes of the text are taken as those that it has at least: of the
+/// names of modules, of their nets, of their instances and of the pins of these, each pin with four marks and each
+/// instance with two. Takes time linear in the modules and in the flat netlist, where an instance of a module counts
+/// with the declarations of the module and its own pins, and memory linear in the same.
 ///
 /// Of sound modules, as `read_modules` gives them, the flat netlist is sound: its names have 1 to 1,024 bytes, and no
 /// two of its bits have one name.
@@ -53,7 +54,8 @@ pub fn flatten(alloc: Global, modules: &Modules, last_line: u32) -> Result<Netli
             code: Code::V7,
         });
     }
-    if contains_itself(alloc, &index)? {
+    let mut order = Vec::new(alloc);
+    if contains_itself(alloc, &index, &mut order)? {
         return Err(FlatFault::Refused {
             line: 1,
             code: Code::V8,
@@ -66,11 +68,15 @@ pub fn flatten(alloc: Global, modules: &Modules, last_line: u32) -> Result<Netli
         });
     };
     let links = index.links(alloc, top.instances.as_slice())?;
-    let mut tally = Tally::new(alloc, index.modules());
-    if let Some(what) = passed_limit(alloc, &index, top, links.as_slice(), &mut tally)? {
+    let total = total_of(alloc, &index, order.as_slice(), top.module.bytes())?;
+    if let Some(what) = limit_ahead(alloc, &index, top, links.as_slice(), total)? {
         return Err(FlatFault::Limit { what });
     }
-    let flat = build(alloc, &index, top, links.as_slice(), &tally)?;
+    let built = build(alloc, &index, top, links.as_slice(), total)?;
+    let flat = match built {
+        Ok(flat) => flat,
+        Err(what) => return Err(FlatFault::Limit { what }),
+    };
     let all = index.modules();
     let apart = have_plain_names(alloc, index.key(), all)?;
     with_names(alloc, top, flat, apart, last_line)

@@ -4,23 +4,28 @@ ghost use Rattle.std.specs.Prelude.{◌≡◌, ◌<◌, ◌^◌, ◌++◌, ◌+�
 ghost use Rattle.hier_flatten.specs.Flat.{counts_of, limit_of, ranges_of};
 ghost use Rattle.hier_flatten.specs.Names.{AreApart, IsTabled};
 
+use crate::places::width_of;
+use crate::tally::limit_after;
+use crate::totals::Total;
 use name_numbers::{NameTable, TextKey};
 use std::alloc::{AllocError, Global};
 use std::marker::Model;
 use verilog_net::{Instance, Name, Net};
+use xt_model::LimitKind;
 
 /// The greatest number of nets that a netlist has names for.
 const MOST_NAMES: usize = 4_294_967_295;
 
 /// The flat nets and instances so far. `table` has the nets by name, as long as no two have one name; the first one
-/// that has the name of an earlier one, and those after it, are in `more`. `ranges` has the ranges of the nets, and
-/// `entered` is how many instances of modules were met.
+/// that has the name of an earlier one, and those after it, are in `more`. `ranges` has the ranges of the nets, `bits`
+/// is how many bits they have, and `entered` how many instances of modules were met.
 #[derive(Drop)]
 pub struct Growing {
     table: NameTable<Net>,
     more: Vec<(Name, Net)>,
     instances: Vec<Instance>,
     ranges: Vec<Option<(u32, u32)>>,
+    bits: u64,
     entered: u32,
 }
 
@@ -37,7 +42,7 @@ impl Model for Growing {
       entered = g.entered;
     } };
 
-    ghost invariant = { λ g. IsGrown g.table g.more.items g.ranges.items g.entered };
+    ghost invariant = { λ g. IsGrown g.table g.more.items g.ranges.items g.bits g.entered };
 }
 
 /// Notes a further net: in the table, unless it or one before it has the name of an earlier one.
@@ -63,21 +68,17 @@ fn put(
 }
 
 impl Growing {
-    /// Nothing so far, with room for this many instances and the ranges of this many nets; names are hashed under this
-    /// key.
-    pub fn with_room(
-        alloc: Global,
-        key: TextKey,
-        nets: usize,
-        instances: usize,
-    ) -> Result<Growing, AllocError>
+    /// Nothing so far, with room for the instances of cells and the ranges of the nets that are in the total; names are
+    /// hashed under this key.
+    pub fn with_room(alloc: Global, key: TextKey, total: Total) -> Result<Growing, AllocError>
         ensures { IfOk result (λ g. g ≡ record { nets = []; instances = []; entered = 0 }) }
     {
         Ok(Growing {
             table: NameTable::new(alloc, key),
             more: Vec::new(alloc),
-            instances: Vec::with_capacity(alloc, instances)?,
-            ranges: Vec::with_capacity(alloc, nets)?,
+            instances: Vec::with_capacity(alloc, total.cells)?,
+            ranges: Vec::with_capacity(alloc, total.nets)?,
+            bits: 0,
             entered: 0,
         })
     }
@@ -98,11 +99,16 @@ impl Growing {
             return Err(AllocError);
         }
         self.ranges.push(net.range)?;
-        if put(alloc, &mut self.table, &mut self.more, name, net).is_err() {
-            let _ = self.ranges.pop();
-            return Err(AllocError);
+        match put(alloc, &mut self.table, &mut self.more, name, net) {
+            Ok(()) => {
+                self.bits += width_of(net.range);
+                Ok(())
+            }
+            Err(error) => {
+                let _ = self.ranges.pop();
+                Err(error)
+            }
         }
-        Ok(())
     }
 
     /// A further instance of a cell.
@@ -111,6 +117,15 @@ impl Growing {
     {
         self.instances.push(instance)?;
         Ok(())
+    }
+
+    /// The limit that is passed where a further instance of a module is met.
+    #[tactic(auto, unfolding(crate::specs::Flat::limit_of))]
+    pub fn limit(&self) -> Option<LimitKind>
+        ensures { result ≡ limit_of (counts_of self.now) }
+    {
+        let met = self.instances.len() as u64 + self.entered as u64;
+        limit_after(met, self.bits)
     }
 
     /// Counts a further instance of a module.

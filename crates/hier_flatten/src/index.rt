@@ -186,7 +186,7 @@ impl<'a> Index<'a> {
     }
 
     /// The module of a number, and the numbers of its instances' modules.
-    fn linked<'b>(&'b self, number: usize) -> Option<(&'b Netlist, &'b [Option<usize>])>
+    pub fn linked<'b>(&'b self, number: usize) -> Option<(&'b Netlist, &'b [Option<usize>])>
         ensures { MatchOption result (slice_get self.entry.now number ≡ None) (λ r. (slice_get self.entry.now number
             ≡ Some r.0.now) × (r.1.now ≡ links_of self.entry.now r.0.now.instances)) }
     {

@@ -18,6 +18,7 @@ mod stack;
 mod tables;
 mod tally;
 mod tops;
+mod totals;
 mod wires;
 
 pub use alone::lone_module;

@@ -1,7 +1,7 @@
 //! What limits are asked of.
 
 ghost use Rattle.std.specs.Prelude.{◌≡◌, ◌<◌, ◌^◌, ◌+◌, ◌++◌, ◌∷◌, [], length, OnOk};
-ghost use Rattle.hier_flatten.specs.Flat.{limit_of};
+ghost use Rattle.hier_flatten.specs.Flat.{limit_of, limit_after};
 
 use crate::places::width_of;
 use std::alloc::{AllocError, Global};
@@ -51,16 +51,28 @@ fn most_written(modules: &[Netlist]) -> u64 {
     bytes.saturating_mul(4).saturating_add(MOST_BESIDE)
 }
 
+/// The limit that is passed where a further instance of a module is met, after this many instances of cells and of
+/// modules, and nets of this many bits.
+pub fn limit_after(met: u64, bits: u64) -> Option<LimitKind>
+    ensures { result ≡ limit_after met bits }
+{
+    if met >= MOST_INSTANCES as u64 {
+        return Some(LimitKind::Instances);
+    }
+    if bits > MOST_NETS as u64 {
+        return Some(LimitKind::Nets);
+    }
+    None
+}
+
 /// What is counted of a flat netlist: the ranges of its nets, `met`, how many instances of cells and of modules were
-/// met, and `bits`, how many bits the nets have. `cells` is how many instances of cells were met, `written` how many
-/// bytes the names of these and of nets have, `has_long` whether one of these is too long, and `most_written` how many
-/// bytes they may have then.
+/// met, and `bits`, how many bits the nets have. `written` is how many bytes the names of nets and of instances of
+/// cells have, `has_long` whether one of these is too long, and `most_written` how many bytes they may have then.
 #[derive(Drop)]
 pub struct Tally {
     ranges: Vec<Option<(u32, u32)>>,
     met: u64,
     bits: u64,
-    cells: usize,
     written: u64,
     has_long: bool,
     most_written: u64,
@@ -85,7 +97,6 @@ impl Tally {
             ranges: Vec::new(alloc),
             met: 0,
             bits: 0,
-            cells: 0,
             written: 0,
             has_long: false,
             most_written: most_written(modules),
@@ -110,18 +121,6 @@ impl Tally {
         self.ranges.push(range)?;
         self.bits += width_of(range);
         Ok(())
-    }
-
-    /// How many instances of cells were met.
-    pub fn cells(&self) -> usize {
-        self.cells
-    }
-
-    /// Counts further instances of cells.
-    pub fn count_cells(&mut self, count: usize)
-        ensures { self.new ≡ self.old }
-    {
-        self.cells = self.cells.saturating_add(count);
     }
 
     /// Counts the bytes of a further name. A netlist with a name that is too long is refused in the end. Where all its
@@ -154,12 +153,6 @@ impl Tally {
     pub fn limit(&self) -> Option<LimitKind>
         ensures { result ≡ limit_of self.now }
     {
-        if self.met >= MOST_INSTANCES as u64 {
-            return Some(LimitKind::Instances);
-        }
-        if self.bits > MOST_NETS as u64 {
-            return Some(LimitKind::Nets);
-        }
-        None
+        limit_after(self.met, self.bits)
     }
 }

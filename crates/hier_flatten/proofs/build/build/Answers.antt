@@ -1,12 +1,12 @@
 use Rattle.std.proofs.Common.{subst, ◌∙◌}
 use Rattle.hier_flatten.specs.Walk.{AreLinked}
-use Rattle.hier_flatten.proofs.WalkLaws.{walk_begun, walk_carried, walk_ends, linked_at_top}
+use Rattle.hier_flatten.proofs.WalkLaws.{walk_begun, walk_carried, walk_failed, linked_at_top}
 use Rattle.hier_flatten.proofs.build.build.Goals as goal
 
 pub frames-init : goal.frames-init
 frames-init c =
     let begun = walk_begun c.args.index.now c.args.top.now c.in_ok-enter_top.field-0 c.new-stack.result c.push.new.self c.new-path.result.items c.enter_top.new.growing
-    (c.requires.none.1.0, c.requires.none.1.1) c.in_ok-enter_top.ensures.frame c.new-stack.ensures c.in_ok-push.ensures c.new-path.ensures.items c.in_ok-enter_top.ensures.growing in
+    c.requires.top c.in_ok-enter_top.ensures.frame c.new-stack.ensures c.in_ok-push.ensures c.new-path.ensures.items c.in_ok-enter_top.ensures.growing in
     record {
       nested = begun.0;
       linked = linked_at_top c.args.index.now c.in_ok-enter_top.field-0 c.new-stack.result c.push.new.self c.args.top.now.instances c.in_ok-enter_top.ensures.frame.1
@@ -14,19 +14,19 @@ frames-init c =
       walks = begun.1;
     }
 
-pub step-requires-clause-ends : goal.step-requires-clause-ends
-step-requires-clause-ends c =
-    walk_ends c.args.index.now c.args.top.now c.in-Some.frame c.frames.stack c.pop.new.self c.frames.path.items c.truncate.new.self.items c.frames.growing
-    c.in-Some.ensures c.truncate.ensures.items c.frames.invariant.nested c.frames.invariant.walks c.requires.none
-
 pub step-requires-clause-linked : goal.step-requires-clause-linked
 step-requires-clause-linked c = subst (AreLinked c.args.index.now) c.in-Some.ensures c.frames.invariant.linked
 
 pub frames-preserved : goal.frames-preserved
 frames-preserved c = record {
-  nested = c.in_ok-step.ensures.nested;
-  linked = c.in_ok-step.ensures.linked;
+  nested = c.in_ok-what.ensures.nested;
+  linked = c.in_ok-what.ensures.linked;
   walks = walk_carried c.args.index.now c.args.top.now c.in-Some.frame c.frames.stack c.pop.new.self c.step.new.stack c.frames.path.items c.truncate.new.self.items
       c.step.new.path.items c.frames.growing c.step.new.growing c.in-Some.ensures c.truncate.ensures.items c.frames.invariant.nested c.frames.invariant.walks
-      c.in_ok-step.ensures.goes;
+      (rw c.in_default-2.is at c.in_ok-what.ensures.goes);
 }
+
+pub returns-in-Some-2 : goal.returns-in-Some-2
+returns-in-Some-2 c =
+    walk_failed c.args.index.now c.args.top.now c.in-Some.frame c.frames.stack c.pop.new.self c.frames.path.items c.truncate.new.self.items c.frames.growing
+    c.in-Some-2.what c.in-Some.ensures c.truncate.ensures.items c.frames.invariant.nested c.frames.invariant.walks (rw c.in-Some-2.is at c.in_ok-what.ensures.goes)

@@ -1,7 +1,7 @@
 use Rattle.std.proofs.Common.{refl, ap, sym, ◌∙◌}
 use Rattle.hier_flatten.specs.Hierarchy.{links_of}
 use Rattle.hier_flatten.proofs.WalkLaws.{linked_on}
-use Rattle.hier_flatten.proofs.RunLaws.{build_ended, build_no_limit, build_entered}
+use Rattle.hier_flatten.proofs.RunLaws.{build_ended, build_less, build_passed, build_entered}
 use Rattle.hier_flatten.proofs.build.step.Goals as goal
 
 pub returns-in_default-clause-goes : goal.returns-in_default-clause-goes
@@ -14,17 +14,23 @@ returns-in_default-clause-less c =
     (build_ended c.args.index.now c.args.frame c.args.stack.now c.args.path.now.items c.add_cells.new.path.items c.args.growing.now c.add_cells.new.growing
     c.next.result.0.now c.next.ensures.cells c.in_ok-add_cells.ensures.kept c.in_ok-add_cells.ensures.cells (rw c.in_default.is at c.next.ensures.next)).1
 
-pub enter-requires-clause-limit : goal.enter-requires-clause-limit
-enter-requires-clause-limit c =
-    build_no_limit c.args.index.now c.args.frame c.args.stack.now c.args.path.now.items c.add_cells.new.path.items c.args.growing.now c.add_cells.new.growing
-    c.next.result.0.now c.next.ensures.cells c.in_ok-add_cells.ensures.kept c.in_ok-add_cells.ensures.cells c.in-Some.next (rw c.in-Some.is at c.next.ensures.next) c.requires.ends
+pub returns-in-Some-limit-clause-goes : goal.returns-in-Some-limit-clause-goes
+returns-in-Some-limit-clause-goes c =
+    build_passed c.args.index.now c.args.frame c.args.stack.now c.args.path.now.items c.add_cells.new.path.items c.args.growing.now c.add_cells.new.growing
+    c.next.result.0.now c.next.ensures.cells c.in_ok-add_cells.ensures.kept c.in_ok-add_cells.ensures.cells c.in-Some.next (rw c.in-Some.is at c.next.ensures.next)
+    c.in-Some-limit.what (sym c.limit.ensures ∙ c.in-Some-limit.is)
+
+pub returns-in-Some-limit-clause-less : goal.returns-in-Some-limit-clause-less
+returns-in-Some-limit-clause-less c =
+    build_less c.args.index.now c.args.frame c.args.stack.now c.args.path.now.items c.add_cells.new.path.items c.args.growing.now c.add_cells.new.growing
+    c.next.result.0.now c.next.ensures.cells c.in_ok-add_cells.ensures.kept c.in_ok-add_cells.ensures.cells
 
 pub returns-clause-goes : goal.returns-clause-goes
 returns-clause-goes c =
     (build_entered c.args.index.now c.args.frame c.args.stack.now c.args.path.now.items c.add_cells.new.path.items c.args.growing.now c.add_cells.new.growing
     c.next.result.0.now c.next.ensures.cells c.in_ok-add_cells.ensures.kept c.in_ok-add_cells.ensures.cells c.in-Some.next (rw c.in-Some.is at c.next.ensures.next)
     _ c.in_ok-below.below c.push.new.self c.push-2.new.self c.enter.new.path.items c.enter.new.growing refl refl refl refl
-    c.requires.ends c.requires.path c.requires.nested c.in_ok-below.ensures.frame c.in_ok-push.ensures c.in_ok-push-2.ensures c.in_ok-below.ensures.path
+    (sym c.limit.ensures ∙ c.in_default-limit.is) c.requires.path c.requires.nested c.in_ok-below.ensures.frame c.in_ok-push.ensures c.in_ok-push-2.ensures c.in_ok-below.ensures.path
     c.in_ok-below.ensures.growing).0
 
 pub returns-clause-nested : goal.returns-clause-nested
@@ -32,7 +38,7 @@ returns-clause-nested c =
     (build_entered c.args.index.now c.args.frame c.args.stack.now c.args.path.now.items c.add_cells.new.path.items c.args.growing.now c.add_cells.new.growing
     c.next.result.0.now c.next.ensures.cells c.in_ok-add_cells.ensures.kept c.in_ok-add_cells.ensures.cells c.in-Some.next (rw c.in-Some.is at c.next.ensures.next)
     _ c.in_ok-below.below c.push.new.self c.push-2.new.self c.enter.new.path.items c.enter.new.growing refl refl refl refl
-    c.requires.ends c.requires.path c.requires.nested c.in_ok-below.ensures.frame c.in_ok-push.ensures c.in_ok-push-2.ensures c.in_ok-below.ensures.path
+    (sym c.limit.ensures ∙ c.in_default-limit.is) c.requires.path c.requires.nested c.in_ok-below.ensures.frame c.in_ok-push.ensures c.in_ok-push-2.ensures c.in_ok-below.ensures.path
     c.in_ok-below.ensures.growing).1
 
 pub returns-clause-less : goal.returns-clause-less
@@ -40,7 +46,7 @@ returns-clause-less c =
     (build_entered c.args.index.now c.args.frame c.args.stack.now c.args.path.now.items c.add_cells.new.path.items c.args.growing.now c.add_cells.new.growing
     c.next.result.0.now c.next.ensures.cells c.in_ok-add_cells.ensures.kept c.in_ok-add_cells.ensures.cells c.in-Some.next (rw c.in-Some.is at c.next.ensures.next)
     _ c.in_ok-below.below c.push.new.self c.push-2.new.self c.enter.new.path.items c.enter.new.growing refl refl refl refl
-    c.requires.ends c.requires.path c.requires.nested c.in_ok-below.ensures.frame c.in_ok-push.ensures c.in_ok-push-2.ensures c.in_ok-below.ensures.path
+    (sym c.limit.ensures ∙ c.in_default-limit.is) c.requires.path c.requires.nested c.in_ok-below.ensures.frame c.in_ok-push.ensures c.in_ok-push-2.ensures c.in_ok-below.ensures.path
     c.in_ok-below.ensures.growing).2
 
 pub returns-clause-linked : goal.returns-clause-linked

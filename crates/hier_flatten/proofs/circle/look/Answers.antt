@@ -34,15 +34,15 @@ pub returns-in_err-push-in-New-2-clause-met : goal.returns-in_err-push-in-New-2-
 returns-in_err-push-in-New-2-clause-met c = met_set c.args.marks.now c.in-Some.below marks.Open open_new
 
 abbrev turn : (c : goal.In_ok-push-in-New-2)
-    → IsSearch c.args.index.now (set c.args.marks.now c.in-Some.below marks.Open) c.push-in-New.new.self
-    × (work c.args.index.now (set c.args.marks.now c.in-Some.below marks.Open) c.push-in-New.new.self < work c.args.index.now c.args.marks.now (c.args.place ∷ c.args.stack.now))
+    → IsSearch c.args.index.now (set c.args.marks.now c.in-Some.below marks.Open) c.push-in-New-2.new.self
+    × (work c.args.index.now (set c.args.marks.now c.in-Some.below marks.Open) c.push-in-New-2.new.self < work c.args.index.now c.args.marks.now (c.args.place ∷ c.args.stack.now))
 turn c =
     let within : c.in-Some.below < length c.args.marks.now = omega (arith, c.requires.count, c.in-Some.ensures.within) in
     let named = ap (module_number c.args.index.now) (sym c.bytes.ensures) ∙ sym c.in-Some.ensures.value in
     let mark = slice_get-get_or c.args.marks.now c.in-Some.below marks.New within ∙ ap Some c.in-New.is in
     goes_in c.args.index.now c.args.marks.now c.args.stack.now c.args.place _ c.instance-item.result c.in-len1-up.len_at_least c.instance-item.is c.requires
     (record { number = c.args.place.number; rest = c.args.place.rest }) (record { number = c.in-Some.below; rest = c.instances.result })
-    c.push.new.self c.push-in-New.new.self refl refl named c.in-Some.ensures.within c.instances.ensures mark c.in_ok-push-in-New.ensures c.in_ok-push-in-New-2.ensures
+    c.push-in-New.new.self c.push-in-New-2.new.self refl refl named c.in-Some.ensures.within c.instances.ensures mark c.in_ok-push-in-New.ensures c.in_ok-push-in-New-2.ensures
 
 pub returns-in-New-clause-goes : goal.returns-in-New-clause-goes
 returns-in-New-clause-goes c = (turn c).0
@@ -53,7 +53,7 @@ returns-in-New-clause-met c = met_set c.args.marks.now c.in-Some.below marks.Ope
 pub returns-in-New-clause-less : goal.returns-in-New-clause-less
 returns-in-New-clause-less c = (turn c).1
 
-abbrev passed : (c : goal.In_ok-push) → (module_number c.args.index.now c.instance-item.result.cell ≡ None)
+abbrev passed : (c : goal.In_ok-push-2) → (module_number c.args.index.now c.instance-item.result.cell ≡ None)
     ⊎ ((k : ℕ) × (module_number c.args.index.now c.instance-item.result.cell ≡ Some k) × (k < length c.args.index.now) × (slice_get c.args.marks.now k ≡ Some marks.Done))
 passed c = elim c.match-number.branch [
   | in-Some+in-Done w ↦
@@ -70,9 +70,9 @@ passed c = elim c.match-number.branch [
 pub returns-clause-goes : goal.returns-clause-goes
 returns-clause-goes c =
     (goes_on c.args.index.now c.args.marks.now c.args.stack.now c.args.place _ c.instance-item.result c.in-len1-up.len_at_least c.instance-item.is c.requires
-    _ c.push-2.new.self refl refl (passed c) c.in_ok-push.ensures).0
+    _ c.push-2.new.self refl refl (passed c) c.in_ok-push-2.ensures).0
 
 pub returns-clause-less : goal.returns-clause-less
 returns-clause-less c =
     (goes_on c.args.index.now c.args.marks.now c.args.stack.now c.args.place _ c.instance-item.result c.in-len1-up.len_at_least c.instance-item.is c.requires
-    _ c.push-2.new.self refl refl (passed c) c.in_ok-push.ensures).1
+    _ c.push-2.new.self refl refl (passed c) c.in_ok-push-2.ensures).1
