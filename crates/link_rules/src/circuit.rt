@@ -12,7 +12,7 @@ use xt_model::{CheckPoint, GivenPair, Name, Row, TimingArc};
 #[derive(Debug, Drop)]
 pub struct End {
     name: Name,
-    joint: Option<usize>,
+    joint: Option<u32>,
 }
 
 impl Model for End {
@@ -49,7 +49,7 @@ impl End {
         name.extend_from_slice(pin)?;
         Ok(End {
             name: Name::new(name),
-            joint: Some(joint),
+            joint: Some(joint as u32),
         })
     }
 
@@ -67,7 +67,7 @@ impl End {
         room.clear();
         room.extend_from_slice(self.name.bytes())?;
         if let Some(joint) = self.joint {
-            room[joint] = delimiter;
+            room[joint as usize] = delimiter;
         }
         Ok(())
     }
@@ -78,6 +78,61 @@ impl End {
     {
         let End { name, joint: _ } = self;
         name
+    }
+}
+
+/// What drives a net, if anything does, which contracts see as an `Option` of it. It has a block of its own, so that a
+/// net without a driver takes little.
+#[derive(Debug, Drop)]
+pub struct NetDriver {
+    end: Option<Box<End>>,
+}
+
+impl Model for NetDriver {
+    ghost use Rattle.std.specs.Prelude.{Option, option_map};
+    ghost use Rattle.link_rules.specs.Ends.{NetEnd};
+
+    ghost Value = { Option NetEnd };
+
+    ghost view = { λ d. option_map (λ b. b.value) d.end };
+}
+
+impl NetDriver {
+    ghost use Rattle.std.specs.Prelude.{Some, None, is_some, option_map};
+
+    /// Nothing drives the net.
+    pub fn none() -> NetDriver
+        ensures { result ≡ None }
+    {
+        NetDriver { end: None }
+    }
+
+    /// This drives the net.
+    pub fn new(alloc: Global, end: End) -> Result<NetDriver, AllocError>
+        ensures { IfOk result (λ d. d ≡ Some end) }
+    {
+        let end = Box::new(alloc, end)?;
+        Ok(NetDriver { end: Some(end) })
+    }
+
+    /// Whether something drives the net.
+    pub fn is_some(&self) -> bool
+        ensures { result ≡ is_some self.now }
+    {
+        match &self.end {
+            Some(_) => true,
+            None => false,
+        }
+    }
+
+    /// What drives the net.
+    pub fn get(&self) -> Option<&End>
+        ensures { option_map (λ e. e.now) result ≡ self.now }
+    {
+        match &self.end {
+            Some(end) => Some(&**end),
+            None => None,
+        }
     }
 }
 
@@ -95,7 +150,7 @@ pub struct NetPins {
     pub name: Name,
     pub input: bool,
     pub given: GivenPair,
-    pub driver: Option<End>,
+    pub driver: NetDriver,
     pub sinks: Row<Sink>,
     pub arcs: Row<TimingArc>,
 }

@@ -5,5 +5,5 @@
 mod circuit;
 mod fault;
 
-pub use circuit::{Circuit, End, NetPins, Sink};
+pub use circuit::{Circuit, End, NetDriver, NetPins, Sink};
 pub use fault::{LinkFault, LinkRefusal};
