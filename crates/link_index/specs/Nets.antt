@@ -29,12 +29,16 @@ pub record HaveWires (pins wires : List (Text × Wire)) : Type 0 where
 abbrev pub AreWired : List (Text × Wire) → PinWires → Type 0
 AreWired pins w = All (HaveWires pins) w.tables.items
 
--- what is kept beside a netlist: the first bit of each net and the names of the bits
-pub record IsIndex (n : Netlist) (firsts : List ℕ) (table : List (Text × Unit {0})) : Type 0 where
+-- what is kept beside a sound netlist: the first bit of each net, and how many bits there are
+pub record AreBits (n : Netlist) (firsts : List ℕ) (size : ℕ) : Type 0 where
   pub sound : IsSoundNetlist n
   pub most : length (bits n.nets) ≤ most_nets
   pub few : length n.instances ≤ most_instances
   pub starts : AreStarts n.nets firsts
+  pub count : size ≡ length (bits n.nets)
+
+-- what is kept beside its bits: their names
+pub record IsIndex (n : Netlist) (table : List (Text × Unit {0})) : Type 0 where
   pub names : HasNames n.nets table
   pub spelled : AreNames table
 

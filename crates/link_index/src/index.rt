@@ -2,18 +2,92 @@
 
 ghost use Rattle.std.specs.Prelude.{◌≡◌};
 
-use crate::bits::{net_at, starts};
+use crate::bits::{count_bits, net_at, starts};
 use crate::names::names_of;
 use name_numbers::NameTable;
 use std::alloc::{AllocError, Global};
 use std::marker::Model;
 use verilog_net::{Instance, Netlist, Wire};
 
+/// A netlist whose nets are found by bits. Contracts see the netlist. No look-up takes memory.
+#[derive(Drop)]
+pub struct NetBits<'a> {
+    netlist: &'a Netlist,
+    starts: Vec<u32>,
+    count: u32,
+}
+
+impl<'a> Model for NetBits<'a> {
+    ghost use Rattle.verilog_net.specs.declared.netlist.Netlist.{Netlist};
+    ghost use Rattle.link_index.specs.Nets.{AreBits};
+
+    ghost Value = { Netlist };
+
+    ghost view = { λ b. b.netlist.now };
+
+    ghost invariant = { λ b. AreBits b.netlist.now b.starts.items b.count };
+}
+
+impl<'a> NetBits<'a> {
+    ghost use Rattle.std.specs.Prelude.{◌≤◌, length, IfOk};
+    ghost use Rattle.xt_model.specs.Limits.{most_nets, most_instances};
+    ghost use Rattle.verilog_net.specs.Bits.{bits};
+    ghost use Rattle.link_rules.specs.Bits.{net_of};
+    ghost use Rattle.verilog_net.specs.Sound.{IsSoundNetlist};
+
+    /// A netlist with at most 262,144 bits and instances. Takes time and memory in proportion to the names of nets.
+    fn new(alloc: Global, netlist: &'a Netlist) -> Result<NetBits<'a>, AllocError>
+        requires sound { IsSoundNetlist netlist.now }
+        requires nets { length (bits netlist.now.nets) ≤ most_nets }
+        requires instances { length netlist.now.instances ≤ most_instances }
+        ensures { IfOk result (λ b. b ≡ netlist.entry.now) }
+    {
+        let starts = starts(alloc, &netlist.nets)?;
+        let count = count_bits(&netlist.nets) as u32;
+        Ok(NetBits {
+            netlist,
+            starts,
+            count,
+        })
+    }
+
+    /// The netlist.
+    pub fn netlist(&self) -> &'a Netlist
+        ensures value { result.now ≡ self.now }
+        ensures sound { IsSoundNetlist self.now }
+    {
+        self.netlist
+    }
+
+    /// The instances of the netlist.
+    fn instances(&self) -> &'a [Instance]
+        ensures value { result.now ≡ self.now.instances }
+        ensures few { length self.now.instances ≤ most_instances }
+    {
+        self.netlist.instances.as_slice()
+    }
+
+    /// How many nets there are.
+    pub fn count(&self) -> u32
+        ensures value { result ≡ length (bits self.now.nets) }
+        ensures most { result ≤ most_nets }
+        ensures sound { IsSoundNetlist self.now }
+    {
+        self.count
+    }
+
+    /// The net on which a pin is; none where it is open or constant.
+    fn net_of(&self, wire: Wire) -> Option<u32>
+        ensures { result ≡ net_of self.now.nets wire }
+    {
+        net_at(&self.netlist.nets, &self.starts, wire)
+    }
+}
+
 /// A netlist whose nets are found by bits and, by hash, by names. Contracts see the netlist. No look-up takes memory.
 #[derive(Drop)]
 pub struct NetIndex<'a> {
-    netlist: &'a Netlist,
-    starts: Vec<u32>,
+    bits: NetBits<'a>,
     names: NameTable<()>,
 }
 
@@ -23,9 +97,9 @@ impl<'a> Model for NetIndex<'a> {
 
     ghost Value = { Netlist };
 
-    ghost view = { λ i. i.netlist.now };
+    ghost view = { λ i. i.bits };
 
-    ghost invariant = { λ i. IsIndex i.netlist.now i.starts.items i.names };
+    ghost invariant = { λ i. IsIndex i.bits i.names };
 }
 
 impl<'a> NetIndex<'a> {
@@ -46,13 +120,24 @@ impl<'a> NetIndex<'a> {
         requires instances { length netlist.now.instances ≤ most_instances }
         ensures { IfOk result (λ i. i ≡ netlist.entry.now) }
     {
-        let starts = starts(alloc, &netlist.nets)?;
+        let bits = NetBits::new(alloc, netlist)?;
         let names = names_of(alloc, netlist)?;
-        Ok(NetIndex {
-            netlist,
-            starts,
-            names,
-        })
+        Ok(NetIndex { bits, names })
+    }
+
+    /// The netlist by bits alone.
+    pub fn bits(&self) -> &NetBits<'a>
+        ensures { result.now ≡ self.now }
+    {
+        &self.bits
+    }
+
+    /// The netlist by bits alone, of an index whose names are not needed any more.
+    pub fn into_bits(self) -> NetBits<'a>
+        ensures { result ≡ self.entry }
+    {
+        let NetIndex { bits, names: _ } = self;
+        bits
     }
 
     /// The netlist.
@@ -60,7 +145,7 @@ impl<'a> NetIndex<'a> {
         ensures value { result.now ≡ self.now }
         ensures sound { IsSoundNetlist self.now }
     {
-        self.netlist
+        self.bits.netlist()
     }
 
     /// The instances of the netlist.
@@ -68,7 +153,7 @@ impl<'a> NetIndex<'a> {
         ensures value { result.now ≡ self.now.instances }
         ensures few { length self.now.instances ≤ most_instances }
     {
-        self.netlist.instances.as_slice()
+        self.bits.instances()
     }
 
     /// How many nets there are.
@@ -77,7 +162,7 @@ impl<'a> NetIndex<'a> {
         ensures most { result ≤ most_nets }
         ensures sound { IsSoundNetlist self.now }
     {
-        self.names.len()
+        self.bits.count()
     }
 
     /// The name of the net of this number.
@@ -95,7 +180,7 @@ impl<'a> NetIndex<'a> {
     pub fn net_of(&self, wire: Wire) -> Option<u32>
         ensures { result ≡ net_of self.now.nets wire }
     {
-        net_at(&self.netlist.nets, &self.starts, wire)
+        self.bits.net_of(wire)
     }
 
     /// The net of this name, which is that of a bit for a bus.

@@ -17,5 +17,5 @@ mod wires;
 pub use bits::{count_bits, number_at, width};
 pub use cells::CellIndex;
 pub use first::set_first;
-pub use index::NetIndex;
+pub use index::{NetBits, NetIndex};
 pub use nodes::NodeIndex;
