@@ -15,7 +15,7 @@ use crate::pins::PinOn;
 use crate::related::RelatedPin;
 use crate::sinks::end_of;
 use liberty_cells::TimingKind;
-use link_index::{CellIndex, NetIndex};
+use link_index::{CellIndex, NetBits};
 use sdc_read::Constraints;
 use std::alloc::{AllocError, Global};
 use xt_model::{CheckPoint, Name, NetId};
@@ -44,7 +44,7 @@ fn clock_of(one: &RelatedPin<'_>, places: &Places) -> Option<(bool, SinkAt)>
 pub fn add_pin_checks<'a>(
     alloc: Global,
     cells: &CellIndex<'a>,
-    nets: &NetIndex<'a>,
+    nets: &NetBits<'a>,
     related: &[RelatedPin<'a>],
     places: &Places,
     pin: PinOn,

@@ -19,7 +19,7 @@ use crate::known::{Known, KnownAt};
 use crate::pins::PinOn;
 use crate::related::Related;
 use crate::timings::{most_pins, same_instance};
-use link_index::{CellIndex, NetIndex};
+use link_index::{CellIndex, NetBits};
 use std::alloc::{AllocError, Global};
 
 /// How many arcs and check points there are.
@@ -163,7 +163,7 @@ impl Counts {
 pub fn counts_of<'a>(
     alloc: Global,
     cells: &CellIndex<'a>,
-    nets: &NetIndex<'a>,
+    nets: &NetBits<'a>,
     pins: &[PinOn],
     sinks: &[u32],
 ) -> Result<Counts, AllocError>

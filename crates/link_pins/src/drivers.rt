@@ -19,14 +19,14 @@ use crate::names::net_name;
 use crate::pins::PinOn;
 use crate::sinks::end_of;
 use link_index::{CellIndex, NetIndex};
-use link_rules::{End, LinkFault, LinkRefusal};
+use link_rules::{End, LinkFault, LinkRefusal, NetDriver};
 use std::alloc::{AllocError, Global};
 use verilog_net::PortRole;
 
 /// The driver of one net, and whether it has another one.
 #[derive(Drop)]
 pub struct Driver {
-    pub end: Option<End>,
+    pub end: NetDriver,
     pub twice: bool,
 }
 
@@ -44,8 +44,8 @@ impl Driver {
             (λ d. (b : Bit) → slice_get (bits nets.now.nets) net ≡ Some b → IsDriver d (port_drivers b role)) }
     {
         let end = match role {
-            PortRole::Input => Some(End::port(net_name(alloc, nets, net)?)),
-            _ => None,
+            PortRole::Input => NetDriver::new(alloc, End::port(net_name(alloc, nets, net)?))?,
+            _ => NetDriver::none(),
         };
         Ok(Driver { end, twice: false })
     }
@@ -67,7 +67,7 @@ impl Driver {
         if self.end.is_some() {
             self.twice = true;
         } else {
-            self.end = Some(end_of(alloc, cells, nets, pin)?);
+            self.end = NetDriver::new(alloc, end_of(alloc, cells, nets.bits(), pin)?)?;
         }
         Ok(())
     }

@@ -15,7 +15,7 @@ use crate::nets::{Gathered, add_all_ports, all_nets};
 use crate::pins::{PinOn, pins_on};
 use crate::sinks::{Sinks, sinks_of};
 use crate::timings::{NetArcs, Timings, timings_of};
-use link_index::{CellIndex, NetIndex};
+use link_index::{CellIndex, NetBits, NetIndex};
 use link_rules::{Circuit, LinkFault, NetPins};
 use sdc_read::Constraints;
 use std::alloc::{AllocError, Global};
@@ -91,7 +91,7 @@ impl Joined {
         &self,
         alloc: Global,
         cells: &CellIndex<'a>,
-        nets: &NetIndex<'a>,
+        nets: &NetBits<'a>,
     ) -> Result<Counts, AllocError>
         requires { HasPins cells.now nets.now self.now }
         ensures { IfOk result
@@ -113,7 +113,7 @@ impl Joined {
         self,
         alloc: Global,
         cells: &CellIndex<'a>,
-        nets: &NetIndex<'a>,
+        nets: &NetBits<'a>,
     ) -> Result<Circuit, AllocError>
         requires { HasPins cells.now nets.now self }
         ensures { IfOk result

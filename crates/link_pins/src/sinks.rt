@@ -15,7 +15,7 @@ use crate::bits::BitAt;
 use crate::names::net_name;
 use crate::pins::PinOn;
 use crate::ports::port_load;
-use link_index::{CellIndex, NetIndex};
+use link_index::{CellIndex, NetBits, NetIndex};
 use link_rules::{End, Sink};
 use sdc_read::Constraints;
 use std::alloc::{AllocError, Global};
@@ -38,7 +38,7 @@ pub struct Sinks {
 pub fn end_of<'a>(
     alloc: Global,
     cells: &CellIndex<'a>,
-    nets: &NetIndex<'a>,
+    nets: &NetBits<'a>,
     pin: PinOn,
 ) -> Result<End, AllocError>
     requires there { IsSome (connected_at cells.now nets.now pin) }
@@ -72,7 +72,7 @@ impl NetSinks {
         };
         if pin.is_input(cells) {
             self.sinks.push(Sink {
-                end: end_of(alloc, cells, nets, pin)?,
+                end: end_of(alloc, cells, nets.bits(), pin)?,
                 cap: pin.of(cells).cap(),
             })?;
         }

@@ -18,7 +18,7 @@ use crate::checks::add_pin_checks;
 use crate::known::{Known, KnownAt};
 use crate::pins::PinOn;
 use crate::related::{Related, RelatedPin};
-use link_index::{CellIndex, NetIndex};
+use link_index::{CellIndex, NetBits};
 use std::alloc::{AllocError, Global};
 use xt_model::{CheckPoint, TimingArc};
 
@@ -99,7 +99,7 @@ impl Timings {
         &mut self,
         alloc: Global,
         cells: &CellIndex<'a>,
-        nets: &NetIndex<'a>,
+        nets: &NetBits<'a>,
         related: &[RelatedPin<'a>],
         places: &Places,
         pin: PinOn,
@@ -127,7 +127,7 @@ impl Timings {
         &mut self,
         alloc: Global,
         cells: &CellIndex<'a>,
-        nets: &NetIndex<'a>,
+        nets: &NetBits<'a>,
         related: &Related<'a>,
         places: &Places,
         pin: PinOn,
@@ -158,7 +158,7 @@ impl Timings {
 }
 
 /// No arcs into any net, and no check points.
-fn no_timings<'a>(alloc: Global, nets: &NetIndex<'a>) -> Result<Timings, AllocError>
+fn no_timings<'a>(alloc: Global, nets: &NetBits<'a>) -> Result<Timings, AllocError>
     ensures count { IfOk result (λ t. length t.nets.items ≡ length (bits nets.now.nets)) }
     ensures arcs { IfOk result (λ t. All (λ row. row.arcs.items ≡ []) t.nets.items) }
     ensures checks { IfOk result (λ t. t.checks.items ≡ []) }
@@ -179,7 +179,7 @@ fn no_timings<'a>(alloc: Global, nets: &NetIndex<'a>) -> Result<Timings, AllocEr
 pub fn timings_of<'a>(
     alloc: Global,
     cells: &CellIndex<'a>,
-    nets: &NetIndex<'a>,
+    nets: &NetBits<'a>,
     pins: &[PinOn],
     sinks: &[u32],
 ) -> Result<Timings, AllocError>
