@@ -108,7 +108,7 @@ impl<'a> WireIndex<'a> {
     pub fn listed(&self, pins: &'a NetPins) -> Option<&'a WireText>
         ensures { option_map (λ w. w.now) result ≡ listed self.now.netlist self.now.parasitics pins.entry.now }
     {
-        match &pins.driver {
+        match pins.driver.get() {
             None => None,
             Some(_) => match self.places.get(NameParts::of(pins.name.bytes())) {
                 None => None,

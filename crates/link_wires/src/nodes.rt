@@ -166,7 +166,7 @@ pub fn end_nodes(
     ensures { IfOk result (λ ends. ends.items ≡ end_nodes delimiter pins.now) }
 {
     let mut ends = Vec::with_capacity(alloc, pins.sinks.as_slice().len() + 1)?;
-    if let Some(driver) = &pins.driver {
+    if let Some(driver) = pins.driver.get() {
         ends.push(end_node(alloc, delimiter, driver, room)?)?;
     }
     let mut rest = pins.sinks.as_slice();
