@@ -28,7 +28,7 @@ use Rattle.link_pins.specs.Joined.{without_arcs, IsJoined, AreCounts}
 use Rattle.link_wires.specs.declared.wire.NetWire.{NetWire}
 use Rattle.link_wires.specs.Wires.{HasSinkQuantities, IsWireOf, AreWires, IsFirstFault}
 use Rattle.design_link.specs.declared.gathering.Gathered.{Gathered}
-use Rattle.design_link.specs.Gathered.{IsGathered}
+use Rattle.design_link.specs.Gathered.{IsGathered, IsWired}
 use Rattle.design_link.specs.Sizes.{plain_nets, plain_parts, couplings_sum, arcs_sum, sizes_fault, reads_fault}
 use Rattle.design_link.proofs.BareLaws.{bare_number, numbered_bare, wires_same, first_same, coefficients_same}
 use Rattle.design_link.proofs.CoupleLaws.{both_kept, kept}
@@ -82,13 +82,23 @@ module _ (x : Inputs) (j : Joined) (slice : List NetPins) (is_slice : slice ≡ 
     wires_stop fault h =
         wires_refused x pins fault (first_same x.netlist x.parasitics fault (bare.numbered x) (subst (λ ns. IsFirstFault x.netlist x.parasitics ns fault) numbers h))
 
-    module _ (ws seen : List NetWire) (wired : AreWires x.netlist x.parasitics (enumerate_from 0 slice) ws) (is_seen : seen ≡ ws) where
+    pub wired : (ws : List NetWire) → AreWires x.netlist x.parasitics (enumerate_from 0 slice) ws → IsWired x j ws
+    wired ws wires = record {
+      accepted = pins;
+      joined = joined;
+      wires = subst (λ ps. AreWires x.netlist x.parasitics (enumerate_from 0 ps) ws) is_slice wires;
+    }
+
+    module _ (ws seen : List NetWire) (are_wires : AreWires x.netlist x.parasitics (enumerate_from 0 j.nets.items) ws) (is_seen : seen ≡ ws) where
+      sliced : AreWires x.netlist x.parasitics (enumerate_from 0 slice) ws
+      sliced = subst (λ ps. AreWires x.netlist x.parasitics (enumerate_from 0 ps) ws) (sym is_slice) are_wires
+
       pub wires_count : length seen ≡ length slice
-      wires_count = ap length is_seen ∙ (wired.count ∙ length-numbered 0 slice)
+      wires_count = ap length is_seen ∙ (sliced.count ∙ length-numbered 0 slice)
 
       are : AreWires x.netlist x.parasitics (bare.numbered x) ws
       are =
-          wires_same x.netlist x.parasitics (bare.numbered x) ws (subst (λ ns. AreWires x.netlist x.parasitics ns ws) numbers wired)
+          wires_same x.netlist x.parasitics (bare.numbered x) ws (subst (λ ns. AreWires x.netlist x.parasitics ns ws) numbers sliced)
 
       accepted : HasAcceptedWires x
       accepted = record {

@@ -7,12 +7,12 @@ ghost use Rattle.liberty_cells.specs.Sound.{IsSoundLibrary};
 ghost use Rattle.spef_read.specs.Sound.{AreSoundParasitics};
 ghost use Rattle.sdc_read.specs.Sound.{AreSoundConstraints};
 ghost use Rattle.verilog_net.specs.Sound.{IsSoundNetlist};
-ghost use Rattle.design_link.specs.Gathered.{IsGathered};
+ghost use Rattle.design_link.specs.Gathered.{IsGathered, IsWired};
 
 use crate::sizes::{check_reads, check_sizes};
 use liberty_cells::Library;
 use link_index::{CellIndex, NetIndex};
-use link_pins::{check_counts, check_instances, join};
+use link_pins::{Joined, check_counts, check_instances, join};
 use link_rules::{Circuit, LinkFault};
 use link_wires::{KeptWire, wires};
 use sdc_read::Constraints;
@@ -27,26 +27,26 @@ pub struct Gathered {
     pub wires: Vec<KeptWire>,
 }
 
-/// The pins and the wires that four values come to, or the first fault up to the sizes of the design, where the counts
-/// of the netlist are kept. No arc and no check point of an instance is made before there are known to be few enough.
-fn gather_by<'a>(
+/// The pins of nets without arcs and the wires that four values come to, or the first fault up to the wires, where the
+/// counts of the netlist are kept.
+fn wired_by<'a>(
     alloc: Global,
     cells: &CellIndex<'a>,
     index: &NetIndex<'a>,
     parasitics: &'a Parasitics,
     constraints: &Constraints,
-) -> Result<Gathered, LinkFault>
+) -> Result<(Joined, Vec<KeptWire>), LinkFault>
     requires library { IsSoundLibrary cells.now }
     requires netlist { IsSoundNetlist index.now }
     requires parasitics { AreSoundParasitics parasitics.now }
     requires constraints { AreSoundConstraints constraints.now }
     requires counts { count_fault index.now ≡ None }
-    ensures ok { IfOk result (IsGathered (record {
+    ensures ok { IfOk result (λ w. IsWired (record {
       library = cells.now;
       netlist = index.now;
       parasitics = parasitics.now;
       constraints = constraints.now;
-    })) }
+    }) w.0 w.1.items) }
     ensures fault { IfErr result (λ f. Links (record {
       library = cells.now;
       netlist = index.now;
@@ -56,11 +56,44 @@ fn gather_by<'a>(
 {
     check_instances(alloc, cells, index.netlist())?;
     let joined = join(alloc, cells, index, constraints)?;
+    let wires = wires(alloc, &*index, joined.nets(), &*parasitics)?;
+    Ok((joined, wires))
+}
+
+/// The pins and the wires that four values come to, or the first fault up to the sizes of the design, where the counts
+/// of the netlist are kept. The names of nets are given back once there are wires. No arc and no check point of an
+/// instance is made before there are known to be few enough.
+fn gather_by<'a>(
+    alloc: Global,
+    cells: &CellIndex<'a>,
+    index: NetIndex<'a>,
+    parasitics: &'a Parasitics,
+    constraints: &Constraints,
+) -> Result<Gathered, LinkFault>
+    requires library { IsSoundLibrary cells.now }
+    requires netlist { IsSoundNetlist index }
+    requires parasitics { AreSoundParasitics parasitics.now }
+    requires constraints { AreSoundConstraints constraints.now }
+    requires counts { count_fault index ≡ None }
+    ensures ok { IfOk result (IsGathered (record {
+      library = cells.now;
+      netlist = index;
+      parasitics = parasitics.now;
+      constraints = constraints.now;
+    })) }
+    ensures fault { IfErr result (λ f. Links (record {
+      library = cells.now;
+      netlist = index;
+      parasitics = parasitics.now;
+      constraints = constraints.now;
+    }) (Err f)) }
+{
+    let (joined, wires) = wired_by(alloc, cells, &index, parasitics, constraints)?;
+    let bits = index.into_bits();
     let nets = joined.nets();
-    let wires = wires(alloc, &*index, nets, &*parasitics)?;
-    let counts = joined.count(alloc, cells, index)?;
+    let counts = joined.count(alloc, cells, &bits)?;
     check_sizes(cells.library(), nets, &wires, counts)?;
-    let circuit = joined.finish(alloc, cells, index)?;
+    let circuit = joined.finish(alloc, cells, &bits)?;
     check_reads(circuit.nets.as_slice(), &wires)?;
     Ok(Gathered { circuit, wires })
 }
@@ -93,5 +126,5 @@ pub fn gather<'a>(
     check_counts(netlist)?;
     let index: NetIndex<'a> = NetIndex::new(alloc, netlist)?;
     let cells: CellIndex<'a> = CellIndex::new(alloc, library)?;
-    gather_by(alloc, &cells, &index, parasitics, constraints)
+    gather_by(alloc, &cells, index, parasitics, constraints)
 }
