@@ -77,7 +77,7 @@ none_counted role pins cs are none =
 
 module _ (role : Role) (old new : List TimedPlace) (r : TimedPlace) (push : new ≡ old ++ r ∷ []) (pins : List ℕ) (before after : List PinCount) (at : ℕ) (u y : PinCount)
     (there : slice_get before at ≡ Some u) (own : u.pin ≡ r.1) (put : after ≡ set before at y) (pin : y.pin ≡ u.pin) (count : y.count ≡ u.count + effect role r.0)
-    (places : y.places.items ≡ u.places.items ++ length old ∷ []) where
+    (places : y.places ≡ u.places ++ length old ∷ []) where
   here : slice_get after at ≡ Some y
   here = ap (λ l. slice_get l at) put ∙ put_same before at u y there
 
@@ -95,8 +95,8 @@ module _ (role : Role) (old new : List TimedPlace) (r : TimedPlace) (push : new 
           same = pin ∙ (ap (λ (x : PinCount). x.pin) one ∙ p.same);
           place =
               subst (λ l. Contains l i) (sym places)
-              (from_has (u.places.items ++ length old ∷ []) i
-              (has_left u.places.items (length old ∷ []) i (to_has u.places.items i (subst (λ (x : PinCount). Contains x.places.items i) (sym one) p.place))));
+              (from_has (u.places ++ length old ∷ []) i
+              (has_left u.places (length old ∷ []) i (to_has u.places i (subst (λ (x : PinCount). Contains x.places i) (sym one) p.place))));
         }
     | inr other ↦ record { at = p.at; count = p.count; there = elsewhere p.at p.count other p.there; same = p.same; place = p.place }
   ]
@@ -109,7 +109,7 @@ module _ (role : Role) (old new : List TimedPlace) (r : TimedPlace) (push : new 
     same = pin ∙ own;
     place =
         subst (λ l. Contains l (length old)) (sym places)
-        (from_has (u.places.items ++ length old ∷ []) (length old) (has_right u.places.items (length old ∷ []) (length old) (inl refl)));
+        (from_has (u.places ++ length old ∷ []) (length old) (has_right u.places (length old ∷ []) (length old) (inl refl)));
   }
 
   -- a related pin that was there is there
@@ -132,14 +132,14 @@ module _ (role : Role) (old new : List TimedPlace) (r : TimedPlace) (push : new 
           ap (λ n. cond (g n) (effect role r.0) 0) (pin ∙ own),
         )
 
-    none_other : (k i : ℕ) (v : PinCount) → slice_get after k ≡ Some v → Contains v.places.items i → IsSomeAnd (slice_get new i) (λ (q : TimedPlace). q.1 ≡ v.pin)
+    none_other : (k i : ℕ) (v : PinCount) → slice_get after k ≡ Some v → Contains v.places i → IsSomeAnd (slice_get new i) (λ (q : TimedPlace). q.1 ≡ v.pin)
     none_other k i v h c = elim (cases_eq k at) [
       | inl same ↦
           let one : y ≡ v = same_Some y v (sym here ∙ (ap (slice_get after) (sym same) ∙ h)) in
-          let held : Has (u.places.items ++ length old ∷ []) i =
-          to_has (u.places.items ++ length old ∷ []) i (subst (λ l. Contains l i) places (subst (λ (x : PinCount). Contains x.places.items i) (sym one) c)) in
-          let of_pin : IsSomeAnd (slice_get new i) (λ (q : TimedPlace). q.1 ≡ u.pin) = elim (has_either u.places.items (length old ∷ []) i held) [
-            | inl early ↦ kept_pin i u (have.placed.none at i u there (from_has u.places.items i early))
+          let held : Has (u.places ++ length old ∷ []) i =
+          to_has (u.places ++ length old ∷ []) i (subst (λ l. Contains l i) places (subst (λ (x : PinCount). Contains x.places i) (sym one) c)) in
+          let of_pin : IsSomeAnd (slice_get new i) (λ (q : TimedPlace). q.1 ≡ u.pin) = elim (has_either u.places (length old ∷ []) i held) [
+            | inl early ↦ kept_pin i u (have.placed.none at i u there (from_has u.places i early))
             | inr late ↦ at_last i late
           ] in
           subst (λ n. IsSomeAnd (slice_get new i) (λ (q : TimedPlace). q.1 ≡ n)) (sym pin ∙ ap (λ (x : PinCount). x.pin) one) of_pin
@@ -335,7 +335,7 @@ count_of (Some u) = u.count
 
 abbrev pub places_by : Option PinCount → List ℕ
 places_by None = []
-places_by (Some u) = u.places.items
+places_by (Some u) = u.places
 
 -- the next count
 pub next_count : (cs : List PinCount) (js : List ℕ) (i m new : ℕ) (u : PinCount) → i < length js → m ≡ sum_by (λ j. count_of (slice_get cs j)) (take i js)
@@ -387,14 +387,14 @@ module _ (g : ℕ → Bool) (rs : List TimedPlace) (pins : List ℕ) (cs : List 
       let w = from_flat f (places_of g 0 pins) m (subst (λ l. Has l m) are (s.from m h)) in
       let p = place_at g pins w.from w.is in
       let u = own_count pins cs placed.same w.from p.item p.at in
-      let held : Has u.0.places.items m = subst (λ o. Has (places_by o) m) u.1 w.has in
-      let r = some_and (slice_get rs m) (λ (x : TimedPlace). x.1 ≡ u.0.pin) (placed.none w.from m u.0 u.1 (from_has u.0.places.items m held)) in
+      let held : Has u.0.places m = subst (λ o. Has (places_by o) m) u.1 w.has in
+      let r = some_and (slice_get rs m) (λ (x : TimedPlace). x.1 ≡ u.0.pin) (placed.none w.from m u.0 u.1 (from_has u.0.places m held)) in
       record { item = r.0; at = r.1; passes = ap g (r.2 ∙ u.2) ∙ p.passes })
       (λ m r there sink.
       let p = placed.places m r there in
       let pin : slice_get pins p.at ≡ Some r.1 =
       ap (λ l. slice_get l p.at) (sym placed.same) ∙ (slice_get-map (λ (u : PinCount). u.pin) cs p.at ∙ (ap (option_map (λ (u : PinCount). u.pin)) p.there ∙ ap Some p.same)) in
-      let held : Has (f p.at) m = subst (λ o. Has (places_by o) m) (sym p.there) (to_has p.count.places.items m p.place) in
+      let held : Has (f p.at) m = subst (λ o. Has (places_by o) m) (sym p.there) (to_has p.count.places m p.place) in
       s.kept m (subst (λ l. Has l m) (sym are) (to_flat f (places_of g 0 pins) p.at m (place_has g pins p.at r.1 pin sink) held)))
 
   pub order_within : (m : ℕ) → Has (places_of (λ (r : TimedPlace). g r.1) 0 rs) m → m < length rs

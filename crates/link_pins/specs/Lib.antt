@@ -2,6 +2,7 @@ pub mod Answers
 pub mod Seen
 pub mod Rows
 pub mod Places
+pub mod PlaceLists
 pub mod Timed
 pub mod Related
 pub mod Known

@@ -69,7 +69,7 @@ ArePinsOf counts pins = map (λ u. u.pin) counts ≡ pins
 
 -- nothing is counted
 abbrev pub IsUncounted : PinCount → Type 0
-IsUncounted u = (u.count ≡ 0) × (u.places.items ≡ [])
+IsUncounted u = (u.count ≡ 0) × (u.places ≡ [])
 
 -- a place among the related pins is among those of a pin's count
 pub record HasPlace (counts : List PinCount) (own i : ℕ) : Type 0 where
@@ -77,13 +77,13 @@ pub record HasPlace (counts : List PinCount) (own i : ℕ) : Type 0 where
   pub count : PinCount
   pub there : slice_get counts at ≡ Some count
   pub same : count.pin ≡ own
-  pub place : Contains count.places.items i
+  pub place : Contains count.places i
 
 -- each related pin has its place among those of its pin's count, and no place is among those of another's
 pub record ArePlaced (rs : List TimedPlace) (pins : List ℕ) (counts : List PinCount) : Type 0 where
   pub same : ArePinsOf counts pins
   pub places : (i : ℕ) (r : TimedPlace) → slice_get rs i ≡ Some r → HasPlace counts r.1 i
-  pub none : (k i : ℕ) (u : PinCount) → slice_get counts k ≡ Some u → Contains u.places.items i
+  pub none : (k i : ℕ) (u : PinCount) → slice_get counts k ≡ Some u → Contains u.places i
       → IsSomeAnd (slice_get rs i) (λ r. r.1 ≡ u.pin)
 
 -- these are the counts of related pins, and their places

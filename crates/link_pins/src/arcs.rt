@@ -28,7 +28,7 @@ pub struct SinkAt {
 #[derive(Drop)]
 pub struct Places {
     at: Vec<Option<SinkAt>>,
-    pins: Vec<usize>,
+    pins: Vec<u32>,
     from: usize,
 }
 
@@ -83,14 +83,14 @@ impl Places {
     }
 
     /// Enters a sink at a place.
-    fn put(&mut self, pin: usize, sink: SinkAt) -> Result<(), AllocError>
+    fn put(&mut self, pin: u32, sink: SinkAt) -> Result<(), AllocError>
         requires room { pin < length self.now.at.items }
         ensures sinks { OnOk result (self.new.at.items ≡ set self.old.at.items pin (Some sink)) }
         ensures listed { OnOk result (AreListed self.old → AreListed self.new) }
         ensures from { OnOk result (self.new.from ≡ self.old.from) }
     {
         self.pins.push(pin)?;
-        self.at[pin] = Some(sink);
+        self.at[pin as usize] = Some(sink);
         Ok(())
     }
 
@@ -103,7 +103,7 @@ impl Places {
         ensures from { OnOk result (self.new.from ≡ self.old.from) }
     {
         if pin.is_input(cells) {
-            if self.at[pin.pin].is_none() {
+            if self.at[pin.pin as usize].is_none() {
                 let sink = SinkAt {
                     net: pin.net,
                     sink: place,
@@ -153,7 +153,7 @@ impl Places {
         ensures listed { AreListed self.new }
     {
         for k in from..to {
-            self.at[pins[k].pin] = None;
+            self.at[pins[k].pin as usize] = None;
         }
         self.pins.clear();
     }
@@ -166,17 +166,17 @@ impl Places {
     }
 
     /// The places at which sinks are entered.
-    pub fn pins(&self) -> &[usize]
+    pub fn pins(&self) -> &[u32]
         ensures { result.now ≡ self.now.pins.items }
     {
         &self.pins
     }
 
     /// The sink that the input pin at a place is.
-    pub fn sink(&self, pin: usize) -> Option<SinkAt>
+    pub fn sink(&self, pin: u32) -> Option<SinkAt>
         ensures { result ≡ slice_index_or self.now.at.items pin None }
     {
-        match self.at.get(pin) {
+        match self.at.get(pin as usize) {
             Some(sink) => *sink,
             None => None,
         }

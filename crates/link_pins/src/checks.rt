@@ -63,7 +63,7 @@ pub fn add_pin_checks<'a>(
     if !pin.is_input(cells) {
         return Ok(());
     }
-    let Some(datum) = places.find(cells, pin.cell, part.name().bytes()) else {
+    let Some(datum) = places.find(cells, pin.cell as usize, part.name().bytes()) else {
         return Ok(());
     };
     for one in related {

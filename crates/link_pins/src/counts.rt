@@ -58,7 +58,7 @@ fn count_at(
 {
     let number = related.number(pin);
     let from = places.from();
-    let cell = pin.cell;
+    let cell = pin.cell as usize;
     if let Some(count) = known.get(number, cell, from) {
         return Ok(*count);
     }
@@ -117,7 +117,7 @@ fn checks_at<'a>(
     if !pin.is_input(cells) {
         return Ok(0);
     }
-    match places.find(cells, pin.cell, part.name().bytes()) {
+    match places.find(cells, pin.cell as usize, part.name().bytes()) {
         None => Ok(0),
         Some(_) => count_at(alloc, related, places, pin, known),
     }

@@ -12,7 +12,7 @@ use crate::related_pins::RelatedPins;
 use std::alloc::{AllocError, Global};
 
 /// Which of these pins, from the least on, are sinks: the pins one by one.
-fn found_by_pins(alloc: Global, pins: &[usize], places: &Places) -> Result<Vec<usize>, AllocError>
+fn found_by_pins(alloc: Global, pins: &[u32], places: &Places) -> Result<Vec<usize>, AllocError>
     ensures { IfOk result (λ v. v.items ≡ places_of (is_sink places.now.at.items) 0 pins.now) }
 {
     let mut found = Vec::new(alloc);
@@ -25,7 +25,7 @@ fn found_by_pins(alloc: Global, pins: &[usize], places: &Places) -> Result<Vec<u
 }
 
 /// Which of these pins, from the least on, are sinks: the sinks one by one.
-fn found_by_sinks(alloc: Global, pins: &[usize], places: &Places) -> Result<Vec<usize>, AllocError>
+fn found_by_sinks(alloc: Global, pins: &[u32], places: &Places) -> Result<Vec<usize>, AllocError>
     requires rising { IsStrictlyIncreasing pins.now }
     requires listed { AreListed places.now }
     ensures { IfOk result (λ v. v.items ≡ places_of (is_sink places.now.at.items) 0 pins.now) }
@@ -43,7 +43,7 @@ fn found_by_sinks(alloc: Global, pins: &[usize], places: &Places) -> Result<Vec<
 
 /// Which of these pins, from the least on, are sinks. Takes time in proportion to the pins or to the sinks, whichever
 /// are fewer.
-fn found(alloc: Global, pins: &[usize], places: &Places) -> Result<Vec<usize>, AllocError>
+fn found(alloc: Global, pins: &[u32], places: &Places) -> Result<Vec<usize>, AllocError>
     requires rising { IsStrictlyIncreasing pins.now }
     requires listed { AreListed places.now }
     ensures { IfOk result (λ v. v.items ≡ places_of (is_sink places.now.at.items) 0 pins.now) }
@@ -115,7 +115,7 @@ impl<'a> PinGroup<'a> {
         let found = found(alloc, &self.pins, places)?;
         let mut order = Vec::new(alloc);
         for at in found.as_slice() {
-            order.extend_from_slice(self.counts[*at].places.as_slice())?;
+            self.counts[*at].places.add_to(&mut order)?;
         }
         order.sort_unstable();
         order.dedup();

@@ -19,18 +19,38 @@ use verilog_net::{Instance, Name, Wire};
 #[derive(Clone, Copy, Debug, PartialEq, Eq)]
 pub struct PinOn {
     pub instance: u32,
-    pub cell: usize,
-    pub pin: usize,
+    pub cell: u32,
+    pub pin: u32,
     pub net: u32,
 }
 
 impl PinOn {
+    /// A pin by these numbers. Places that do not fit 32 bits are out of memory.
+    fn new(instance: u32, cell: usize, pin: usize, net: u32) -> Result<PinOn, AllocError>
+        ensures { IfOk result (λ p. p ≡ record { instance = instance; cell = cell; pin = pin; net = net }) }
+    {
+        let Ok(cell) = u32::try_from(cell) else {
+            return Err(AllocError);
+        };
+        let Ok(pin) = u32::try_from(pin) else {
+            return Err(AllocError);
+        };
+        Ok(PinOn {
+            instance,
+            cell,
+            pin,
+            net,
+        })
+    }
+
     /// The pin of the library.
     pub fn of<'a>(self, cells: &CellIndex<'a>) -> &'a Pin
         requires { IsSome (pin_at cells.now self) }
         ensures { pin_at cells.now self ≡ Some result.now }
     {
-        &cells.library().cells.as_slice()[self.cell].pins.as_slice()[self.pin]
+        &cells.library().cells.as_slice()[self.cell as usize]
+            .pins
+            .as_slice()[self.pin as usize]
     }
 
     /// Whether it is an input pin.
@@ -78,12 +98,7 @@ fn add_pin<'a>(
 {
     if let Some(place) = cells.pin(cell, pin.0.bytes()) {
         if let Some(net) = nets.net_of(pin.1) {
-            pins.push(PinOn {
-                instance: number,
-                cell,
-                pin: place,
-                net,
-            })?;
+            pins.push(PinOn::new(number, cell, place, net)?)?;
         }
     }
     Ok(())

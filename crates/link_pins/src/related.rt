@@ -15,26 +15,26 @@ use crate::arcs::arcs_each;
 use crate::checks::side_of;
 use crate::counts::plus;
 use crate::pins::PinOn;
+use crate::place_list::PlaceList;
 use crate::related_pins::RelatedPins;
 use liberty_cells::{CellPins, Pin, Role, Timing};
 use link_index::CellIndex;
-use smallvec::SmallVec;
 use std::alloc::{AllocError, Global};
 
 /// A timing group with the place in the cell of a pin that it is related to.
 #[derive(Clone, Copy)]
 pub struct RelatedPin<'a> {
     pub timing: &'a Timing,
-    pub pin: usize,
+    pub pin: u32,
 }
 
 /// How many arcs or check points there are from the pin at a place, however often it is related, and its places among
-/// the related pins. Up to four places take no other memory.
+/// the related pins.
 #[derive(Drop)]
 pub struct PinCount {
-    pub pin: usize,
+    pub pin: u32,
     pub count: u64,
-    pub places: SmallVec<u32, 4>,
+    pub places: PlaceList,
 }
 
 /// What the pins of one group of the text have in common: their related pins in order, each of these pins once by its
@@ -42,7 +42,7 @@ pub struct PinCount {
 #[derive(Drop)]
 pub struct PinGroup<'a> {
     pub related: RelatedPins<'a>,
-    pub pins: Vec<usize>,
+    pub pins: Vec<u32>,
     pub counts: Vec<PinCount>,
 }
 
@@ -50,7 +50,7 @@ pub struct PinGroup<'a> {
 #[derive(Drop)]
 pub struct CellGroups<'a> {
     pub groups: Vec<PinGroup<'a>>,
-    pub of: Vec<usize>,
+    pub of: Vec<u32>,
 }
 
 /// The groups of pins of all cells.
@@ -120,7 +120,7 @@ fn related_pins<'a>(
 }
 
 /// The places in the cell of related pins, each once, from the least on.
-fn pins_of(alloc: Global, related: &RelatedPins<'_>) -> Result<Vec<usize>, AllocError>
+fn pins_of(alloc: Global, related: &RelatedPins<'_>) -> Result<Vec<u32>, AllocError>
     ensures rising { IfOk result (λ v. IsStrictlyIncreasing v.items) }
     ensures all { IfOk result (λ v. All (λ r. Contains v.items r.1) related.now.items) }
 {
@@ -135,7 +135,7 @@ fn pins_of(alloc: Global, related: &RelatedPins<'_>) -> Result<Vec<usize>, Alloc
 }
 
 /// A count of nothing for each of these pins.
-fn no_counts(alloc: Global, pins: &[usize]) -> Result<Vec<PinCount>, AllocError>
+fn no_counts(alloc: Global, pins: &[u32]) -> Result<Vec<PinCount>, AllocError>
     ensures pins { IfOk result (λ v. ArePinsOf v.items pins.now) }
     ensures none { IfOk result (λ v. All IsUncounted v.items) }
 {
@@ -144,7 +144,7 @@ fn no_counts(alloc: Global, pins: &[usize]) -> Result<Vec<PinCount>, AllocError>
         counts.push(PinCount {
             pin: *pin,
             count: 0,
-            places: SmallVec::new(alloc),
+            places: PlaceList::none(),
         })?;
     }
     Ok(counts)
@@ -153,25 +153,26 @@ fn no_counts(alloc: Global, pins: &[usize]) -> Result<Vec<PinCount>, AllocError>
 impl PinCount {
     /// Counts a related pin at this place, and how many arcs or check points there are from it. A sum that does not
     /// fit 64 bits is out of memory.
-    fn add(&mut self, count: u128, place: u32) -> Result<(), AllocError>
+    fn add(&mut self, alloc: Global, count: u128, place: u32) -> Result<(), AllocError>
         ensures pin { OnOk result (self.new.pin ≡ self.old.pin) }
         ensures count { OnOk result (self.new.count ≡ self.old.count + count) }
-        ensures places { OnOk result (self.new.places.items ≡ self.old.places.items ++ place ∷ []) }
+        ensures places { OnOk result (self.new.places ≡ self.old.places ++ place ∷ []) }
     {
         let Ok(sum) = u64::try_from(plus(u128::from(self.count), count)?) else {
             return Err(AllocError);
         };
         self.count = sum;
-        self.places.push(place)?;
+        self.places.push(alloc, place)?;
         Ok(())
     }
 }
 
 /// Counts related pins, by their places among these pins. There is no memory for 2^32 of them.
 fn count_pins(
+    alloc: Global,
     role: Role,
     related: &RelatedPins<'_>,
-    pins: &[usize],
+    pins: &[u32],
     counts: &mut [PinCount],
 ) -> Result<(), AllocError>
     requires rising { IsStrictlyIncreasing pins.now }
@@ -188,7 +189,7 @@ fn count_pins(
         let Ok(at) = pins.binary_search(&one.pin) else {
             unreachable!()
         };
-        counts[at].add(effect(role, one.timing), place)?;
+        counts[at].add(alloc, effect(role, one.timing), place)?;
     }
     Ok(())
 }
@@ -207,7 +208,7 @@ impl<'a> PinGroup<'a> {
         let related = related_pins(alloc, cells, cell, part)?;
         let pins = pins_of(alloc, &related)?;
         let mut counts = no_counts(alloc, &pins)?;
-        count_pins(part.role(), &related, &pins, &mut counts)?;
+        count_pins(alloc, part.role(), &related, &pins, &mut counts)?;
         Ok(PinGroup {
             related,
             pins,
@@ -216,9 +217,20 @@ impl<'a> PinGroup<'a> {
     }
 }
 
+/// How many groups of the text the pins of a cell are of.
+fn group_count(pins: &CellPins) -> usize {
+    let mut count = 0;
+    for place in 0..pins.len() {
+        if pins.first(place) == place {
+            count += 1;
+        }
+    }
+    count
+}
+
 impl<'a> CellGroups<'a> {
     /// Adds the pin at a place, which comes after all that are there: with the group of the first pin of its group of
-    /// the text, or with one of its own.
+    /// the text, or with one of its own. There is no memory for 2^32 groups.
     fn add(
         &mut self,
         alloc: Global,
@@ -242,6 +254,9 @@ impl<'a> CellGroups<'a> {
             return Ok(());
         }
         let number = self.groups.len();
+        let Ok(number) = u32::try_from(number) else {
+            return Err(AllocError);
+        };
         let group = PinGroup::of(alloc, cells, cell, &pins.as_slice()[place])?;
         self.groups.push(group)?;
         self.of.push(number)?;
@@ -259,14 +274,11 @@ impl<'a> CellGroups<'a> {
     {
         let pins = &cells.library().cells.as_slice()[cell].pins;
         let of = Vec::with_capacity(alloc, pins.len())?;
-        let mut groups = CellGroups {
-            groups: Vec::new(alloc),
-            of,
-        };
+        let rows = Vec::with_capacity(alloc, group_count(pins))?;
+        let mut groups = CellGroups { groups: rows, of };
         for place in 0..pins.len() {
             groups.add(alloc, cells, cell, pins, place)?;
         }
-        groups.groups.shrink_to_fit();
         Ok(groups)
     }
 }
@@ -290,7 +302,7 @@ impl<'a> Related<'a> {
         requires { IsSome (group_at self.now.cells.items pin) }
         ensures { number_at self.now.cells.items pin ≡ Some result }
     {
-        self.cells[pin.cell].of[pin.pin]
+        self.cells[pin.cell as usize].of[pin.pin as usize] as usize
     }
 
     /// The group of a pin.
@@ -298,7 +310,7 @@ impl<'a> Related<'a> {
         requires { IsSome (group_at self.now.cells.items pin) }
         ensures { group_at self.now.cells.items pin ≡ Some result.now }
     {
-        let cell = &self.cells[pin.cell];
-        &cell.groups[cell.of[pin.pin]]
+        let cell = &self.cells[pin.cell as usize];
+        &cell.groups[cell.of[pin.pin as usize] as usize]
     }
 }

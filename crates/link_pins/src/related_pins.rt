@@ -68,7 +68,7 @@ impl<'a> RelatedPins<'a> {
         let timings = self.timings;
         RelatedPin {
             timing: &timings[one.timing as usize],
-            pin: one.pin as usize,
+            pin: one.pin,
         }
     }
 

@@ -85,7 +85,7 @@ fn find_sinks<'a>(
 {
     let number = related.number(pin);
     let from = places.from();
-    let cell = pin.cell;
+    let cell = pin.cell as usize;
     if known.get(number, cell, from).is_none() {
         let value = related.group(pin).sinks(alloc, places)?;
         known.put(number, KnownAt { from, cell, value })?;
@@ -150,7 +150,7 @@ impl Timings {
             (AreRight (AreSinksOf places.now.at.items) related.now.cells.items places.now.from known.new.of.items) }
     {
         find_sinks(alloc, related, places, pin, known)?;
-        match known.get(related.number(pin), pin.cell, places.from()) {
+        match known.get(related.number(pin), pin.cell as usize, places.from()) {
             Some(sinks) => self.add_found(alloc, cells, nets, sinks, places, pin),
             None => unreachable!(),
         }

@@ -39,5 +39,5 @@ loop-place-preserved c =
     count_next c.args.role (take place related) (take (place + 1) related) r push c.args.pins.now c.loop-place.counts _ at u.0 c.add.new.self u.1 u.2 refl
     (c.in_ok-add.ensures.pin ∙ ap (λ (x : PinCount). x.pin) same)
     (c.in_ok-add.ensures.count ∙ (ap (λ (x : PinCount). x.count + c.effect.result) same ∙ ap (λ n. u.0.count + n) c.effect.ensures))
-    (c.in_ok-add.ensures.places ∙ (ap (λ (x : PinCount). x.places.items ++ place ∷ []) same ∙ ap (λ n. u.0.places.items ++ n ∷ []) (sym long)))
+    (c.in_ok-add.ensures.places ∙ (ap (λ (x : PinCount). x.places ++ place ∷ []) same ∙ ap (λ n. u.0.places ++ n ∷ []) (sym long)))
     c.loop-place.invariant

@@ -1,4 +1,4 @@
-use Rattle.std.proofs.Common.{◌≡◌, ◌∙◌, List, length, Some, ◌++◌, ◌∷◌, [], refl, sym, ap, subst, arith}
+use Rattle.std.proofs.Common.{rules, ◌≡◌, ◌∙◌, List, length, Some, ◌++◌, ◌∷◌, [], refl, sym, ap, subst, arith}
 use Rattle.std.specs.List.{slice_get}
 use Rattle.std.proofs.lemmas.List.{length_push}
 use Rattle.std.proofs.lemmas.Option.{slice_get_read}
@@ -16,12 +16,13 @@ returns-then-first-place-clause-groups c = λ x there same are.
     (subst (λ (l : List PinParts). IsFirst l c.args.place first) same c.first-first.ensures) here refl c.in_ok-push.ensures.items
 
 pub returns-clause-count : goal.returns-clause-count
-returns-clause-count c = omega (arith, ap length c.in_ok-push-3.ensures.items, length_push c.args.self.now.of.items c.len-number.result, c.requires.count)
+returns-clause-count c = omega (arith, ap length c.in_ok-push-3.ensures.items, length_push c.args.self.now.of.items c.in-Ok.number, c.requires.count)
 
 pub returns-clause-groups : goal.returns-clause-groups
 returns-clause-groups c = λ x there same are.
     let here : slice_get c.args.pins.now c.args.place ≡ Some c.index-as_slice-place.result =
     read_there c.args.pins.now c.args.place _ _ c.requires.place (rw c.as_slice.ensures at c.index-as_slice-place.is) in
-    let count : c.len-number.result ≡ length c.args.self.now.groups.items = omega (arith, c.len-number.ensures, c.args.self.now.groups.ok.0) in
+    let fits : c.in-Ok.number ≡ c.len-number.result = search rules in
+    let count : c.in-Ok.number ≡ length c.args.self.now.groups.items = omega (arith, fits, c.len-number.ensures, c.args.self.now.groups.ok.0) in
     own_group x c.args.self.now _ are c.args.place c.requires.count c.index-as_slice-place.result _ (ap (λ (l : List PinParts). slice_get l c.args.place) (sym same) ∙ here)
     (c.in_ok-group.ensures x there) c.in_ok-push-2.ensures.items (c.in_ok-push-3.ensures.items ∙ ap (λ n. c.args.self.now.of.items ++ n ∷ []) count)

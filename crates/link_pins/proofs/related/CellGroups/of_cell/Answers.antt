@@ -9,7 +9,7 @@ use Rattle.link_pins.proofs.related.CellGroups.of_cell.Goals as goal
 pub loop-place-init : goal.loop-place-init
 loop-place-init c = record {
   count = ap length c.in_ok-of.ensures.items;
-  groups = λ x there. no_groups x _ c.new.ensures.items c.in_ok-of.ensures.items;
+  groups = λ x there. no_groups x _ c.in_ok-rows.ensures.items c.in_ok-of.ensures.items;
 }
 
 pub loop-place-preserved : goal.loop-place-preserved
@@ -30,12 +30,7 @@ returns c = λ x there.
     let here : slice_get c.args.cells.now.cells c.args.cell ≡ Some c.index-as_slice-cell.result =
     read_there c.args.cells.now.cells c.args.cell _ _ c.requires (rw items at c.index-as_slice-cell.is) in
     let same = sym c.index-as_slice-cell.is ∙ same_Some c.index-as_slice-cell.result x (sym here ∙ there) in
-    let groups = c.loop-place.invariant.groups x there in
-    let kept : c.shrink_to_fit.new.self.items ≡ c.loop-place.groups.groups.items = c.shrink_to_fit.ensures.items in
     record {
       count = omega (arith, c.loop-place.invariant.count, c.loop-place-test.false, c.loop-place.auto.place-end, c.len-place-end.ensures, ap (λ (y : Cell). length y.pins) same);
-      groups = record {
-        within = λ k n at. rw kept (groups.within k n at);
-        each = λ k p n v here at group. groups.each k p n v here at (ap (λ l. slice_get l n) (sym kept) ∙ group);
-      };
+      groups = c.loop-place.invariant.groups x there;
     }

@@ -34,9 +34,8 @@ loop-at-preserved c =
     let has : Has (places_of g 0 v.pins.items) m = subst (λ l. Has l m) are (has_at js c.loop-at.at-index m (slice_get-get_or js c.loop-at.at-index 0 c.loop-at-test.true)) in
     let there : slice_get v.counts.items m ≡ Some c.index.result.now =
     read_there v.counts.items m _ c.index.result.now (found_within g v.related.items v.pins.items v.counts.items c.requires.indexed.placed m has) c.index.ensures in
-    let step : c.extend_from_slice.new.self.items ≡ cur ++ f m =
-    c.in_ok-extend_from_slice.ensures.items ∙ (ap (λ l. cur ++ l) c.as_slice.ensures ∙ ap (λ o. cur ++ places_by o) (sym there)) in
-    flat_more f js c.loop-at.at-index 0 [] cur c.extend_from_slice.new.self.items c.loop-at-test.true c.loop-at.invariant step
+    let step : c.add_to.new.places.items ≡ cur ++ f m = c.in_ok-add_to.ensures ∙ ap (λ o. cur ++ places_by o) (sym there) in
+    flat_more f js c.loop-at.at-index 0 [] cur c.add_to.new.places.items c.loop-at-test.true c.loop-at.invariant step
 
 pub returns : goal.returns
 returns c =
