@@ -1,6 +1,6 @@
 //! The nets of a design from their pins and their wires.
 
-ghost use Rattle.std.specs.Prelude.{◌≡◌, ◌<◌, ◌^◌, ◌∷◌, [], length, map, reverse, IfOk, MatchOption};
+ghost use Rattle.std.specs.Prelude.{◌≡◌, ◌<◌, ◌^◌, length, map, IfOk};
 ghost use Rattle.std.specs.List.{All};
 ghost use Rattle.xt_model.specs.Names.{IsName};
 ghost use Rattle.elmore_tree.specs.Sums.{IsSinkSums};
@@ -9,6 +9,7 @@ ghost use Rattle.link_rules.specs.Ends.{sink_name};
 ghost use Rattle.design_link.specs.Nets.{plain_sink, net_by, Fits, FitAll, IsMade, AreMade};
 
 use elmore_tree::{SinkForm, WireForm};
+use link_pins::take_last;
 use link_rules::{NetPins, Sink};
 use link_wires::{KeptWire, form};
 use std::alloc::{AllocError, Global};
@@ -96,18 +97,6 @@ fn net_of(alloc: Global, pins: NetPins, wire: KeptWire) -> Result<Net, AllocErro
     let form = form(alloc, &wire)?;
     let couplings = wire.into_couplings(alloc);
     formed_net(alloc, pins, couplings, form)
-}
-
-/// Takes out the last item. Where the list has much room to spare then, it gives that back.
-fn take_last<T: Drop>(items: &mut Vec<T>) -> Option<T>
-    ensures { MatchOption result (reverse items.old.items ≡ [])
-        (λ x. reverse items.old.items ≡ x ∷ reverse items.new.items) }
-{
-    let last = items.pop()?;
-    if items.len() < items.capacity() / 8 * 7 {
-        items.shrink_to_fit();
-    }
-    Some(last)
 }
 
 /// Nets by their pins with their wires, which are used up one by one: from the end of a list in reverse, so that the
