@@ -19,7 +19,9 @@ pub struct Guilt {
     pub slow: Mark,
 }
 
-/// The mark of an edge of a victim and an edge of an aggressor.
+/// The mark of an edge of a victim and an edge of an aggressor. Where the least windows overlap, the greatest are not
+/// looked at.
+#[inline(always)]
 fn mark(
     design: &Design,
     low: &Windows,
@@ -36,17 +38,21 @@ fn mark(
     ensures { result ≡ mark_of design.now low.now high.now victim.0 edge aggressor.0 aggressor_edge }
 {
     let period = design.period();
-    let least = overlap(
+    if overlap(
         &window_at(low, victim, edge),
         &window_at(low, aggressor, aggressor_edge),
         period,
-    );
-    let greatest = overlap(
+    ) {
+        return Mark::Sure;
+    }
+    if overlap(
         &window_at(high, victim, edge),
         &window_at(high, aggressor, aggressor_edge),
         period,
-    );
-    Mark::by(least, greatest)
+    ) {
+        return Mark::Possible;
+    }
+    Mark::No
 }
 
 impl Guilt {

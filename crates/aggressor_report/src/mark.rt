@@ -1,7 +1,7 @@
 //! Whether an aggressor can matter.
 
 ghost use Rattle.std.specs.Prelude.{◌≡◌};
-ghost use Rattle.aggressor_report.specs.Guilt.{is_no, mark_by};
+ghost use Rattle.aggressor_report.specs.Guilt.{is_no};
 
 /// Whether an aggressor can switch while a victim does: surely, by the least windows; possibly, by the
 /// greatest alone; or not at all.
@@ -13,19 +13,6 @@ pub enum Mark {
 }
 
 impl Mark {
-    /// The mark by whether the least windows overlap, and the greatest.
-    pub(crate) fn by(least: bool, greatest: bool) -> Mark
-        ensures { result ≡ mark_by least greatest }
-    {
-        if least {
-            Mark::Sure
-        } else if greatest {
-            Mark::Possible
-        } else {
-            Mark::No
-        }
-    }
-
     pub(crate) fn is_no(self) -> bool
         ensures { result ≡ is_no self }
     {
