@@ -1,17 +1,18 @@
 //! The lines of the nets.
 
-ghost use Rattle.std.specs.Prelude.{◌≡◌, ◌≤◌, ◌<◌, ◌^◌, List, ℕ, IfOk, OnOk, ◌++◌, ◌∷◌, [], None, codes, map};
+ghost use Rattle.std.specs.Prelude.{◌≡◌, ◌≤◌, ◌<◌, ◌^◌, List, ℕ, IfOk, OnOk, ◌++◌, ◌∷◌, ◌⊎◌, [], None, codes};
+ghost use Rattle.std.specs.Prelude.{length, map, take};
 ghost use Rattle.std.specs.Str.{bytes_eq};
 ghost use Rattle.linked_text.specs.EachLine.{head_in};
 ghost use Rattle.linked_text.specs.Fields.{fields_of};
 ghost use Rattle.linked_text.specs.Fits.{AreFew};
 ghost use Rattle.linked_text.specs.Gives.{Gives, LineGives};
-ghost use Rattle.linked_text.specs.Meaning.{head_at, heads_at, keeps, no_sums, sums_kept, sums_with};
+ghost use Rattle.linked_text.specs.Meaning.{head_at, heads_at, keeps, newlines, no_sums, sums_kept, sums_with};
 
 use crate::fault::{Fault, HOLDS, LineStop, NUMBERS, Stop, WORDS};
 use crate::field::{count, is_name, kind, quantity};
 use crate::head::{NetHead, Sums};
-use crate::line::{cut, seven};
+use crate::line::{cut_line, seven};
 use crate::read_line::refused;
 use name_numbers::{Names, TextKey};
 use std::alloc::{AllocError, Global};
@@ -128,7 +129,7 @@ fn head<'a>(
     ensures sums { IfOk result (λ x. x.1 ≡ sums_with sums.now x.0) }
     ensures few { IfOk result (λ x. AreFew x.1) }
 {
-    let Some((line, rest)) = cut(b'\n', bytes) else {
+    let Some((line, rest)) = cut_line(bytes) else {
         return Err(refused(bytes, Code::X1));
     };
     let head = match head_line(alloc, names, line) {
@@ -141,7 +142,26 @@ fn head<'a>(
     Ok((head, sums, rest))
 }
 
-/// The lines of `count` nets.
+/// The first `count` lines of these bytes, or all bytes where there are fewer.
+fn first_lines(count: u32, bytes: &[u8]) -> &[u8]
+    ensures front { result.now ≡ take (length result.now) bytes.now }
+    ensures lines { (result.now ≡ bytes.now) ⊎ (count ≤ newlines result.now) }
+{
+    let mut rest = bytes;
+    let mut left = count;
+    'lines: while left > 0 {
+        left -= 1;
+        let Some((_, after)) = cut_line(rest) else {
+            return bytes;
+        };
+        rest = after;
+    }
+    let (lines, _) = bytes.split_at(bytes.len() - rest.len());
+    lines
+}
+
+/// The lines of `count` nets. Their names are hashed under a key that depends on every byte of these lines, and so on
+/// every name.
 pub fn heads<'a>(
     alloc: Global,
     count: u32,
@@ -149,7 +169,7 @@ pub fn heads<'a>(
 ) -> Result<(Vec<NetHead>, &'a [u8]), Stop>
     ensures { Gives (λ x. (x.0.items, x.1.now)) result (heads_at count [] no_sums bytes.entry.now) }
 {
-    let mut names = Names::new(alloc, TextKey::of(bytes));
+    let mut names = Names::new(alloc, TextKey::of(first_lines(count, bytes)));
     let mut sums = Sums {
         couplings: 0,
         coefficients: 0,

@@ -15,6 +15,7 @@ mod line;
 mod net_lines;
 mod parts;
 mod read_line;
+mod scan;
 mod table_lines;
 mod tables;
 mod write;

@@ -1,36 +1,39 @@
 //! Lines and their fields.
 
-ghost use Rattle.std.specs.Prelude.{◌≡◌, ◌==◌, ◌+◌, ◌<◌, ◌≤◌, [], ◌∷◌, List, ℕ, length, IfSome, MatchOption, position};
-ghost use Rattle.std.specs.List.{count_by};
+ghost use Rattle.std.specs.Prelude.{◌≡◌, ◌==◌, ◌+◌, ◌<◌, [], ◌∷◌, List, ℕ, length, take, drop, MatchOption};
 ghost use Rattle.linked_text.specs.Fields.{Finds, cut_at, fields_of, five, four, nine, one, seven, three, two};
 
+use crate::scan::{count_of, first, first_near};
 use std::marker::Model;
 
-/// The place of the first `mark`.
-fn first(mark: u8, bytes: &[u8]) -> Option<usize>
-    ensures value { result ≡ position (λ b. b == mark) bytes.now }
-    ensures within { IfSome result (λ i. i < length bytes.now) }
+/// The bytes before place `at`, and those after it.
+#[inline(always)]
+fn parted(at: usize, bytes: &[u8]) -> (&[u8], &[u8])
+    requires { at < length bytes.now }
+    ensures before { result.0.now ≡ take at bytes.now }
+    ensures after { result.1.now ≡ drop (at + 1) bytes.now }
 {
-    bytes.iter().position(|b| *b == mark)
+    let (before, _) = bytes.split_at(at);
+    let (_, after) = bytes.split_at(at + 1);
+    (before, after)
 }
 
-/// The bytes before the first `mark`, and those after it.
+/// The first line of these bytes, and those after it.
 #[tactic(auto, unfolding(crate::specs::Fields::cut_at))]
-pub fn cut(mark: u8, bytes: &[u8]) -> Option<(&[u8], &[u8])>
-    ensures { Finds (λ x. (x.0.now, x.1.now)) result (cut_at mark bytes.now) }
+pub fn cut_line(bytes: &[u8]) -> Option<(&[u8], &[u8])>
+    ensures { Finds (λ x. (x.0.now, x.1.now)) result (cut_at 10 bytes.now) }
 {
-    let at = first(mark, bytes)?;
-    let (field, _) = bytes.split_at(at);
-    let (_, rest) = bytes.split_at(at + 1);
-    Some((field, rest))
+    let at = first(b'\n', bytes)?;
+    Some(parted(at, bytes))
 }
 
-/// How many spaces there are.
-fn spaces(bytes: &[u8]) -> usize
-    ensures value { result ≡ count_by (λ b. b == 32) bytes.now }
-    ensures within { result ≤ length bytes.now }
+/// The first field of these bytes, which more fields follow, and those after it.
+#[tactic(auto, unfolding(crate::specs::Fields::cut_at))]
+fn cut_field(bytes: &[u8]) -> Option<(&[u8], &[u8])>
+    ensures { Finds (λ x. (x.0.now, x.1.now)) result (cut_at 32 bytes.now) }
 {
-    bytes.iter().filter(|b| **b == b' ').count()
+    let at = first_near(b' ', bytes)?;
+    Some(parted(at, bytes))
 }
 
 /// The fields of a line that are still to come, which contracts see as their list.
@@ -67,7 +70,7 @@ impl<'a> Fields<'a> {
         if !self.more {
             return None;
         }
-        match cut(b' ', self.rest) {
+        match cut_field(self.rest) {
             Some((field, rest)) => {
                 self.rest = rest;
                 Some(field)
@@ -104,7 +107,7 @@ impl<'a> Fields<'a> {
         if !self.more {
             return 0;
         }
-        spaces(self.rest) + 1
+        count_of(b' ', self.rest) + 1
     }
 }
 

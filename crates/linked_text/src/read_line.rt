@@ -11,7 +11,8 @@ ghost use Rattle.linked_text.specs.Gives.{Gives, LineGives};
 ghost use Rattle.linked_text.specs.Meaning.{Read, line_at, many_at, newlines};
 
 use crate::fault::{Fault, LineStop, NUMBERS, Stop};
-use crate::line::{Fields, cut};
+use crate::line::{Fields, cut_line};
+use crate::scan::count_of;
 use std::alloc::Global;
 use xt_model::Code;
 
@@ -61,7 +62,7 @@ pub fn newlines(bytes: &[u8]) -> usize
     ensures value { result ≡ newlines bytes.now }
     ensures within { result ≤ length bytes.now }
 {
-    bytes.iter().filter(|b| **b == b'\n').count()
+    count_of(b'\n', bytes)
 }
 
 /// The refusal of the line that these bytes begin with.
@@ -83,7 +84,7 @@ pub fn read_line<'a, R: LineReader>(
 ) -> Result<(R::Value, &'a [u8]), Stop>
     ensures { Gives (λ x. (x.0, x.1.now)) result (line_at (R.of reader.now) bytes.now) }
 {
-    let Some((line, rest)) = cut(b'\n', bytes) else {
+    let Some((line, rest)) = cut_line(bytes) else {
         return Err(refused(bytes, Code::X1));
     };
     match reader.read(alloc, line) {

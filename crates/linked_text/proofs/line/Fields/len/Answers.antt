@@ -4,5 +4,5 @@ use Rattle.linked_text.proofs.line.Fields.len.Goals as goal
 
 pub returns : goal.returns
 returns c =
-    rw c.spaces.ensures.value
+    rw c.count_of.ensures.value
     (sym (count_left c.args.self.now c.self.inside.more c.self.inside.rest.now c.self.view_is c.if-not-self.false))
