@@ -11,10 +11,10 @@ use Rattle.link_wires.specs.Wires.{AreWires}
 use Rattle.design_link.specs.declared.gathering.Gathered.{Gathered}
 
 -- nothing is refused up to the wires, and there are the nets by their pins without arcs and the wires
-pub record IsWired (x : Inputs) (j : Joined) (wires : List NetWire) : Type 0 where
+pub record IsWired (x : Inputs) (j : Joined) (ws : List NetWire) : Type 0 where
   pub accepted : HasAcceptedPins x
   pub joined : IsJoined x.library x.netlist x.constraints j
-  pub wires : AreWires x.netlist x.parasitics (enumerate_from 0 j.nets.items) wires
+  pub wires : AreWires x.netlist x.parasitics (enumerate_from 0 j.nets.items) ws
 
 -- nothing is refused up to the sizes, and what is gathered are the nets by their pins, the check points and the wires
 pub record IsGathered (x : Inputs) (g : Gathered) : Type 0 where

@@ -77,13 +77,13 @@ fn gather_by<'a>(
     requires counts { count_fault index ≡ None }
     ensures ok { IfOk result (IsGathered (record {
       library = cells.now;
-      netlist = index;
+      netlist = index.entry;
       parasitics = parasitics.now;
       constraints = constraints.now;
     })) }
     ensures fault { IfErr result (λ f. Links (record {
       library = cells.now;
-      netlist = index;
+      netlist = index.entry;
       parasitics = parasitics.now;
       constraints = constraints.now;
     }) (Err f)) }
