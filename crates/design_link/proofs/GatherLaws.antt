@@ -8,13 +8,16 @@ use Rattle.xt_model.specs.declared.fault.LimitKind.TheVariants as limits
 use Rattle.xt_model.specs.Limits.{most_tables, most_checks, most_couplings, most_coefficients, most_arcs}
 use Rattle.xt_model.specs.Parts.{Parts}
 use Rattle.xt_model.specs.Sound.{coefficients_of}
+use Rattle.liberty_cells.specs.declared.library.Library.{Library}
 use Rattle.verilog_net.specs.declared.netlist.Netlist.{Netlist}
 use Rattle.spef_read.specs.declared.parasitics.Parasitics.{Parasitics}
+use Rattle.sdc_read.specs.declared.constraints.Constraints.{Constraints}
 use Rattle.link_rules.specs.declared.circuit.NetPins.{NetPins}
 use Rattle.link_rules.specs.declared.circuit.Circuit.{Circuit}
 use Rattle.link_rules.specs.declared.fault.LinkFault.{LinkFault}
 use Rattle.link_rules.specs.Bare.{Inputs, bare_parts}
 use Rattle.link_rules.specs.Bare as bare
+use Rattle.link_rules.specs.Circuit.{circuit_of}
 use Rattle.link_rules.specs.Limits.{or_fault, passed, count_fault, size_fault}
 use Rattle.link_rules.specs.Link.{Links, HasAcceptedPins, HasAcceptedWires}
 use Rattle.link_rules.specs.Refusals.{instance_fault, driver_fault, IsAcceptedWire}
@@ -49,6 +52,11 @@ module _ (netlist : Netlist) (parasitics : Parasitics) where
 -- nothing is refused up to the pins of nets
 pub pins_accepted : (x : Inputs) → count_fault x.netlist ≡ None → instance_fault x.library x.netlist ≡ None → driver_fault x.library x.netlist ≡ None → HasAcceptedPins x
 pins_accepted x counts instances drivers = record { counts = counts; instances = instances; drivers = drivers }
+
+-- what is told of the circuit by bits of a netlist is told by the netlist
+pub told_at : (library : Library) (n m : Netlist) (given : Constraints) (j : Joined) (P : Circuit → Type 0) → n ≡ m
+    → ((s : Constraints) → IsJoined library n s j → P (circuit_of library n s)) → IsJoined library m given j → P (circuit_of library m given)
+told_at library n m given j P e told joined = subst (λ k. IsJoined library k given j → P (circuit_of library k given)) e (told given) joined
 
 bare_quantities : (ps : List NetPins) → AllByRecursion HasSinkQuantities ps → AllByRecursion HasSinkQuantities (map without_arcs ps)
 bare_quantities [] all = tt
