@@ -16,20 +16,16 @@ use Rattle.dirty_run.specs.declared.notes.Recalled.{Recalled}
 abbrev pub words_from : List (List NetId) → ℕ → ℕ → List ℕ → List ℕ
 words_from lists net from numbers = take (8 * length (list_of lists net)) (drop from numbers)
 
--- a note of net number `net`: its numbers are from this place on among the first `used` of several
-pub record IsNote (d : Parts) (lists : List (List NetId)) (numbers : List ℕ) (used net from : ℕ) (pair : Pair)
-    : Type 0 where
-  pub inside : from + 8 * length (list_of lists net) ≤ used
+-- a note of net number `net`: its numbers are from this place on among several
+pub record IsNote (d : Parts) (lists : List (List NetId)) (numbers : List ℕ) (net from : ℕ) (pair : Pair) : Type 0 where
+  pub inside : from + 8 * length (list_of lists net) ≤ length numbers
   pub loaded : IsLoaded d (list_of lists net) net (words_from lists net from numbers)
   pub value : pair ≡ evaluated d (list_of lists net) (words_from lists net from numbers) net
   pub range : IsPairInRange pair
 
--- notes of a worker, after the numbers of which there is room for the words of each read list
-pub record AreNotes (d : Parts) (lists : List (List NetId)) (notes : Notes) : Type 0 where
-  pub most : (net : ℕ) → 8 * length (list_of lists net) ≤ notes.most
-  pub room : notes.used + notes.most ≤ length notes.numbers.items
-  pub noted : All (λ (e : Note). IsNote d lists notes.numbers.items notes.used e.net.0 e.from e.pair)
-      notes.entries.items
+-- notes of a worker
+abbrev pub AreNotes : Parts → List (List NetId) → Notes → Type 0
+AreNotes d lists notes = All (λ (e : Note). IsNote d lists notes.numbers.items e.net.0 e.from e.pair) notes.entries.items
 
 -- numbers that were loaded for the read list of a net, and what the operator makes of the net of them
 pub record IsRecalled (d : Parts) (lists : List (List NetId)) (net : ℕ) (recalled : Recalled) : Type 0 where

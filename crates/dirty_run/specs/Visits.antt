@@ -38,8 +38,9 @@ pub record IsRun (board : DirtyId) (d : Parts) (groups : List ℕ) (lists reader
 abbrev pub first_words : List (List NetId) → ℕ → List ℕ → List ℕ
 first_words lists net numbers = take (8 * length (list_of lists net)) numbers
 
--- room for the words of each read list after what is noted, and a place for each net
+-- room for the words of each read list, a place for each net, and notes
 pub record HasRoom (d : Parts) (lists : List (List NetId)) (worker : Worker) : Type 0 where
+  pub room : (net : ℕ) → 8 * length (list_of lists net) ≤ length worker.loaded.items
   pub notes : AreNotes d lists worker.notes
   pub places : length lists ≤ length worker.places.items
 

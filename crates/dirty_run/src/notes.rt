@@ -1,12 +1,12 @@
 //! What a worker notes of its evaluations in a round, and what was noted in the round before.
 
-ghost use Rattle.std.specs.Prelude.{◌≡◌, ◌<◌, ◌≤◌, List, length, IfOk, IfSome};
+ghost use Rattle.std.specs.Prelude.{◌≡◌, ◌<◌, List, [], length, IfOk, IfSome};
 ghost use Rattle.std.specs.List.{All};
 ghost use Rattle.xt_model.specs.Parts.{Parts};
 ghost use Rattle.xt_model.specs.Quads.{IsPairInRange};
 ghost use Rattle.chaos_core.specs.Tasks.{list_of, evaluated};
 ghost use Rattle.chaos_core.specs.Views.{IsLoaded};
-ghost use Rattle.dirty_run.specs.Notes.{words_from, AreNotes, IsRecalled};
+ghost use Rattle.dirty_run.specs.Notes.{AreNotes, IsRecalled};
 
 use crate::worker::Run;
 use net_eval::ReadLists;
@@ -14,8 +14,19 @@ use std::alloc::Global;
 use std::mem;
 use xt_model::{Design, NetId, NoMemory, Pair};
 
-/// How many numbers the workers of a round note at most, for each net of the design: those of three nets and a half.
-const NUMBERS: usize = 28;
+/// How many numbers all workers have room to note in a round, for each net of the design: those of eight nets, twice,
+/// since they need not share evenly.
+const NUMBERS: usize = 128;
+
+/// Room for several items, or for none where there is no memory for these.
+fn room_for<T>(alloc: Global, count: usize) -> Vec<T>
+    ensures { result.items ≡ [] }
+{
+    match Vec::with_capacity(alloc, count) {
+        Ok(room) => room,
+        Err(_) => Vec::new(alloc),
+    }
+}
 
 /// An evaluation of a net: from which place on the numbers are that were loaded for its read list, and what the
 /// operator made of these.
@@ -26,13 +37,11 @@ pub(crate) struct Note {
     pair: Pair,
 }
 
-/// What a worker noted in a round: its evaluations, and the numbers that it loaded for these, one after another. After
-/// those that are used there is room for `most` numbers, as many as the words of the longest read list.
+/// What a worker noted in a round: its evaluations, and the numbers that it loaded for these, one after another. It has
+/// room for twice its share of the nets; what of that room is not written to takes no memory of the machine.
 #[derive(Drop)]
 pub(crate) struct Notes {
-    pub(crate) numbers: Vec<u64>,
-    pub(crate) used: usize,
-    most: usize,
+    numbers: Vec<u64>,
     entries: Vec<Note>,
 }
 
@@ -44,64 +53,47 @@ pub(crate) struct Recalled<'a> {
 }
 
 impl Notes {
-    /// Nothing is noted yet. There is room for a share of the notes of a round by this many workers: they note at most
-    /// half of the nets, and [`NUMBERS`] numbers a net of the design.
-    pub(crate) fn new(
-        alloc: Global,
-        design: &Design,
-        lists: &ReadLists,
-        workers: u32,
-    ) -> Result<Notes, NoMemory>
-        ensures { IfOk result (AreNotes design.now lists.now) }
+    /// Nothing is noted yet by one of this many workers. Where there is no memory for notes, none is made later.
+    pub(crate) fn new(alloc: Global, design: &Design, workers: u32) -> Notes
+        ensures { result.entries.items ≡ [] }
     {
-        let shares = (workers as usize).max(1);
         let nets = design.nets().len();
-        let Some(most) = lists.longest().checked_mul(8) else {
-            return Err(NoMemory);
-        };
-        let Some(room) = most.checked_add(NUMBERS * nets / shares) else {
-            return Err(NoMemory);
-        };
-        let numbers = vec![in alloc; 0; room]?;
-        let entries = Vec::with_capacity(alloc, nets / 2 / shares)?;
-        Ok(Notes {
-            numbers,
-            used: 0,
-            most,
-            entries,
-        })
+        let shares = (workers as usize).max(1);
+        let numbers = room_for(alloc, NUMBERS * nets / shares);
+        let entries = room_for(alloc, 2 * nets / shares);
+        Notes { numbers, entries }
     }
 
     /// Forgets all notes.
     fn clear(&mut self)
-        ensures { (d : Parts) (lists : List (List NetId)) → AreNotes d lists self.old → AreNotes d lists self.new }
+        ensures { self.new.entries.items ≡ [] }
     {
         self.entries.clear();
-        self.used = 0;
+        self.numbers.clear();
     }
 
-    /// Notes an evaluation of the numbers that were loaded after those that are used, where it finds room for it and
-    /// for what is loaded next.
-    pub(crate) fn note<G>(&mut self, run: &Run<'_, G>, net: NetId, pair: &Pair)
-        requires notes { AreNotes run.now.design.now run.now.lists.now self.old }
-        requires there { net.0 < length run.now.lists.now }
-        requires loaded { let numbers = words_from run.now.lists.now net.0 self.old.used self.old.numbers.items in
-            IsLoaded run.now.design.now (list_of run.now.lists.now net.0) net.0 numbers }
-        requires value { let numbers = words_from run.now.lists.now net.0 self.old.used self.old.numbers.items in
-            pair.now ≡ evaluated run.now.design.now (list_of run.now.lists.now net.0) numbers net.0 }
+    /// Notes an evaluation of numbers that were loaded for a net's read list, where there is room for it.
+    pub(crate) fn note(&mut self, net: NetId, loaded: &[u64], pair: &Pair)
         requires range { IsPairInRange pair.now }
-        ensures { AreNotes run.now.design.now run.now.lists.now self.new }
+        ensures { (d : Parts) (lists : List (List NetId)) → AreNotes d lists self.old
+            → IsLoaded d (list_of lists net.0) net.0 loaded.now
+            → pair.now ≡ evaluated d (list_of lists net.0) loaded.now net.0
+            → AreNotes d lists self.new }
     {
-        let used = self.used + 8 * run.lists.of(net).len();
-        if self.numbers.len() - used < self.most || self.entries.len() == self.entries.capacity() {
+        let from = self.numbers.len();
+        if self.numbers.capacity() - from < loaded.len()
+            || self.entries.len() == self.entries.capacity()
+        {
             return;
         }
+        let Ok(()) = self.numbers.extend_from_slice(loaded) else {
+            return;
+        };
         self.entries.push_reserved(Note {
             net,
-            from: self.used,
+            from,
             pair: *pair,
         });
-        self.used = used;
     }
 
     /// What a note says, where it is one of this net.
@@ -162,7 +154,7 @@ impl Before {
     {
         let mut notes = Vec::with_capacity(alloc, workers as usize)?;
         for _number in 0..workers {
-            notes.push(Notes::new(alloc, design, lists, workers)?)?;
+            notes.push(Notes::new(alloc, design, workers))?;
         }
         let first = Place {
             worker: 0,

@@ -19,7 +19,7 @@ ghost use Rattle.dirty_run.specs.Visits.{first_words, fresh_flight, HasEvaluated
 ghost use Rattle.dirty_run.specs.Visits.{HasPublished, HasRoom};
 ghost use Rattle.dirty_run.specs.Visits.{HasVisited, IsPublishing, IsReady, IsRun};
 
-use crate::notes::Before;
+use crate::notes::{Before, Notes};
 use crate::worker::{Run, Worker};
 use chaos_core::{evaluate_grouped, evaluate_noted, moves_down, number_in};
 use dirty_words::{DirtyBoard, DirtyPass};
@@ -55,29 +55,26 @@ fn load_all(
     }
 }
 
-/// What the operator makes of a net of the numbers loaded for its read list, with which these numbers begin: as noted
-/// in the round before, where what decides it is the same, and else by an evaluation.
-fn evaluate_loaded<G>(
+/// What the operator makes of a net of the numbers loaded for its read list: as noted in the round before, where what
+/// decides it is the same, and else by an evaluation.
+fn evaluate_recalled<G>(
     run: &Run<'_, G>,
     before: &Before,
     net: NetId,
-    loaded: &[u64],
+    numbers: &[u64],
     places: &mut [u32],
 ) -> Pair
     requires groups { AreGroups run.now.design.now.tables run.now.groups.now }
     requires before { All (AreNotes run.now.design.now run.now.lists.now) before.now.notes.items }
     requires there { net.0 < length run.now.lists.now }
-    requires loaded { let numbers = first_words run.now.lists.now net.0 loaded.now in
-        IsLoaded run.now.design.now (list_of run.now.lists.now net.0) net.0 numbers }
-    requires room { 8 * length (list_of run.now.lists.now net.0) ≤ length loaded.now }
+    requires loaded { IsLoaded run.now.design.now (list_of run.now.lists.now net.0) net.0 numbers.now }
     requires places { length run.now.design.now.nets ≤ length places.old }
-    ensures value { let numbers = first_words run.now.lists.now net.0 loaded.now in
-        result ≡ evaluated run.now.design.now (list_of run.now.lists.now net.0) numbers net.0 }
+    ensures value { result
+        ≡ evaluated run.now.design.now (list_of run.now.lists.now net.0) numbers.now net.0 }
     ensures range { IsPairInRange result }
     ensures count { length places.new ≡ length places.old }
 {
     let reads = run.lists.of(net);
-    let numbers = &loaded[..8 * reads.len()];
     let Some(noted) = before.recall(run, net) else {
         return evaluate_grouped(run.design, run.groups, reads, net, numbers, places);
     };
@@ -91,6 +88,32 @@ fn evaluate_loaded<G>(
         noted.numbers,
         noted.pair,
     )
+}
+
+/// The same, by a worker that notes its evaluations: it notes this one.
+fn evaluate_loaded<G>(
+    run: &Run<'_, G>,
+    before: &Before,
+    net: NetId,
+    numbers: &[u64],
+    places: &mut [u32],
+    notes: &mut Notes,
+) -> Pair
+    requires groups { AreGroups run.now.design.now.tables run.now.groups.now }
+    requires before { All (AreNotes run.now.design.now run.now.lists.now) before.now.notes.items }
+    requires there { net.0 < length run.now.lists.now }
+    requires loaded { IsLoaded run.now.design.now (list_of run.now.lists.now net.0) net.0 numbers.now }
+    requires places { length run.now.design.now.nets ≤ length places.old }
+    requires notes { AreNotes run.now.design.now run.now.lists.now notes.old }
+    ensures value { result
+        ≡ evaluated run.now.design.now (list_of run.now.lists.now net.0) numbers.now net.0 }
+    ensures range { IsPairInRange result }
+    ensures count { length places.new ≡ length places.old }
+    ensures notes { AreNotes run.now.design.now run.now.lists.now notes.new }
+{
+    let pair = evaluate_recalled(run, before, net, numbers, places);
+    notes.note(net, numbers, &pair);
+    pair
 }
 
 /// Loads all words of the read list of the net in flight, and gives what the operator makes of the net of them. Notes
@@ -114,13 +137,16 @@ fn evaluate<G>(
     ensures range { IsPairInRange result }
     ensures room { HasRoom run.now.design.now run.now.lists.now worker.new }
 {
-    let used = worker.notes.used;
-    let free = &mut worker.notes.numbers.as_mut_slice()[used..];
-    load_all(run.board, pass, run.lists, net, free);
-    let loaded = &worker.notes.numbers.as_slice()[used..];
-    let pair = evaluate_loaded(run, before, net, loaded, worker.places.as_mut_slice());
-    worker.notes.note(run, net, &pair);
-    pair
+    load_all(
+        run.board,
+        pass,
+        run.lists,
+        net,
+        worker.loaded.as_mut_slice(),
+    );
+    let loaded = &worker.loaded.as_slice()[..8 * run.lists.of(net).len()];
+    let places = worker.places.as_mut_slice();
+    evaluate_loaded(run, before, net, loaded, places, &mut worker.notes)
 }
 
 /// Publishes the next word of the net in flight: whether that moved the word.

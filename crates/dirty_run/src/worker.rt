@@ -25,10 +25,11 @@ pub(crate) struct Run<'a, G> {
     pub(crate) gate: &'a G,
 }
 
-/// One of those who evaluate nets over words with marks: what it notes of its evaluations, and for each net a number,
-/// its place in the read list that is evaluated, where it is read.
+/// One of those who evaluate nets over words with marks: room for the words of the longest read list, what it notes of
+/// its evaluations, and for each net a number, its place in the read list that is evaluated, where it is read.
 #[derive(Drop)]
 pub(crate) struct Worker {
+    pub(crate) loaded: Vec<u64>,
     pub(crate) notes: Notes,
     pub(crate) places: Vec<u32>,
 }
@@ -43,9 +44,17 @@ impl Worker {
     ) -> Result<Worker, NoMemory>
         ensures room { IfOk result (HasRoom design.now lists.now) }
     {
-        let notes = Notes::new(alloc, design, lists, workers)?;
+        let Some(room) = lists.longest().checked_mul(8) else {
+            return Err(NoMemory);
+        };
+        let loaded = vec![in alloc; 0; room]?;
         let places = vec![in alloc; 0; lists.count()]?;
-        Ok(Worker { notes, places })
+        let notes = Notes::new(alloc, design, workers);
+        Ok(Worker {
+            loaded,
+            notes,
+            places,
+        })
     }
 }
 
@@ -91,8 +100,8 @@ impl Workers {
 }
 
 /// The room of a run: its workers, groups of the design's tables, and the words and the windows in which it ends. It
-/// serves a run on one board. What its workers note of two rounds takes some 550 bytes for each net, whatever their
-/// number.
+/// serves a run on one board. For what its workers note of two rounds it reserves some 2,400 bytes for each net of the
+/// design, whatever their number, where it can; they write to as much of these as they note.
 #[derive(Drop)]
 pub struct DirtyRoom {
     pub(crate) groups: Vec<usize>,

@@ -18,7 +18,7 @@ loop-number-preserved g c =
     let had : HasRoom d lists worker = subst (HasRoom d lists) (sym c.index_mut.ensures.value) (roomy.rooms k worker there) in
     let took = c.take.ensures.notes d lists had.notes roomy.before in
     let later : Worker = record worker { notes = c.take.new.notes } in
-    let has : HasRoom d lists later = record { notes = took.0; places = had.places } in
+    let has : HasRoom d lists later = record { room = had.room; notes = took.0; places = had.places } in
     let long = length-set items k later in
     let all = roomy.all in
     let passes = roomy.passes in

@@ -2,16 +2,19 @@ use Rattle.std.proofs.Common.{[], ◌∷◌, sym, ap, subst, ◌∙◌, length-a
 use Rattle.std.specs.List.{All}
 use Rattle.std.proofs.lemmas.List.Elements.{All-push}
 use Rattle.dirty_run.specs.Notes.{AreNotes}
+use Rattle.dirty_run.proofs.Noting.{none_noted}
 use Rattle.dirty_run.proofs.notes.Before.new.Goals as goal
 
 pub loop-number-preserved : goal.loop-number-preserved
 loop-number-preserved c =
     let inv = c.loop-number.invariant in
-    let P = AreNotes c.args.design.now c.args.lists.now in
+    let d = c.args.design.now in
+    let lists = c.args.lists.now in
+    let items = c.loop-number.notes.items in
     let pushed = c.in_ok-push.ensures.items in
-    let long = ap length pushed ∙ length-append c.loop-number.notes.items (c.in_ok-new.field-0 ∷ []) in
+    let long = ap length pushed ∙ length-append items (c.new.result ∷ []) in
     let count = inv.count in
     record {
       count = omega (arith, long, count);
-      noted = subst (All P) (sym pushed) (All-push P c.loop-number.notes.items c.in_ok-new.field-0 inv.noted c.in_ok-new.ensures);
+      noted = subst (All (AreNotes d lists)) (sym pushed) (All-push (AreNotes d lists) items c.new.result inv.noted (none_noted d lists c.new.result c.new.ensures));
     }
