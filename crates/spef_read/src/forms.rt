@@ -1,6 +1,6 @@
-//! One form of a text outside the sections of nets, from its first token on, by what may come next.
+//! One form of a text outside the sections of nets, by what may come next.
 
-ghost use Rattle.std.specs.Prelude.{◌≡◌, false, ◌∷◌};
+ghost use Rattle.std.specs.Prelude.{◌≡◌, ℕ, false, [], ◌∷◌};
 ghost use Rattle.spef_read.specs.declared.sort.Sort.TheVariants.{Brackets};
 ghost use Rattle.spef_read.specs.Forms.{separator_of, quantity_of, first_form, section_forms, start_forms};
 ghost use Rattle.spef_read.specs.Forms.{header_forms, flow_forms, unit_forms, pairs_forms, pair_name_forms};
@@ -12,12 +12,12 @@ ghost use Rattle.spef_read.specs.View.{item_text, whole_of};
 use crate::context::Context;
 use crate::item::{FormRead, Item, Quantity, Separator};
 use crate::net_forms::{
-    cap_second, cap_value, capacitors, connection, connections, lists_from, net_name, net_total,
+    cap_second, cap_value, capacitors, connection, connections, lists, net_name, net_total,
     res_second, res_value, resistors, totalled,
 };
-use crate::slots::{any_word, is_word};
+use crate::slots::any_word;
 use crate::sort::Sort;
-use text_forms::{Refused, Term, Terms, TokenSort};
+use text_forms::{Refused, Term, Terms};
 use xt_model::Code;
 
 /// A form that was read, whose last token is in this line.
@@ -55,12 +55,10 @@ fn quantity_of(word: &[u8]) -> Quantity
 }
 
 /// At the start of a text.
-fn at_start<'a>(first: Term<'a, Sort>, terms: &mut Terms<'a, Sort>) -> Result<FormRead<'a>, Refused>
-    ensures { Reads (λ r. (whole_of r, terms.new)) result (first_form start_forms (token_of first.entry ∷ terms.old)) }
+fn at_start<'a>(terms: &mut Terms<'a, Sort>) -> Result<FormRead<'a>, Refused>
+    ensures { Reads (λ r. (whole_of r, terms.new)) result (first_form start_forms terms.old) }
 {
-    if !Sort::Spef.same(first.sort) {
-        return Err(first.refused());
-    }
+    terms.expect(Sort::Spef)?;
     let text = terms.expect(Sort::Text)?;
     Ok(done(Item::Nothing, text.line, Context::Header))
 }
@@ -128,62 +126,71 @@ fn header_from<'a>(
     }
 }
 
-/// After a string of the design's flow.
-fn flow<'a>(first: Term<'a, Sort>, terms: &mut Terms<'a, Sort>) -> Result<FormRead<'a>, Refused>
-    ensures { Reads (λ r. (whole_of r, terms.new)) result (first_form flow_forms (token_of first.entry ∷ terms.old)) }
+/// An item of the header, or what comes after it.
+fn header<'a>(terms: &mut Terms<'a, Sort>) -> Result<FormRead<'a>, Refused>
+    ensures { Reads (λ r. (whole_of r, terms.new)) result (first_form header_forms terms.old) }
 {
-    if Sort::Text.same(first.sort) {
-        Ok(done(Item::Nothing, first.line, Context::Flow))
-    } else {
-        header_from(first, terms)
+    let first = terms.any()?;
+    header_from(first, terms)
+}
+
+/// After a string of the design's flow.
+fn flow<'a>(terms: &mut Terms<'a, Sort>) -> Result<FormRead<'a>, Refused>
+    ensures { Reads (λ r. (whole_of r, terms.new)) result (first_form flow_forms terms.old) }
+{
+    let first = terms.any()?;
+    match first.sort {
+        Sort::Text => Ok(done(Item::Nothing, first.line, Context::Flow)),
+        _ => header_from(first, terms),
     }
 }
 
 /// After the number of a unit.
-fn unit<'a>(first: Term<'a, Sort>, terms: &Terms<'a, Sort>) -> Result<FormRead<'a>, Refused>
-    ensures { Reads (λ r. (whole_of r, terms.now)) result (first_form unit_forms (token_of first.entry ∷ terms.now)) }
+fn unit<'a>(terms: &mut Terms<'a, Sort>) -> Result<FormRead<'a>, Refused>
+    ensures { Reads (λ r. (whole_of r, terms.new)) result (first_form unit_forms terms.old) }
 {
-    if is_word(first.sort) {
-        Ok(done(Item::Unit(first.text), first.line, Context::Header))
-    } else {
-        Err(first.refused())
-    }
+    let unit = any_word(terms)?;
+    Ok(done(Item::Unit(unit.text), unit.line, Context::Header))
 }
 
 /// In the name map.
-fn pairs<'a>(first: Term<'a, Sort>, terms: &Terms<'a, Sort>) -> Result<FormRead<'a>, Refused>
-    ensures { Reads (λ r. (whole_of r, terms.now)) result (first_form pairs_forms (token_of first.entry ∷ terms.now)) }
+fn pairs<'a>(terms: &mut Terms<'a, Sort>) -> Result<FormRead<'a>, Refused>
+    ensures { Reads (λ r. (whole_of r, terms.new)) result (first_form pairs_forms terms.old) }
 {
-    if Sort::Index.same(first.sort) {
-        Ok(done(Item::PairNumber(first.text), first.line, Context::PairName))
-    } else {
-        section_from(first, terms)
+    let first = terms.any()?;
+    match first.sort {
+        Sort::Index => Ok(done(Item::PairNumber(first.text), first.line, Context::PairName)),
+        _ => section_from(first, &*terms),
     }
 }
 
 /// After the number of a pair.
-fn pair_name<'a>(first: Term<'a, Sort>, terms: &Terms<'a, Sort>) -> Result<FormRead<'a>, Refused>
-    ensures { Reads (λ r. (whole_of r, terms.now)) result
-        (first_form pair_name_forms (token_of first.entry ∷ terms.now)) }
+fn pair_name<'a>(terms: &mut Terms<'a, Sort>) -> Result<FormRead<'a>, Refused>
+    ensures { Reads (λ r. (whole_of r, terms.new)) result (first_form pair_name_forms terms.old) }
 {
-    if is_word(first.sort) {
-        Ok(done(Item::PairName(first.text), first.line, Context::Pairs))
-    } else {
-        Err(first.refused())
-    }
+    let name = any_word(terms)?;
+    Ok(done(Item::PairName(name.text), name.line, Context::Pairs))
 }
 
 /// In a section that is skipped.
-fn skipped<'a>(first: Term<'a, Sort>, terms: &Terms<'a, Sort>) -> Result<FormRead<'a>, Refused>
-    ensures { Reads (λ r. (whole_of r, terms.now)) result
-        (first_form skipped_forms (token_of first.entry ∷ terms.now)) }
+fn skipped<'a>(terms: &mut Terms<'a, Sort>) -> Result<FormRead<'a>, Refused>
+    ensures { Reads (λ r. (whole_of r, terms.new)) result (first_form skipped_forms terms.old) }
 {
+    let first = terms.any()?;
     match first.sort {
         Sort::NameMap | Sort::Skipped | Sort::Net | Sort::Unsupported | Sort::End => {
-            section_from(first, terms)
+            section_from(first, &*terms)
         }
         _ => Ok(done(Item::Nothing, first.line, Context::Skipped)),
     }
+}
+
+/// After the end of a net.
+fn behind_net<'a>(terms: &mut Terms<'a, Sort>) -> Result<FormRead<'a>, Refused>
+    ensures { Reads (λ r. (whole_of r, terms.new)) result (first_form section_forms terms.old) }
+{
+    let first = terms.any()?;
+    section_from(first, &*terms)
 }
 
 /// The form that is next in a context.
@@ -191,28 +198,30 @@ pub fn read_form<'a>(context: Context, terms: &mut Terms<'a, Sort>) -> Result<Fo
     requires { is_done context ≡ false }
     ensures { Reads (λ r. (whole_of r, terms.new)) result (first_form (forms_in context) terms.old) }
 {
-    let first = terms.any()?;
     match context {
-        Context::Start => at_start(first, terms),
-        Context::Header => header_from(first, terms),
-        Context::Flow => flow(first, terms),
-        Context::Unit => unit(first, &*terms),
-        Context::Pairs => pairs(first, &*terms),
-        Context::PairName => pair_name(first, &*terms),
-        Context::Skipped => skipped(first, &*terms),
-        Context::BehindNet => section_from(first, &*terms),
-        Context::NetName => net_name(first, &*terms),
-        Context::NetTotal => net_total(first, &*terms),
-        Context::Totalled => totalled(first, terms),
-        Context::Lists => lists_from(first, &*terms),
-        Context::Connections => connections(first, &*terms),
-        Context::Connection => connection(first, &*terms),
-        Context::Capacitors => capacitors(first, terms),
-        Context::CapSecond => cap_second(first, &*terms),
-        Context::CapValue => cap_value(first, &*terms),
-        Context::Resistors => resistors(first, terms),
-        Context::ResSecond => res_second(first, &*terms),
-        Context::ResValue => res_value(first, &*terms),
-        Context::Done => Err(first.refused()),
+        Context::Start => at_start(terms),
+        Context::Header => header(terms),
+        Context::Flow => flow(terms),
+        Context::Unit => unit(terms),
+        Context::Pairs => pairs(terms),
+        Context::PairName => pair_name(terms),
+        Context::Skipped => skipped(terms),
+        Context::BehindNet => behind_net(terms),
+        Context::NetName => net_name(terms),
+        Context::NetTotal => net_total(terms),
+        Context::Totalled => totalled(terms),
+        Context::Lists => lists(terms),
+        Context::Connections => connections(terms),
+        Context::Connection => connection(terms),
+        Context::Capacitors => capacitors(terms),
+        Context::CapSecond => cap_second(terms),
+        Context::CapValue => cap_value(terms),
+        Context::Resistors => resistors(terms),
+        Context::ResSecond => res_second(terms),
+        Context::ResValue => res_value(terms),
+        Context::Done => Err(Refused {
+            line: 1,
+            code: Code::S2,
+        }),
     }
 }
