@@ -1,6 +1,6 @@
-//! One form of a netlist from its first token on, by what may come next.
+//! One form of a netlist by what may come next.
 
-ghost use Rattle.std.specs.Prelude.{◌≡◌, ◌∷◌};
+ghost use Rattle.std.specs.Prelude.{◌≡◌, [], ◌∷◌};
 ghost use Rattle.text_forms.specs.Tokens.{token_of};
 ghost use Rattle.verilog_net.specs.Forms.{role_of, first_form, start_forms, behind_module_forms};
 ghost use Rattle.verilog_net.specs.Forms.{module_name_forms, header_forms, listed_forms, body_forms};
@@ -41,9 +41,10 @@ fn role_of(word: &[u8]) -> PortRole
 }
 
 /// At the start of a text.
-fn at_start<'a>(first: Term<'a, Sort>, terms: &Terms<'a, Sort>) -> Result<FormRead<'a>, Refused>
-    ensures { Reads (λ r. (whole_of r, terms.now)) result (first_form start_forms (token_of first.entry ∷ terms.now)) }
+fn at_start<'a>(terms: &mut Terms<'a, Sort>) -> Result<FormRead<'a>, Refused>
+    ensures { Reads (λ r. (whole_of r, terms.new)) result (first_form start_forms terms.old) }
 {
+    let first = terms.any()?;
     match first.sort {
         Sort::Module => Ok(done(Item::ModuleBegins, first.line, Context::ModuleName)),
         Sort::Unsupported => Ok(done(Item::Refused(Code::V1), first.line, Context::Done)),
@@ -52,13 +53,10 @@ fn at_start<'a>(first: Term<'a, Sort>, terms: &Terms<'a, Sort>) -> Result<FormRe
 }
 
 /// After `endmodule`.
-fn behind_module<'a>(
-    first: Term<'a, Sort>,
-    terms: &Terms<'a, Sort>,
-) -> Result<FormRead<'a>, Refused>
-    ensures { Reads (λ r. (whole_of r, terms.now)) result
-        (first_form behind_module_forms (token_of first.entry ∷ terms.now)) }
+fn behind_module<'a>(terms: &mut Terms<'a, Sort>) -> Result<FormRead<'a>, Refused>
+    ensures { Reads (λ r. (whole_of r, terms.new)) result (first_form behind_module_forms terms.old) }
 {
+    let first = terms.any()?;
     match first.sort {
         Sort::Module => Ok(done(Item::ModuleBegins, first.line, Context::ModuleName)),
         Sort::End => Ok(done(Item::Nothing, first.line, Context::Done)),
@@ -68,14 +66,11 @@ fn behind_module<'a>(
 }
 
 /// The name of a module.
-fn module_name<'a>(name: Term<'a, Sort>, terms: &Terms<'a, Sort>) -> Result<FormRead<'a>, Refused>
-    ensures { Reads (λ r. (whole_of r, terms.now)) result
-        (first_form module_name_forms (token_of name.entry ∷ terms.now)) }
+fn module_name<'a>(terms: &mut Terms<'a, Sort>) -> Result<FormRead<'a>, Refused>
+    ensures { Reads (λ r. (whole_of r, terms.new)) result (first_form module_name_forms terms.old) }
 {
-    match name.sort {
-        Sort::Name => Ok(done(Item::ModuleName(name.text), name.line, Context::Header)),
-        _ => Err(name.refused()),
-    }
+    let name = terms.expect(Sort::Name)?;
+    Ok(done(Item::ModuleName(name.text), name.line, Context::Header))
 }
 
 /// A name of the header, after the `(` or the `,` before it.
@@ -111,9 +106,10 @@ fn header_end<'a>(
 }
 
 /// After the name of a module.
-fn header<'a>(first: Term<'a, Sort>, terms: &mut Terms<'a, Sort>) -> Result<FormRead<'a>, Refused>
-    ensures { Reads (λ r. (whole_of r, terms.new)) result (first_form header_forms (token_of first.entry ∷ terms.old)) }
+fn header<'a>(terms: &mut Terms<'a, Sort>) -> Result<FormRead<'a>, Refused>
+    ensures { Reads (λ r. (whole_of r, terms.new)) result (first_form header_forms terms.old) }
 {
+    let first = terms.any()?;
     match first.sort {
         Sort::Semicolon => Ok(done(Item::Nothing, first.line, Context::Body)),
         Sort::LeftParen => header_name(first, terms),
@@ -123,9 +119,10 @@ fn header<'a>(first: Term<'a, Sort>, terms: &mut Terms<'a, Sort>) -> Result<Form
 }
 
 /// After a name of the header.
-fn listed<'a>(first: Term<'a, Sort>, terms: &mut Terms<'a, Sort>) -> Result<FormRead<'a>, Refused>
-    ensures { Reads (λ r. (whole_of r, terms.new)) result (first_form listed_forms (token_of first.entry ∷ terms.old)) }
+fn listed<'a>(terms: &mut Terms<'a, Sort>) -> Result<FormRead<'a>, Refused>
+    ensures { Reads (λ r. (whole_of r, terms.new)) result (first_form listed_forms terms.old) }
 {
+    let first = terms.any()?;
     match first.sort {
         Sort::Comma => header_name(first, terms),
         Sort::RightParen => header_end(first, terms),
@@ -135,9 +132,10 @@ fn listed<'a>(first: Term<'a, Sort>, terms: &mut Terms<'a, Sort>) -> Result<Form
 }
 
 /// A statement, or the end of the module.
-fn in_body<'a>(first: Term<'a, Sort>, terms: &mut Terms<'a, Sort>) -> Result<FormRead<'a>, Refused>
-    ensures { Reads (λ r. (whole_of r, terms.new)) result (first_form body_forms (token_of first.entry ∷ terms.old)) }
+fn in_body<'a>(terms: &mut Terms<'a, Sort>) -> Result<FormRead<'a>, Refused>
+    ensures { Reads (λ r. (whole_of r, terms.new)) result (first_form body_forms terms.old) }
 {
+    let first = terms.any()?;
     match first.sort {
         Sort::Direction | Sort::NetType => {
             let role = role_of(first.text);
@@ -170,44 +168,28 @@ fn in_body<'a>(first: Term<'a, Sort>, terms: &mut Terms<'a, Sort>) -> Result<For
 }
 
 /// After the left bound of a range.
-fn left_bound<'a>(
-    first: Term<'a, Sort>,
-    terms: &mut Terms<'a, Sort>,
-) -> Result<FormRead<'a>, Refused>
-    ensures { Reads (λ r. (whole_of r, terms.new)) result
-        (first_form left_bound_forms (token_of first.entry ∷ terms.old)) }
+fn left_bound<'a>(terms: &mut Terms<'a, Sort>) -> Result<FormRead<'a>, Refused>
+    ensures { Reads (λ r. (whole_of r, terms.new)) result (first_form left_bound_forms terms.old) }
 {
-    match first.sort {
-        Sort::Colon => {
-            let number = terms.expect(Sort::Number)?;
-            Ok(done(Item::Right(number.text), number.line, Context::RightBound))
-        }
-        _ => Err(first.refused()),
-    }
+    terms.expect(Sort::Colon)?;
+    let number = terms.expect(Sort::Number)?;
+    Ok(done(Item::Right(number.text), number.line, Context::RightBound))
 }
 
 /// After the right bound of a range.
-fn right_bound<'a>(
-    first: Term<'a, Sort>,
-    terms: &mut Terms<'a, Sort>,
-) -> Result<FormRead<'a>, Refused>
-    ensures { Reads (λ r. (whole_of r, terms.new)) result
-        (first_form right_bound_forms (token_of first.entry ∷ terms.old)) }
+fn right_bound<'a>(terms: &mut Terms<'a, Sort>) -> Result<FormRead<'a>, Refused>
+    ensures { Reads (λ r. (whole_of r, terms.new)) result (first_form right_bound_forms terms.old) }
 {
-    match first.sort {
-        Sort::RightBracket => {
-            let name = terms.expect(Sort::Name)?;
-            Ok(done(Item::Further(name.text), name.line, Context::Declared))
-        }
-        _ => Err(first.refused()),
-    }
+    terms.expect(Sort::RightBracket)?;
+    let name = terms.expect(Sort::Name)?;
+    Ok(done(Item::Further(name.text), name.line, Context::Declared))
 }
 
 /// After a declared name.
-fn declared<'a>(first: Term<'a, Sort>, terms: &mut Terms<'a, Sort>) -> Result<FormRead<'a>, Refused>
-    ensures { Reads (λ r. (whole_of r, terms.new)) result
-        (first_form declared_forms (token_of first.entry ∷ terms.old)) }
+fn declared<'a>(terms: &mut Terms<'a, Sort>) -> Result<FormRead<'a>, Refused>
+    ensures { Reads (λ r. (whole_of r, terms.new)) result (first_form declared_forms terms.old) }
 {
+    let first = terms.any()?;
     match first.sort {
         Sort::Comma => {
             let name = terms.expect(Sort::Name)?;
@@ -219,10 +201,10 @@ fn declared<'a>(first: Term<'a, Sort>, terms: &mut Terms<'a, Sort>) -> Result<Fo
 }
 
 /// After the name of an instance.
-fn opening<'a>(first: Term<'a, Sort>, terms: &Terms<'a, Sort>) -> Result<FormRead<'a>, Refused>
-    ensures { Reads (λ r. (whole_of r, terms.now)) result
-        (first_form opening_forms (token_of first.entry ∷ terms.now)) }
+fn opening<'a>(terms: &mut Terms<'a, Sort>) -> Result<FormRead<'a>, Refused>
+    ensures { Reads (λ r. (whole_of r, terms.new)) result (first_form opening_forms terms.old) }
 {
+    let first = terms.any()?;
     match first.sort {
         Sort::LeftParen => Ok(done(Item::Nothing, first.line, Context::Pins)),
         Sort::LeftBracket => Ok(done(Item::Refused(Code::V3), first.line, Context::Done)),
@@ -231,9 +213,10 @@ fn opening<'a>(first: Term<'a, Sort>, terms: &Terms<'a, Sort>) -> Result<FormRea
 }
 
 /// After the `(` of an instance.
-fn pins<'a>(first: Term<'a, Sort>, terms: &mut Terms<'a, Sort>) -> Result<FormRead<'a>, Refused>
-    ensures { Reads (λ r. (whole_of r, terms.new)) result (first_form pins_forms (token_of first.entry ∷ terms.old)) }
+fn pins<'a>(terms: &mut Terms<'a, Sort>) -> Result<FormRead<'a>, Refused>
+    ensures { Reads (λ r. (whole_of r, terms.new)) result (first_form pins_forms terms.old) }
 {
+    let first = terms.any()?;
     match first.sort {
         Sort::RightParen => Ok(done(Item::InstanceEnds, first.line, Context::Closed)),
         Sort::Dot => {
@@ -248,13 +231,11 @@ fn pins<'a>(first: Term<'a, Sort>, terms: &mut Terms<'a, Sort>) -> Result<FormRe
 }
 
 /// After the name of a pin.
-fn pin<'a>(first: Term<'a, Sort>, terms: &Terms<'a, Sort>) -> Result<FormRead<'a>, Refused>
-    ensures { Reads (λ r. (whole_of r, terms.now)) result (first_form pin_forms (token_of first.entry ∷ terms.now)) }
+fn pin<'a>(terms: &mut Terms<'a, Sort>) -> Result<FormRead<'a>, Refused>
+    ensures { Reads (λ r. (whole_of r, terms.new)) result (first_form pin_forms terms.old) }
 {
-    match first.sort {
-        Sort::LeftParen => Ok(done(Item::Nothing, first.line, Context::Connection)),
-        _ => Err(first.refused()),
-    }
+    let paren = terms.expect(Sort::LeftParen)?;
+    Ok(done(Item::Nothing, paren.line, Context::Connection))
 }
 
 /// After the `[` of a bit to which a pin is connected.
@@ -295,13 +276,10 @@ fn net_or_bit<'a>(
 }
 
 /// After the `(` of a pin.
-fn connection<'a>(
-    first: Term<'a, Sort>,
-    terms: &mut Terms<'a, Sort>,
-) -> Result<FormRead<'a>, Refused>
-    ensures { Reads (λ r. (whole_of r, terms.new)) result
-        (first_form connection_forms (token_of first.entry ∷ terms.old)) }
+fn connection<'a>(terms: &mut Terms<'a, Sort>) -> Result<FormRead<'a>, Refused>
+    ensures { Reads (λ r. (whole_of r, terms.new)) result (first_form connection_forms terms.old) }
 {
+    let first = terms.any()?;
     match first.sort {
         Sort::RightParen => Ok(done(Item::NoConnection, first.line, Context::Connected)),
         Sort::Constant => {
@@ -315,14 +293,11 @@ fn connection<'a>(
 }
 
 /// After the `]` of a bit.
-fn bit_given<'a>(first: Term<'a, Sort>, terms: &Terms<'a, Sort>) -> Result<FormRead<'a>, Refused>
-    ensures { Reads (λ r. (whole_of r, terms.now)) result
-        (first_form bit_given_forms (token_of first.entry ∷ terms.now)) }
+fn bit_given<'a>(terms: &mut Terms<'a, Sort>) -> Result<FormRead<'a>, Refused>
+    ensures { Reads (λ r. (whole_of r, terms.new)) result (first_form bit_given_forms terms.old) }
 {
-    match first.sort {
-        Sort::RightParen => Ok(done(Item::Nothing, first.line, Context::Connected)),
-        _ => Err(first.refused()),
-    }
+    let paren = terms.expect(Sort::RightParen)?;
+    Ok(done(Item::Nothing, paren.line, Context::Connected))
 }
 
 /// After the `,` of a pin.
@@ -347,13 +322,10 @@ fn further_pin<'a>(
 }
 
 /// After the `)` of a pin.
-fn connected<'a>(
-    first: Term<'a, Sort>,
-    terms: &mut Terms<'a, Sort>,
-) -> Result<FormRead<'a>, Refused>
-    ensures { Reads (λ r. (whole_of r, terms.new)) result
-        (first_form connected_forms (token_of first.entry ∷ terms.old)) }
+fn connected<'a>(terms: &mut Terms<'a, Sort>) -> Result<FormRead<'a>, Refused>
+    ensures { Reads (λ r. (whole_of r, terms.new)) result (first_form connected_forms terms.old) }
 {
+    let first = terms.any()?;
     match first.sort {
         Sort::RightParen => Ok(done(Item::InstanceEnds, first.line, Context::Closed)),
         Sort::Comma => further_pin(first, terms),
@@ -362,9 +334,10 @@ fn connected<'a>(
 }
 
 /// After the `)` of an instance.
-fn closed<'a>(first: Term<'a, Sort>, terms: &mut Terms<'a, Sort>) -> Result<FormRead<'a>, Refused>
-    ensures { Reads (λ r. (whole_of r, terms.new)) result (first_form closed_forms (token_of first.entry ∷ terms.old)) }
+fn closed<'a>(terms: &mut Terms<'a, Sort>) -> Result<FormRead<'a>, Refused>
+    ensures { Reads (λ r. (whole_of r, terms.new)) result (first_form closed_forms terms.old) }
 {
+    let first = terms.any()?;
     match first.sort {
         Sort::Comma => {
             let name = terms.expect(Sort::Name)?;
@@ -376,28 +349,35 @@ fn closed<'a>(first: Term<'a, Sort>, terms: &mut Terms<'a, Sort>) -> Result<Form
     }
 }
 
+/// After the end of the text.
+fn at_end<'a>(terms: &mut Terms<'a, Sort>) -> Result<FormRead<'a>, Refused>
+    ensures { Reads (λ r. (whole_of r, terms.new)) result (first_form [] terms.old) }
+{
+    let first = terms.any()?;
+    Err(first.refused())
+}
+
 /// The next form.
 pub fn read_form<'a>(context: Context, terms: &mut Terms<'a, Sort>) -> Result<FormRead<'a>, Refused>
     ensures { Reads (λ r. (whole_of r, terms.new)) result (first_form (forms_in context) terms.old) }
 {
-    let first = terms.any()?;
     match context {
-        Context::Start => at_start(first, &*terms),
-        Context::BehindModule => behind_module(first, &*terms),
-        Context::ModuleName => module_name(first, &*terms),
-        Context::Header => header(first, terms),
-        Context::Listed => listed(first, terms),
-        Context::Body => in_body(first, terms),
-        Context::LeftBound => left_bound(first, terms),
-        Context::RightBound => right_bound(first, terms),
-        Context::Declared => declared(first, terms),
-        Context::Opening => opening(first, &*terms),
-        Context::Pins => pins(first, terms),
-        Context::Pin => pin(first, &*terms),
-        Context::Connection => connection(first, terms),
-        Context::BitGiven => bit_given(first, &*terms),
-        Context::Connected => connected(first, terms),
-        Context::Closed => closed(first, terms),
-        Context::Done => Err(first.refused()),
+        Context::Start => at_start(terms),
+        Context::BehindModule => behind_module(terms),
+        Context::ModuleName => module_name(terms),
+        Context::Header => header(terms),
+        Context::Listed => listed(terms),
+        Context::Body => in_body(terms),
+        Context::LeftBound => left_bound(terms),
+        Context::RightBound => right_bound(terms),
+        Context::Declared => declared(terms),
+        Context::Opening => opening(terms),
+        Context::Pins => pins(terms),
+        Context::Pin => pin(terms),
+        Context::Connection => connection(terms),
+        Context::BitGiven => bit_given(terms),
+        Context::Connected => connected(terms),
+        Context::Closed => closed(terms),
+        Context::Done => at_end(terms),
     }
 }
