@@ -25,7 +25,8 @@ pub record IsNote (d : Parts) (lists : List (List NetId)) (numbers : List ℕ) (
 
 -- notes of a worker
 abbrev pub AreNotes : Parts → List (List NetId) → Notes → Type 0
-AreNotes d lists notes = All (λ (e : Note). IsNote d lists notes.numbers.items e.net.0 e.from e.pair) notes.entries.items
+AreNotes d lists notes =
+    All (λ (e : Note). IsNote d lists notes.numbers.items e.net.0 e.from e.pair) notes.entries.items
 
 -- numbers that were loaded for the read list of a net, and what the operator makes of the net of them
 pub record IsRecalled (d : Parts) (lists : List (List NetId)) (net : ℕ) (recalled : Recalled) : Type 0 where
