@@ -73,6 +73,7 @@ pub(crate) fn is_monotone(table: &Table) -> bool
 }
 
 /// The value at a slew and a load of a table whose numbers are small for its cells.
+#[inline(always)]
 fn small_value(table: &Table, slew: &Place, load: &Place) -> i64
     requires table { IsTable table.now }
     requires small { AreSmall table.now }
@@ -86,6 +87,7 @@ fn small_value(table: &Table, slew: &Place, load: &Place) -> i64
 
 /// The least and the greatest value of a monotone table over several slews and several loads: those at the least and at
 /// the greatest slew and load.
+#[inline(always)]
 pub(crate) fn monotone_range(table: &Table, slews: &Segment, loads: &Stretch) -> (i64, i64)
     requires table { IsTable table.now }
     requires monotone { IsMonotone table.now }
