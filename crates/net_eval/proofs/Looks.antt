@@ -98,6 +98,31 @@ pub looks_more : (d : Parts) (n : ℕ) (net : Net) (arcs : List TimingArc) (numb
 looks_more d n net arcs numbers more turned x there same within gained h =
     looks_on d n net numbers more turned (get_or arcs turned x) gained.0 there (subst (λ xs. slice_get xs turned ≡ Some (get_or arcs turned x)) same (slice_get-get_or arcs turned x within)) gained.1 gained.2 h
 
+-- an arc from a net around which all is there
+pub looks_again : (d : Parts) (n : ℕ) (net : Net) (arcs : List TimingArc) (numbers : List ℕ) (turned last : ℕ) (x : TimingArc) → arcs ≡ net.arcs → turned < length arcs
+    → (get_or arcs turned x).from.0 ≡ last → ((m : ℕ) → IsAround d.nets last m → Contains numbers m) → HasLooked d n net numbers turned → HasLooked d n net numbers (turned + 1)
+looks_again d n net arcs numbers turned last x same within is all h = record {
+  looked = h.looked;
+  own = h.own;
+  inputs = λ i m c lt at near. elim (cases_eq i turned) [
+    | inl e ↦
+        let P : ℕ → Type 0 = λ j. slice_get net.arcs j ≡ Some c in
+        let here : slice_get net.arcs turned ≡ Some (get_or arcs turned x) = subst (λ xs. slice_get xs turned ≡ Some (get_or arcs turned x)) same (slice_get-get_or arcs turned x within) in
+        let is_same : c ≡ get_or arcs turned x = same_Some c (get_or arcs turned x) (sym (subst P e at) ∙ here) in
+        let Q : TimingArc → Type 0 = λ a. IsAround d.nets a.from.0 m in
+        let R : ℕ → Type 0 = λ j. IsAround d.nets j m in
+        all m (subst R is (subst Q is_same near))
+    | inr ne ↦ h.inputs i m c (omega arith) at near
+  ];
+}
+
+-- all around the input of the last arc turned
+pub looks_last : (d : Parts) (n : ℕ) (net : Net) (arcs : List TimingArc) (numbers : List ℕ) (turned : ℕ) (x : TimingArc) → arcs ≡ net.arcs → turned < length arcs
+    → HasLooked d n net numbers (turned + 1) → (m : ℕ) → IsAround d.nets (get_or arcs turned x).from.0 m → Contains numbers m
+looks_last d n net arcs numbers turned x same within h m near =
+    let here : slice_get net.arcs turned ≡ Some (get_or arcs turned x) = subst (λ xs. slice_get xs turned ≡ Some (get_or arcs turned x)) same (slice_get-get_or arcs turned x within) in
+    h.inputs turned m (get_or arcs turned x) (omega arith) here near
+
 -- with all arcs turned
 pub looks_all : (d : Parts) (n : ℕ) (net : Net) (arcs : List TimingArc) (numbers : List ℕ) (turned : ℕ) → arcs ≡ net.arcs → length arcs ≤ turned → HasLooked d n net numbers turned
     → HasLooked d n net numbers (length net.arcs)

@@ -84,22 +84,27 @@ fn push_input(numbers: &mut Vec<u32>, design: &Design, arc: &TimingArc) -> Resul
     push_around(numbers, input, design.net(input as usize))
 }
 
-/// The numbers of what the operator looks at for net number `own`, which is `net`, in the order of its arcs
-/// and with repeats.
-fn looked_at(alloc: Global, design: &Design, own: u32, net: &Net) -> Result<Vec<u32>, AllocError>
+/// Makes numbers those of what the operator looks at for net number `own`, which is `net`, in the order of its arcs and
+/// with repeats. Where several arcs in a row come from one net, its surroundings are appended once.
+fn look_at(numbers: &mut Vec<u32>, design: &Design, own: u32, net: &Net) -> Result<(), AllocError>
     requires there { slice_get design.now.nets own ≡ Some net.now }
     requires sound { IsSoundNet design.now own net.now }
-    ensures { IfOk result (λ numbers. HasLooked design.now own net.now numbers.items (length net.now.arcs)) }
+    ensures { OnOk result (HasLooked design.now own net.now numbers.new.items (length net.now.arcs)) }
 {
-    let mut numbers = Vec::new(alloc);
+    numbers.clear();
     if net.arcs.len() == 0 {
-        return Ok(numbers);
+        return Ok(());
     }
-    push_around(&mut numbers, own, net)?;
+    push_around(numbers, own, net)?;
+    let mut last = own;
     for arc in net.arcs.as_slice() {
-        push_input(&mut numbers, design, arc)?;
+        if arc.from.0 == last {
+            continue;
+        }
+        push_input(numbers, design, arc)?;
+        last = arc.from.0;
     }
-    Ok(numbers)
+    Ok(())
 }
 
 /// The nets of these numbers.
@@ -113,12 +118,17 @@ fn nets_of(alloc: Global, numbers: &[u32]) -> Result<Vec<NetId>, AllocError>
     Ok(nets)
 }
 
-/// The read list of net number `own`.
-fn read_list(alloc: Global, design: &Design, own: u32) -> Result<Row<NetId>, AllocError>
+/// The read list of net number `own`, gathered in a vector that other nets use after it.
+fn read_list(
+    alloc: Global,
+    design: &Design,
+    own: u32,
+    numbers: &mut Vec<u32>,
+) -> Result<Row<NetId>, AllocError>
     requires { own < length design.now.nets }
     ensures { IfOk result (λ reads. IsReadList design.now own (ids reads)) }
 {
-    let mut numbers = looked_at(alloc, design, own, design.net(own as usize))?;
+    look_at(numbers, design, own, design.net(own as usize))?;
     numbers.sort_unstable();
     numbers.dedup();
     let nets = nets_of(alloc, numbers.as_slice())?;
@@ -130,9 +140,10 @@ fn read_list(alloc: Global, design: &Design, own: u32) -> Result<Row<NetId>, All
 pub fn read_lists(alloc: Global, design: &Design) -> Result<ReadLists, NoMemory>
     ensures { IfOk result (λ lists. AreReadLists design.now lists) }
 {
-    let mut lists = Vec::new(alloc);
+    let mut numbers = Vec::new(alloc);
+    let mut lists = Vec::with_capacity(alloc, design.nets().len())?;
     for own in 0..design.nets().len() as u32 {
-        lists.push(read_list(alloc, design, own)?)?;
+        lists.push(read_list(alloc, design, own, &mut numbers)?)?;
     }
     Ok(ReadLists {
         lists: Row::from_vec(lists),
