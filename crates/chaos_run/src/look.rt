@@ -175,6 +175,64 @@ fn closed_by<R: Threads + Sync>(
     left && right
 }
 
+/// Whether the operator gives the windows back at each of this many first nets. It looks from the first of them up.
+fn closed_first(
+    design: &Design,
+    groups: &[usize],
+    lists: &ReadLists,
+    marks: &[bool],
+    windows: &Windows,
+    count: u32,
+) -> bool
+    requires groups { AreGroups design.now.tables groups.now }
+    requires lists { AreReadLists design.now lists.now }
+    requires look { IsLook design.now lists.now windows.now marks.now }
+    requires within { IsWithinEnvelope design.now windows.now }
+    requires count { count ≤ length design.now.nets }
+    ensures { IsTrue result ↔ ((n : ℕ) → n < count → IsSteadyAt design.now windows.now n) }
+{
+    for net in 0..count {
+        if !closed_where_grouped(design, groups, lists, marks, windows, net, net + 1) {
+            return false;
+        }
+    }
+    true
+}
+
+/// Whether the operator gives the windows back at every net, decided by this many threads. What a start leaves unsteady
+/// is mostly among the inputs, and these are mostly the first nets; what a round leaves unsteady is mostly near them
+/// too, or far from them, among the last nets. So one thread looks at the first eighth of the nets and at the last, and
+/// only where these are steady all threads look at the rest.
+fn closed_from_ends<R: Threads + Sync>(
+    rt: &R,
+    design: &Design,
+    groups: &[usize],
+    lists: &ReadLists,
+    marks: &[bool],
+    windows: &Windows,
+    shares: u32,
+) -> bool
+    requires groups { AreGroups design.now.tables groups.now }
+    requires lists { AreReadLists design.now lists.now }
+    requires look { IsLook design.now lists.now windows.now marks.now }
+    requires within { IsWithinEnvelope design.now windows.now }
+    requires few { shares ≤ most_workers }
+    ensures { IsTrue result ↔ ((n : ℕ) → n < length design.now.nets → IsSteadyAt design.now windows.now n) }
+{
+    let nets = design.nets().len() as u32;
+    let first = nets / 8;
+    let last = nets - first;
+    if !closed_first(design, groups, lists, marks, windows, first) {
+        return false;
+    }
+    if !closed_where_grouped(design, groups, lists, marks, windows, last, nets) {
+        return false;
+    }
+    closed_by(
+        rt, design, groups, lists, marks, windows, first, last, shares,
+    )
+}
+
 /// Loads each word by the first pass into the windows, and decides whether the words are closed, by this many threads.
 /// Leaves no net marked. Takes no memory.
 pub(crate) fn look<R: Threads + Sync>(
@@ -207,17 +265,7 @@ pub(crate) fn look<R: Threads + Sync>(
 {
     load_all(board, first, windows, marks);
     unmark(marks);
-    closed_by(
-        rt,
-        design,
-        groups,
-        lists,
-        marks,
-        windows,
-        0,
-        design.nets().len() as u32,
-        shares,
-    )
+    closed_from_ends(rt, design, groups, lists, marks, windows, shares)
 }
 
 /// A look as by [`look`] after a round from the words of these windows: it marks the nets that the round did not move,
@@ -253,15 +301,5 @@ pub(crate) fn look_again<R: Threads + Sync>(
     ensures closed { IsTrue result ↔ AreClosed design.now first.old.view.seen }
 {
     load_all(board, first, windows, marks);
-    closed_by(
-        rt,
-        design,
-        groups,
-        lists,
-        marks,
-        windows,
-        0,
-        design.nets().len() as u32,
-        shares,
-    )
+    closed_from_ends(rt, design, groups, lists, marks, windows, shares)
 }

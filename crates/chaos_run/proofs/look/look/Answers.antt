@@ -7,8 +7,8 @@ use Rattle.chaos_core.proofs.Settling.{closed_from, steady_from, fits_under}
 use Rattle.window_words.specs.declared.view.View.{View}
 use Rattle.chaos_run.proofs.look.look.Goals as goal
 
-pub closed_by-requires-clause-within : goal.closed_by-requires-clause-within
-closed_by-requires-clause-within g c = λ _ _.
+pub closed_from_ends-requires-clause-within : goal.closed_from_ends-requires-clause-within
+closed_from_ends-requires-clause-within g c = λ _ _.
     let a = c.args.board.now.setting in
     let v : View = c.args.first.now.view in
     let base = kept_fits v.setting v.seen c.load_all.new.windows c.load_all.ensures.kept c.load_all.ensures.numbers c.load_all.ensures.range in
@@ -21,8 +21,8 @@ returns-clause-fits g c =
     let base = kept_fits v.setting v.seen c.load_all.new.windows c.load_all.ensures.kept c.load_all.ensures.numbers c.load_all.ensures.range in
     fits_under a v.setting c.args.design.now a.way c.load_all.new.windows c.requires.own.setting c.requires.design refl base
 
-pub closed_by-requires-clause-look : goal.closed_by-requires-clause-look
-closed_by-requires-clause-look g c = λ _ _.
+pub closed_from_ends-requires-clause-look : goal.closed_from_ends-requires-clause-look
+closed_from_ends-requires-clause-look g c = λ _ _.
     let count = c.requires.count in
     record {
       windows = record { count = c.load_all.ensures.count ∙ count; in_range = c.load_all.ensures.range };
@@ -49,6 +49,6 @@ returns-clause-closed g c =
     let v = c.load_all.new.windows in
     let range = c.load_all.ensures.range in
     let is = c.load_all.ensures.numbers in (
-      λ t. closed_from d words v range is (steady_all d v (c.load_all.ensures.count ∙ c.requires.count) (λ n h. c.closed_by.ensures.0 t n (omega arith) (rw c.nets.ensures.value h))),
-      λ k. c.closed_by.ensures.1 (λ n low high. record { fixed = λ e. steady_from d words v range is k n e }),
+      λ t. closed_from d words v range is (steady_all d v (c.load_all.ensures.count ∙ c.requires.count) (c.closed_from_ends.ensures.0 t)),
+      λ k. c.closed_from_ends.ensures.1 (λ n high. record { fixed = λ e. steady_from d words v range is k n e }),
     )

@@ -18,8 +18,8 @@ use Rattle.chaos_core.proofs.Settling.{closed_from, steady_from, fits_under}
 use Rattle.window_words.specs.declared.view.View.{View}
 use Rattle.chaos_run.proofs.look.look_again.Goals as goal
 
-pub closed_by-requires-clause-within : goal.closed_by-requires-clause-within
-closed_by-requires-clause-within g c = λ _ _.
+pub closed_from_ends-requires-clause-within : goal.closed_from_ends-requires-clause-within
+closed_from_ends-requires-clause-within g c = λ _ _.
     let a = c.args.board.now.setting in
     let v : View = c.args.first.now.view in
     let base = kept_fits v.setting v.seen c.load_all.new.windows c.load_all.ensures.kept c.load_all.ensures.numbers c.load_all.ensures.range in
@@ -43,8 +43,8 @@ steady_after board v0 d lists before after marks same own are fits later numbers
       steady_kept board d board.way lists before after (numbers_of before) v0.seen own refl are fits later refl numbers (carried (rested (omega (arith, there)))) net there (λ m has e. unmoved.same m e (marked.reads m has));
 }
 
-pub closed_by-requires-clause-look : goal.closed_by-requires-clause-look
-closed_by-requires-clause-look g c = λ _ _.
+pub closed_from_ends-requires-clause-look : goal.closed_from_ends-requires-clause-look
+closed_from_ends-requires-clause-look g c = λ _ _.
     let a = c.args.board.now.setting in
     let v : View = c.args.first.now.view in
     let d = c.args.design.now in
@@ -75,6 +75,6 @@ returns-clause-closed g c =
     let v = c.load_all.new.windows in
     let range = c.load_all.ensures.range in
     let is = c.load_all.ensures.numbers in (
-      λ t. closed_from d words v range is (steady_all d v (c.load_all.ensures.count ∙ c.requires.before.windows.count) (λ n h. c.closed_by.ensures.0 t n (omega arith) (rw c.nets.ensures.value h))),
-      λ k. c.closed_by.ensures.1 (λ n low high. record { fixed = λ e. steady_from d words v range is k n e }),
+      λ t. closed_from d words v range is (steady_all d v (c.load_all.ensures.count ∙ c.requires.before.windows.count) (c.closed_from_ends.ensures.0 t)),
+      λ k. c.closed_from_ends.ensures.1 (λ n high. record { fixed = λ e. steady_from d words v range is k n e }),
     )
