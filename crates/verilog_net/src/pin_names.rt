@@ -77,7 +77,7 @@ impl<'a> PinNames<'a> {
     {
         self.few.clear();
         if self.others.len() > 0 {
-            let _ = mem::replace(&mut self.others, Names::new(alloc, self.key));
+            mem::drop(mem::replace(&mut self.others, Names::new(alloc, self.key)));
         }
     }
 }

@@ -28,7 +28,7 @@ fn modules(alloc: Global, single: bool, bytes: &[u8]) -> Result<Vec<Netlist>, Te
     let mut terms = Terms::new(bytes, Rules::Verilog);
     let read = read_all(alloc, Context::Start, &mut terms, &mut state);
     // What is left of the state is dropped here alone, whatever was read.
-    let ended = state.into_ended();
+    let ended = state.into_ended(alloc);
     match read {
         Ok(()) => Ok(ended),
         Err(fault) => Err(fault),

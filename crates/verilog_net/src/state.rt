@@ -142,8 +142,8 @@ impl<'a> Progress<'a> {
         }
         self.current = name;
         self.header = Vec::new(alloc);
-        let _ = mem::replace(&mut self.bit_nets, Named::new(alloc, self.key));
-        let _ = mem::replace(&mut self.instance_names, Names::new(alloc, self.key));
+        mem::drop(mem::replace(&mut self.bit_nets, Named::new(alloc, self.key)));
+        mem::drop(mem::replace(&mut self.instance_names, Names::new(alloc, self.key)));
         Ok(())
     }
 
@@ -377,10 +377,13 @@ impl<'a> Progress<'a> {
     }
 
     /// The modules that ended.
-    pub fn into_ended(self) -> Vec<Netlist>
+    pub fn into_ended(self, alloc: Global) -> Vec<Netlist>
         ensures { result.items ≡ self.entry.ended }
     {
-        self.ended
+        let mut state = self;
+        let ended = mem::replace(&mut state.ended, Vec::new(alloc));
+        mem::drop(state);
+        ended
     }
 }
 
