@@ -7,7 +7,7 @@ use Rattle.xt_model.specs.Miller.{MillerNumbers}
 use Rattle.xt_model.specs.Options.{◌>>=◌}
 use Rattle.report_kind.specs.Kind.{kind_of}
 use Rattle.report_kind.specs.declared.kind.ReportKind.TheVariants.{All}
-use Rattle.command_line.specs.Grammar.{Text, given_of, value_of}
+use Rattle.command_grammar.specs.Grammar.{Text, given_of, value_of}
 use Rattle.command_line.specs.declared.values.Engine.TheVariants.{Rounds}
 use Rattle.command_line.specs.Values.{engine, if_said, miller_numbers, net_count, number_of, number_within, said_or, worker_count}
 use Rattle.command_line.specs.Words.{HasCount, IsNetCount, IsWorkerCount, block_files, command_named, form_of_command, gen_job, job_for, job_of, replay_options, solve_options}

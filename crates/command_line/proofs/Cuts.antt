@@ -3,7 +3,7 @@ use Rattle.std.proofs.Common.{◌≡◌, ◌∙◌, ap, arith, sym, ◌++◌, �
 use Rattle.std.specs.Borrow.{Bor}
 use Rattle.std.proofs.lemmas.Str.Pattern.{IsSplitOnceResult, split_parts}
 use Rattle.clap.proofs.CutLemmas.{Lacks, after_first-at, before_first-at, list_any-Lacks, list_any-at}
-use Rattle.command_line.specs.Grammar.{Text}
+use Rattle.command_grammar.specs.Grammar.{Text}
 use Rattle.command_line.specs.Values.{cut}
 
 cut_at : (xs ys : Text) → Lacks 44 xs → cut (xs ++ 44 ∷ ys) ≡ Some (xs, ys)

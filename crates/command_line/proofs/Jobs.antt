@@ -5,10 +5,10 @@ use Rattle.std.specs.Prelude.{String, string_bytes}
 use Rattle.std.specs.Global.{Global}
 use Rattle.command_line.specs.declared.words.CommandName.{CommandName}
 use Rattle.command_line.specs.declared.words.Job.{Job}
-use Rattle.command_line.specs.declared.grammar.WordsFault.{WordsFault}
-use Rattle.command_line.specs.declared.grammar.WordsFault.TheVariants.{Bad, NoMemory}
-use Rattle.command_line.specs.Grammar.{Text, Item, CommandForm, given_of, value_of}
-use Rattle.command_line.specs.Forms.{bytes_of}
+use Rattle.command_grammar.specs.declared.grammar.WordsFault.{WordsFault}
+use Rattle.command_grammar.specs.declared.grammar.WordsFault.TheVariants.{Bad, NoMemory}
+use Rattle.command_grammar.specs.Grammar.{Text, Item, CommandForm, given_of, value_of}
+use Rattle.command_grammar.specs.Forms.{bytes_of}
 use Rattle.command_line.specs.Words.{Reads, command_named, form_of_command, job_for, job_of}
 
 pub job_read : (words : List (String Global)) (d : String Global) (text : Text) (found : Option CommandName) (name : CommandName) (form : CommandForm) (get : Text → Option Text)

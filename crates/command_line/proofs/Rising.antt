@@ -7,7 +7,7 @@ use Rattle.xt_model.specs.Miller.{MillerNumbers, IsMiller, miller_of}
 use Rattle.xt_model.specs.Options.{◌>>=◌}
 use Rattle.report_kind.specs.Kind.{kind_of}
 use Rattle.report_kind.specs.declared.kind.ReportKind.TheVariants.{All}
-use Rattle.command_line.specs.Grammar.{Text}
+use Rattle.command_grammar.specs.Grammar.{Text}
 use Rattle.command_line.specs.declared.values.Engine.TheVariants.{Rounds}
 use Rattle.command_line.specs.Values.{engine, if_said, miller_numbers, number_of, said_or, three_of, worker_count}
 use Rattle.command_line.specs.Words.{block_files, gen_job, job_for, job_of, replay_options, solve_options}

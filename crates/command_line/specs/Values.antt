@@ -9,7 +9,7 @@ use Rattle.std.specs.Str.Parse.{digits_value}
 use Rattle.xt_model.specs.Limits.{most_generated, most_workers}
 use Rattle.xt_model.specs.Miller.{MillerNumbers, miller_of}
 use Rattle.xt_model.specs.Options.{◌>>=◌}
-use Rattle.command_line.specs.Grammar.{Text}
+use Rattle.command_grammar.specs.Grammar.{Text}
 use Rattle.command_line.specs.declared.values.Engine.{Engine}
 use Rattle.command_line.specs.declared.values.Engine.TheVariants.{Rounds, Marks}
 

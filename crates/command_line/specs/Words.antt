@@ -7,15 +7,15 @@ use Rattle.xt_model.specs.Miller.{MillerNumbers}
 use Rattle.xt_model.specs.Options.{◌>>=◌}
 use Rattle.report_kind.specs.Kind.{kind_of}
 use Rattle.report_kind.specs.declared.kind.ReportKind.TheVariants.{All}
-pub use Rattle.command_line.specs.Forms.{bytes_of}
-pub use Rattle.command_line.specs.Grammar.{Text}
-use Rattle.command_line.specs.Grammar.{CommandForm, given_of, value_of}
+pub use Rattle.command_grammar.specs.Forms.{bytes_of}
+pub use Rattle.command_grammar.specs.Grammar.{Text}
+use Rattle.command_grammar.specs.Grammar.{CommandForm, given_of, value_of}
 use Rattle.command_line.specs.declared.values.Engine.TheVariants.{Rounds}
 use Rattle.command_line.specs.Values.{engine, if_said, miller_numbers, net_count, number_of, said_or, worker_count}
 use Rattle.command_line.specs.declared.words.CommandName.{CommandName}
 use Rattle.command_line.specs.declared.words.CommandName.TheVariants as command
-use Rattle.command_line.specs.declared.grammar.WordsFault.{WordsFault}
-use Rattle.command_line.specs.declared.grammar.WordsFault.TheVariants.{Bad, NoMemory}
+use Rattle.command_grammar.specs.declared.grammar.WordsFault.{WordsFault}
+use Rattle.command_grammar.specs.declared.grammar.WordsFault.TheVariants.{Bad, NoMemory}
 use Rattle.command_line.specs.declared.words.BlockFiles.{BlockFiles}
 use Rattle.command_line.specs.declared.words.GenJob.{GenJob}
 use Rattle.command_line.specs.declared.words.SolveOptions.{SolveOptions}

@@ -2,13 +2,12 @@
 #![tactic(auto)]
 
 mod file_name;
-mod grammar;
 mod values;
 mod words;
 
+pub use command_grammar::WordsFault;
 pub use file_name::FileName;
 pub use values::Engine;
 pub use words::{
-    BlockFiles, EcoJob, GenJob, Job, LinkJob, ReplayJob, ReportJob, SolveJob, WordsFault,
-    parse_words,
+    BlockFiles, EcoJob, GenJob, Job, LinkJob, ReplayJob, ReportJob, SolveJob, parse_words,
 };

@@ -2,18 +2,17 @@
 
 ghost use Rattle.std.specs.Prelude.{◌≡◌, ◌⊎◌, IfOk, None, Some, option_map};
 ghost use Rattle.clap.specs.Words.{first_value, found_of};
-ghost use Rattle.command_line.specs.Forms.{form_of};
+ghost use Rattle.command_grammar.specs.Forms.{form_of};
 ghost use Rattle.command_line.specs.Words;
 ghost use Rattle.command_line.specs.Words.{Reads, bytes_of, job_of};
 
 use crate::file_name::FileName;
-pub use crate::grammar::WordsFault;
-use crate::grammar::{CommandRule, read};
 use crate::values::{
     Engine, engine_or_rounds, kind_or_all, miller_if_said, net_count, number, worker_count,
     workers_or_one,
 };
 use clap::ArgMatches;
+use command_grammar::{CommandRule, WordsFault, read};
 use report_kind::ReportKind;
 use std::alloc::Global;
 use xt_model::Miller;

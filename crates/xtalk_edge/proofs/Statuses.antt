@@ -1,15 +1,15 @@
 -- The status of a call is never that of a run without words.
 use Rattle.std.proofs.Common.{◌≡◌, ℕ, sym, ◌∙◌, arith}
 use Rattle.std.specs.Prelude.{◌≢◌}
-use Rattle.xtalk_top.specs.Call.{status_of}
-use Rattle.xtalk_top.specs.declared.refusal.Refusal.TheVariants.{Words, File, Linking, Design}
-use Rattle.xtalk_top.specs.declared.refusal.Unlinked.TheVariants as unlinked
-use Rattle.xtalk_top.specs.declared.refusal.DesignRefusal.TheVariants.{Limit}
-use Rattle.xtalk_top.specs.declared.refusal.TextRefusal.TheVariants.{At, Beyond}
-use Rattle.xtalk_top.specs.declared.refusal.FileRefusal.TheVariants.{TooLong, Content}
-use Rattle.xtalk_top.specs.declared.refusal.Failure.{Failure}
-use Rattle.xtalk_top.specs.declared.refusal.Failure.TheVariants.{NoText, Unwritten}
-use Rattle.xtalk_top.specs.declared.refusal.Stop.TheVariants.{Refused, Unread, NoMemory}
+use Rattle.call_meaning.specs.FailureWords.{status_of}
+use Rattle.call_meaning.specs.declared.refusal.Refusal.TheVariants.{Words, File, Linking, Design}
+use Rattle.call_meaning.specs.declared.refusal.Unlinked.TheVariants as unlinked
+use Rattle.call_meaning.specs.declared.refusal.DesignRefusal.TheVariants.{Limit}
+use Rattle.call_meaning.specs.declared.refusal.TextRefusal.TheVariants.{At, Beyond}
+use Rattle.call_meaning.specs.declared.refusal.FileRefusal.TheVariants.{TooLong, Content}
+use Rattle.call_meaning.specs.declared.refusal.Failure.{Failure}
+use Rattle.call_meaning.specs.declared.refusal.Failure.TheVariants.{NoText, Unwritten}
+use Rattle.call_meaning.specs.declared.refusal.Stop.TheVariants.{Refused, Unread, NoMemory}
 
 -- no failure has the status of a run without words
 not_nine : (failure : Failure) → status_of failure ≡ 9 → ⊥

@@ -2,8 +2,8 @@
 use Rattle.std.specs.Prelude.{◌≡◌, ◌≢◌, ℕ, List, Option, IfSome, MatchOption}
 use Rattle.xt_io.specs.Host.{StreamState}
 use Rattle.command_line.specs.Words.{Text}
-use Rattle.xtalk_top.specs.Outcome.{Contents}
-use Rattle.xtalk_top.specs.Call.{AreKnown, IsCall, Means}
+use Rattle.call_meaning.specs.Outcome.{Contents}
+use Rattle.call_meaning.specs.Call.{AreKnown, IsCall, Means}
 
 -- the outside of a call at one moment: how many faults its files had, its output and its error stream
 pub record Outside (O E : Type 0) : Type 0 where

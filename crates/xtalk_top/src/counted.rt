@@ -3,7 +3,7 @@
 ghost use Rattle.std.specs.Prelude.{◌≡◌};
 ghost use Rattle.xt_model.specs.Levels.{AreLevelled};
 ghost use Rattle.xt_model.specs.Sound.{IsSound};
-ghost use Rattle.xtalk_top.specs.Outcome.{counted_by};
+ghost use Rattle.call_meaning.specs.Outcome.{counted_by};
 
 use xt_model::{Design, Miller};
 

@@ -4,13 +4,13 @@ ghost use Rattle.std.specs.Prelude.{IfOk, IfErr};
 ghost use Rattle.xt_model.specs.Levels.{AreLevelled};
 ghost use Rattle.xt_model.specs.Sound.{IsSound};
 ghost use Rattle.command_line.specs.Words.{IsWorkerCount};
-ghost use Rattle.xtalk_top.specs.Outcome.{DesignMeans, prints};
-ghost use Rattle.xtalk_top.specs.Call.{IsStop};
-ghost use Rattle.xtalk_top.specs.Eco.{AreFound};
+ghost use Rattle.call_meaning.specs.Outcome.{DesignMeans, prints};
+ghost use Rattle.call_meaning.specs.Call.{IsStop};
+ghost use Rattle.call_meaning.specs.Eco.{AreFound};
 
-use crate::refusal::Stop;
 use crate::runs::Runs;
 use crate::solution::solved;
+use call_meaning::Stop;
 use chaos_core::Gate;
 use chaos_run::Both;
 use report_text::{ReportKind, write_report};

@@ -2,15 +2,15 @@
 
 ghost use Rattle.std.specs.Prelude.{[], ◌∷◌};
 ghost use Rattle.command_line.specs.Words.{IsWorkerCount};
-ghost use Rattle.xtalk_top.specs.Outcome.{prints};
-ghost use Rattle.xtalk_top.specs.Opened.{HasValue, OpensFirst};
-ghost use Rattle.xtalk_top.specs.Call.{Answers};
-ghost use Rattle.xtalk_top.specs.Eco.{EcoMeans};
+ghost use Rattle.call_meaning.specs.Outcome.{prints};
+ghost use Rattle.call_meaning.specs.Opened.{HasValue, OpensFirst};
+ghost use Rattle.call_meaning.specs.Call.{Answers};
+ghost use Rattle.call_meaning.specs.Eco.{EcoMeans};
 
 use crate::counted::counted_by;
 use crate::edits::report_of_edits;
 use crate::input::{read_design, read_file};
-use crate::refusal::Stop;
+use call_meaning::Stop;
 use chaos_core::Gate;
 use command_line::EcoJob;
 use std::alloc::Global;

@@ -2,11 +2,11 @@
 
 ghost use Rattle.std.specs.Prelude.{◌≡◌, ◌<◌, ◌≤◌, [], ◌∷◌, length, IfOk, IfErr, IfSome, MatchOption, position, ◌==◌};
 ghost use Rattle.xt_model.specs.Parts.{Parts};
-ghost use Rattle.xtalk_top.specs.Call.{IsStop};
-ghost use Rattle.xtalk_top.specs.Eco.{Ends, GoesOn, LinesMean, lines_of, most_edits};
+ghost use Rattle.call_meaning.specs.Call.{IsStop};
+ghost use Rattle.call_meaning.specs.Eco.{Ends, GoesOn, LinesMean, lines_of, most_edits};
 
 use crate::edit_refusal::refused;
-use crate::refusal::Stop;
+use call_meaning::Stop;
 use command_line::FileName;
 use std::alloc::Global;
 use xt_model::Code;

@@ -1,14 +1,14 @@
 //! Why a line of a text of edits gives no design.
 
 ghost use Rattle.std.specs.Prelude.{◌≡◌, ℕ, ◌<◌, length};
-ghost use Rattle.xtalk_top.specs.Outcome.{refuses};
-ghost use Rattle.xtalk_top.specs.Call.{IsStop};
-ghost use Rattle.xtalk_top.specs.Eco.{FaultMeans, IsOfDesign, refused_at};
+ghost use Rattle.call_meaning.specs.Outcome.{refuses};
+ghost use Rattle.call_meaning.specs.Call.{IsStop};
+ghost use Rattle.call_meaning.specs.Eco.{FaultMeans, IsOfDesign, refused_at};
 ghost use Rattle.eco_warm.specs.declared.edit.EditFault.TheVariants as faults;
-ghost use Rattle.xtalk_top.specs.declared.refusal.FileRefusal.TheVariants.{Content};
-ghost use Rattle.xtalk_top.specs.declared.refusal.Refusal.TheVariants.{File};
+ghost use Rattle.call_meaning.specs.declared.refusal.FileRefusal.TheVariants.{Content};
+ghost use Rattle.call_meaning.specs.declared.refusal.Refusal.TheVariants.{File};
 
-use crate::refusal::{FileRefusal, PassedLimit, Refusal, Stop, TextRefusal};
+use call_meaning::{FileRefusal, PassedLimit, Refusal, Stop, TextRefusal};
 use command_line::FileName;
 use eco_warm::EditFault;
 use std::alloc::Global;

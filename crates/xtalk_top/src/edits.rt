@@ -10,16 +10,17 @@ ghost use Rattle.eco_warm.specs.Edits.{edited, first_of, move_of, net_left, seco
 ghost use Rattle.eco_warm.specs.Possible.{IsAllowed, IsEditOf};
 ghost use Rattle.eco_warm.specs.Reading.{edit_in};
 ghost use Rattle.command_line.specs.Words.{IsWorkerCount};
-ghost use Rattle.xtalk_top.specs.Outcome.{Outcome, DesignMeans, LimitsMean, prints};
-ghost use Rattle.xtalk_top.specs.Call.{IsStop};
-ghost use Rattle.xtalk_top.specs.Eco.{EditMeans, EditsMean, HasEnvelope, IsAfterLine, LinesMean, ReadMeans, lines_of};
+ghost use Rattle.call_meaning.specs.Outcome.{Outcome, DesignMeans, LimitsMean, prints};
+ghost use Rattle.call_meaning.specs.Call.{IsStop};
+ghost use Rattle.call_meaning.specs.Eco.{EditMeans, EditsMean, HasEnvelope, IsAfterLine};
+ghost use Rattle.call_meaning.specs.Eco.{LinesMean, ReadMeans, lines_of};
 
 use crate::design_report::report_in;
 use crate::edit_lines::next_line;
 use crate::edit_refusal::stop_of;
-use crate::refusal::Stop;
 use crate::runs::{Runs, Turns};
 use crate::solution::{envelope_of, envelope_renewed, solved_within};
+use call_meaning::Stop;
 use chaos_core::Gate;
 use command_line::FileName;
 use eco_warm::{Edit, design_after, nets_after, read_edit};

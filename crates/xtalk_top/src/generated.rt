@@ -5,13 +5,13 @@ ghost use Rattle.xt_model.specs.Levels.{AreLevelled};
 ghost use Rattle.xt_model.specs.Sound.{IsSound};
 ghost use Rattle.design_gen.specs.Laws.{IsCount};
 ghost use Rattle.command_line.specs.Words.{IsWorkerCount};
-ghost use Rattle.xtalk_top.specs.Outcome.{prints};
-ghost use Rattle.xtalk_top.specs.Call.{IsStop};
-ghost use Rattle.xtalk_top.specs.Gen.{GenMeans, SummaryMeans};
+ghost use Rattle.call_meaning.specs.Outcome.{prints};
+ghost use Rattle.call_meaning.specs.Call.{IsStop};
+ghost use Rattle.call_meaning.specs.Gen.{GenMeans, SummaryMeans};
 
-use crate::refusal::Stop;
 use crate::runs::{Runs, Turns};
 use crate::solution::solved;
+use call_meaning::Stop;
 use chaos_core::Gate;
 use command_line::GenJob;
 use design_gen::generate;

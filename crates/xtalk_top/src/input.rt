@@ -3,10 +3,11 @@
 ghost use Rattle.std.specs.Prelude.{◌≡◌, ◌≤◌, [], ◌∷◌, length, IfOk, IfErr, IfSome};
 ghost use Rattle.xt_io.specs.Outside.{AreOpened};
 ghost use Rattle.command_line.specs.Words.{Text};
-ghost use Rattle.xtalk_top.specs.Outcome.{FileMeans, LinkedMeans, IsDesignText, most_bytes};
-ghost use Rattle.xtalk_top.specs.Call.{Answers, IsStop};
+ghost use Rattle.call_meaning.specs.Outcome.{FileMeans, LinkedMeans, IsDesignText};
+ghost use Rattle.call_meaning.specs.FailureWords.{most_bytes};
+ghost use Rattle.call_meaning.specs.Call.{Answers, IsStop};
 
-use crate::refusal::{FileRefusal, PassedLimit, Refusal, Stop, TextRefusal};
+use call_meaning::{FileRefusal, PassedLimit, Refusal, Stop, TextRefusal};
 use command_line::FileName;
 use linked_text::{LinkedFault, read_linked_text};
 use std::alloc::Global;

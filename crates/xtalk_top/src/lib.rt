@@ -10,10 +10,7 @@ mod edit_refusal;
 mod edits;
 mod generated;
 mod input;
-mod laws;
 mod link;
-mod refusal;
-mod refuse;
 mod replay;
 mod report;
 mod runs;
@@ -23,10 +20,10 @@ mod text_report;
 mod top;
 mod warm_run;
 
+pub use call_meaning::{calls_agree, one_outcome_is_meant, workers_change_nothing};
 pub use command_line::{
     BlockFiles, EcoJob, Engine, FileName, GenJob, Job, LinkJob, ReplayJob, ReportJob, SolveJob,
     WordsFault, parse_words,
 };
-pub use laws::{calls_agree, one_outcome_is_meant, workers_change_nothing};
 pub use top::{xtalk, xtalk_gated};
 pub use warm_run::warm;

@@ -3,14 +3,14 @@
 ghost use Rattle.std.specs.Prelude.{◌≡◌, IfOk, IfErr};
 ghost use Rattle.text_lines.specs.Lines.{text_of};
 ghost use Rattle.linked_text.specs.Linked.{linked};
-ghost use Rattle.xtalk_top.specs.Outcome.{prints};
-ghost use Rattle.xtalk_top.specs.Opened.{HasValue, OpensFirst, block_files};
-ghost use Rattle.xtalk_top.specs.Call.{Answers, IsStop};
-ghost use Rattle.xtalk_top.specs.Link.{LinkMeans};
+ghost use Rattle.call_meaning.specs.Outcome.{prints};
+ghost use Rattle.call_meaning.specs.Opened.{HasValue, OpensFirst, block_files};
+ghost use Rattle.call_meaning.specs.Call.{Answers, IsStop};
+ghost use Rattle.call_meaning.specs.Link.{LinkMeans};
 
 use crate::block::read_block;
 use crate::counted::counted_by;
-use crate::refusal::Stop;
+use call_meaning::Stop;
 use command_line::LinkJob;
 use linked_text::write_linked;
 use std::alloc::Global;

@@ -1,16 +1,16 @@
 //! The command `report`.
 
 ghost use Rattle.command_line.specs.Words.{IsWorkerCount};
-ghost use Rattle.xtalk_top.specs.Outcome.{prints};
-ghost use Rattle.xtalk_top.specs.Opened.{HasValue, OpensFirst, block_files};
-ghost use Rattle.xtalk_top.specs.Call.{Answers};
-ghost use Rattle.xtalk_top.specs.Report.{ReportMeans};
+ghost use Rattle.call_meaning.specs.Outcome.{prints};
+ghost use Rattle.call_meaning.specs.Opened.{HasValue, OpensFirst, block_files};
+ghost use Rattle.call_meaning.specs.Call.{Answers};
+ghost use Rattle.call_meaning.specs.Report.{ReportMeans};
 
 use crate::block::read_block;
 use crate::counted::counted_by;
 use crate::design_report::report;
-use crate::refusal::Stop;
 use crate::runs::{Runs, Turns};
+use call_meaning::Stop;
 use chaos_core::Gate;
 use command_line::ReportJob;
 use std::alloc::Global;

@@ -11,12 +11,12 @@ ghost use Rattle.xt_meaning.specs.Fixpoint.{IsFixpoint, IsLeastFixpoint, IsGreat
 ghost use Rattle.envelope.specs.Firsts.{IsFirstPassed};
 ghost use Rattle.envelope.specs.Renewal.{IsEnvelopeBut};
 ghost use Rattle.command_line.specs.Words.{IsWorkerCount};
-ghost use Rattle.xtalk_top.specs.Outcome.{AreBounds, KeepsLimits, SolvedMeans};
-ghost use Rattle.xtalk_top.specs.Call.{IsStop};
-ghost use Rattle.xtalk_top.specs.Eco.{AreFound, HasEnvelope};
+ghost use Rattle.call_meaning.specs.Outcome.{AreBounds, KeepsLimits, SolvedMeans};
+ghost use Rattle.call_meaning.specs.Call.{IsStop};
+ghost use Rattle.call_meaning.specs.Eco.{AreFound, HasEnvelope};
 
-use crate::refusal::{DesignRefusal, PassedLimit, Refusal, Stop};
 use crate::runs::{Runs, both_from};
+use call_meaning::{DesignRefusal, PassedLimit, Refusal, Stop};
 use chaos_core::Gate;
 use chaos_run::Both;
 use envelope::{EnvelopeFault, What, envelope, quiet, renewed};

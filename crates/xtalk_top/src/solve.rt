@@ -3,13 +3,13 @@
 ghost use Rattle.std.specs.Prelude.{[], ◌∷◌};
 ghost use Rattle.xt_io.specs.Outside.{AreOpened};
 ghost use Rattle.command_line.specs.Words.{IsWorkerCount};
-ghost use Rattle.xtalk_top.specs.Outcome.{prints};
-ghost use Rattle.xtalk_top.specs.Call.{Answers};
-ghost use Rattle.xtalk_top.specs.Solve.{SolveMeans};
+ghost use Rattle.call_meaning.specs.Outcome.{prints};
+ghost use Rattle.call_meaning.specs.Call.{Answers};
+ghost use Rattle.call_meaning.specs.Solve.{SolveMeans};
 
-use crate::refusal::Stop;
 use crate::runs::{Runs, Turns};
 use crate::text_report::report_of_text;
+use call_meaning::Stop;
 use chaos_core::Gate;
 use command_line::SolveJob;
 use std::alloc::Global;

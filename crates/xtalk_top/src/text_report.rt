@@ -3,14 +3,14 @@
 ghost use Rattle.std.specs.Prelude.{[], ◌∷◌};
 ghost use Rattle.xt_io.specs.Outside.{AreOpened};
 ghost use Rattle.command_line.specs.Words.{IsWorkerCount};
-ghost use Rattle.xtalk_top.specs.Outcome.{TextReportMeans, prints};
-ghost use Rattle.xtalk_top.specs.Call.{Answers};
+ghost use Rattle.call_meaning.specs.Outcome.{TextReportMeans, prints};
+ghost use Rattle.call_meaning.specs.Call.{Answers};
 
 use crate::counted::counted_by;
 use crate::design_report::report;
 use crate::input::{read_design, read_file};
-use crate::refusal::Stop;
 use crate::runs::Runs;
+use call_meaning::Stop;
 use chaos_core::Gate;
 use command_line::FileName;
 use report_text::ReportKind;

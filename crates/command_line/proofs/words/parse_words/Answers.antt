@@ -1,7 +1,7 @@
 use Rattle.std.proofs.Common.{◌≡◌, ◌∙◌, Option, Some, IfOk, ap, inl, refl, sym, subst}
 use Rattle.std.specs.Prelude.{string_bytes}
 use Rattle.clap.specs.Words.{first_value, found_of}
-use Rattle.command_line.specs.Forms.{form_of}
+use Rattle.command_grammar.specs.Forms.{form_of}
 use Rattle.command_line.specs.Words.{job_for}
 use Rattle.command_line.specs.declared.words.Job.{Job}
 use Rattle.command_line.proofs.Jobs.{bad_as, either_fault, job_read, no_command, no_items, no_words, one_fault, read_job, read_none}

@@ -2,10 +2,10 @@ use Rattle.std.proofs.Common.{ap, ◌≡◌, ℤ, arith, to_z, of_z, w32}
 use Rattle.std.proofs.lemmas.Result.{err_from_is_err_and}
 use Rattle.std.proofs.lemmas.Int.{ints}
 use Rattle.sdc_read.specs.Meaning.{IsScale}
-use Rattle.xtalk_top.specs.Outcome.{FileMeans}
-use Rattle.xtalk_top.specs.Linking.{FileAndText, by_line, ConstraintsIn}
-use Rattle.xtalk_top.proofs.Blocks.{text_refused}
-use Rattle.xtalk_top.proofs.Lifts.{file_stops, stops_first}
+use Rattle.call_meaning.specs.Outcome.{FileMeans}
+use Rattle.call_meaning.specs.Linking.{FileAndText, by_line, ConstraintsIn}
+use Rattle.call_meaning.proofs.Blocks.{text_refused}
+use Rattle.call_meaning.proofs.Lifts.{file_stops, stops_first}
 use Rattle.xtalk_top.proofs.block.constraints.Goals as goal
 
 -- a scale is kept by the bits of a number

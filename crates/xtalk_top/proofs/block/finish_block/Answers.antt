@@ -1,10 +1,10 @@
 use Rattle.std.proofs.lemmas.Result.{err_from_is_err_and}
 use Rattle.link_rules.specs.Bare.{Inputs}
-use Rattle.xtalk_top.specs.Linking.{FileAndText, FinishDesign, LastFilesMean, LinkingMeans, ConstraintsIn, ParasiticsIn}
-use Rattle.xtalk_top.proofs.Blocks.{holds_as, text_as, text_leads, text_stops}
-use Rattle.xtalk_top.proofs.Lifts.{answers_unread, kept_trans, stops_first, stops_later}
+use Rattle.call_meaning.specs.Linking.{FileAndText, FinishDesign, LastFilesMean, LinkingMeans, ConstraintsIn, ParasiticsIn}
+use Rattle.call_meaning.proofs.Blocks.{holds_as, text_as, text_leads, text_stops}
+use Rattle.call_meaning.proofs.Lifts.{answers_unread, kept_trans, stops_first, stops_later}
 use Rattle.std.proofs.Common.{[], ◌∷◌}
-use Rattle.xtalk_top.proofs.Openings.{opened_then, opens_all, opens_part}
+use Rattle.call_meaning.proofs.Openings.{opened_then, opens_all, opens_part}
 use Rattle.xtalk_top.proofs.block.finish_block.Goals as goal
 
 pub returns-in_err-parasitics-clause-means : goal.returns-in_err-parasitics-clause-means

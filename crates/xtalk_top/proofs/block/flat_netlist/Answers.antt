@@ -4,9 +4,9 @@ use Rattle.xt_model.specs.Limits.{most_instances}
 use Rattle.xt_model.specs.declared.fault.LimitKind.{LimitKind}
 use Rattle.verilog_net.specs.declared.netlist.Modules.{Modules}
 use Rattle.verilog_net.specs.Sound.{IsSoundModule}
-use Rattle.xtalk_top.specs.declared.refusal.PassedLimit.{PassedLimit}
-use Rattle.xtalk_top.specs.declared.refusal.TextRefusal.TheVariants.{At, Beyond}
-use Rattle.xtalk_top.proofs.Netlists.{unread_modules, flat_modules, lone_means, lone_sound}
+use Rattle.call_meaning.specs.declared.refusal.PassedLimit.{PassedLimit}
+use Rattle.call_meaning.specs.declared.refusal.TextRefusal.TheVariants.{At, Beyond}
+use Rattle.call_meaning.proofs.Netlists.{unread_modules, flat_modules, lone_means, lone_sound}
 use Rattle.xtalk_top.proofs.block.flat_netlist.Goals as goal
 
 pub returns-in-Err-Refused-clause-stop : goal.returns-in-Err-Refused-clause-stop

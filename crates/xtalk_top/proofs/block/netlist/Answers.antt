@@ -1,8 +1,8 @@
 use Rattle.std.proofs.Common.{Ok}
 use Rattle.std.proofs.lemmas.Result.{err_from_is_err_and}
-use Rattle.xtalk_top.specs.Outcome.{FileMeans}
-use Rattle.xtalk_top.specs.Linking.{FileAndText, HoldsText, NetlistIn, TextMeans}
-use Rattle.xtalk_top.proofs.Lifts.{answers_unread, file_leads, file_stops, stops_first}
+use Rattle.call_meaning.specs.Outcome.{FileMeans}
+use Rattle.call_meaning.specs.Linking.{FileAndText, HoldsText, NetlistIn, TextMeans}
+use Rattle.call_meaning.proofs.Lifts.{answers_unread, file_leads, file_stops, stops_first}
 use Rattle.xtalk_top.proofs.block.netlist.Goals as goal
 
 pub returns-in_err-file-clause-answer : goal.returns-in_err-file-clause-answer

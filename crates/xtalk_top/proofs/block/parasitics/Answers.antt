@@ -1,9 +1,9 @@
 use Rattle.std.proofs.Common.{ap}
 use Rattle.std.proofs.lemmas.Result.{err_from_is_err_and}
-use Rattle.xtalk_top.specs.Outcome.{FileMeans}
-use Rattle.xtalk_top.specs.Linking.{FileAndText, by_line, ParasiticsIn}
-use Rattle.xtalk_top.proofs.Blocks.{text_refused}
-use Rattle.xtalk_top.proofs.Lifts.{file_stops, stops_first}
+use Rattle.call_meaning.specs.Outcome.{FileMeans}
+use Rattle.call_meaning.specs.Linking.{FileAndText, by_line, ParasiticsIn}
+use Rattle.call_meaning.proofs.Blocks.{text_refused}
+use Rattle.call_meaning.proofs.Lifts.{file_stops, stops_first}
 use Rattle.xtalk_top.proofs.block.parasitics.Goals as goal
 
 pub returns-in-Ok-clause-answer : goal.returns-in-Ok-clause-answer

@@ -4,14 +4,14 @@ use Rattle.liberty_cells.specs.declared.library.Library.{Library}
 use Rattle.verilog_net.specs.declared.netlist.Netlist.{Netlist}
 use Rattle.xt_model.specs.Parts.{Parts}
 use Rattle.command_line.specs.Words.{Text}
-use Rattle.xtalk_top.specs.Outcome.{Contents, Outcome}
+use Rattle.call_meaning.specs.Outcome.{Contents, Outcome}
 use Rattle.command_line.specs.declared.words.BlockFiles.{BlockFiles}
-use Rattle.xtalk_top.specs.Linking.{BlockMeans, FileAndText, FinishDesign, HoldsText, LastFilesMean, LinkingMeans, MakeDesign}
-use Rattle.xtalk_top.specs.Linking.{ConstraintsIn, LibraryIn, NetlistIn, ParasiticsIn}
-use Rattle.xtalk_top.proofs.Blocks.{holds_as, last_as, text_as, text_leads, text_stops}
-use Rattle.xtalk_top.proofs.Lifts.{answers_later, kept_trans, stops_first, stops_later}
+use Rattle.call_meaning.specs.Linking.{BlockMeans, FileAndText, FinishDesign, HoldsText, LastFilesMean, LinkingMeans, MakeDesign}
+use Rattle.call_meaning.specs.Linking.{ConstraintsIn, LibraryIn, NetlistIn, ParasiticsIn}
+use Rattle.call_meaning.proofs.Blocks.{holds_as, last_as, text_as, text_leads, text_stops}
+use Rattle.call_meaning.proofs.Lifts.{answers_later, kept_trans, stops_first, stops_later}
 use Rattle.std.proofs.Common.{[], ◌∷◌}
-use Rattle.xtalk_top.proofs.Openings.{opened_then, opens_more, opens_part}
+use Rattle.call_meaning.proofs.Openings.{opened_then, opens_more, opens_part}
 use Rattle.xtalk_top.proofs.block.read_block.Goals as goal
 
 pub returns-in_err-library-clause-means : goal.returns-in_err-library-clause-means

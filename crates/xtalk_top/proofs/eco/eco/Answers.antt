@@ -1,12 +1,11 @@
-use Rattle.std.proofs.Common.{◌≡◌, ◌≤◌, length, [], ◌∷◌, sym, inr, subst, IfSome}
+use Rattle.std.proofs.Common.{◌≡◌, [], ◌∷◌, inr, subst, IfSome}
 use Rattle.std.proofs.lemmas.Result.{err_from_is_err_and}
 use Rattle.xt_model.specs.Parts.{Parts}
-use Rattle.command_line.specs.Words.{Text}
-use Rattle.xtalk_top.specs.Outcome.{FileMeans, LinkedMeans, Outcome, counted_by, prints}
-use Rattle.xtalk_top.specs.Eco.{EcoMeans, EditsMean}
-use Rattle.xtalk_top.proofs.EditSteps.{file_as}
-use Rattle.xtalk_top.proofs.Lifts.{answers_unread, file_leads, file_stops, kept_trans, linked_stops, stops_first, stops_later, stops_unread}
-use Rattle.xtalk_top.proofs.Openings.{opened_then, opens_all, opens_part}
+use Rattle.call_meaning.specs.Outcome.{FileMeans, LinkedMeans, Outcome, counted_by, prints}
+use Rattle.call_meaning.specs.Eco.{EcoMeans, EditsMean}
+use Rattle.call_meaning.proofs.EditSteps.{file_as}
+use Rattle.call_meaning.proofs.Lifts.{answers_unread, file_leads, file_stops, kept_trans, linked_stops, stops_first, stops_later, stops_unread}
+use Rattle.call_meaning.proofs.Openings.{opened_then, opens_all, opens_part}
 use Rattle.xtalk_top.proofs.eco.eco.Goals as goal
 
 pub returns-in_err-file-clause-means : goal.returns-in_err-file-clause-means

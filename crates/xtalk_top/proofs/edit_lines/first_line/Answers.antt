@@ -1,5 +1,5 @@
 use Rattle.std.proofs.Common.{sym, ◌∙◌}
-use Rattle.xtalk_top.proofs.EditLines.{first_of_lines, only_line}
+use Rattle.call_meaning.proofs.EditLines.{first_of_lines, only_line}
 use Rattle.xtalk_top.proofs.edit_lines.first_line.Goals as goal
 
 pub returns-in-None-clause-lines : goal.returns-in-None-clause-lines

@@ -1,8 +1,8 @@
 use Rattle.std.proofs.Common.{◌≡◌, ◌+◌, Bool, true, false, ltb, [], codes, length, rules}
 use Rattle.std.specs.Str.{bytes_eq}
 use Rattle.xt_model.specs.declared.code.Code.TheVariants.{E1}
-use Rattle.xtalk_top.specs.Eco.{LinesMean, lines_of, most_edits, refused_at}
-use Rattle.xtalk_top.proofs.EditLines.{ends, ends_badly, goes_on, refused_stops, too_many}
+use Rattle.call_meaning.specs.Eco.{LinesMean, lines_of, most_edits, refused_at}
+use Rattle.call_meaning.proofs.EditLines.{ends, ends_badly, goes_on, refused_stops, too_many}
 use Rattle.xtalk_top.proofs.edit_lines.next_line.Goals as goal
 
 pub returns-then-is_empty-clause-means : goal.returns-then-is_empty-clause-means

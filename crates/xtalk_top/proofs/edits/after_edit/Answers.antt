@@ -1,8 +1,8 @@
 use Rattle.std.proofs.lemmas.Result.{err_from_is_err_and}
 use Rattle.eco_warm.specs.Edits.{first_of, second_of}
 use Rattle.eco_warm.proofs.Renewing.{renews, still_there}
-use Rattle.xtalk_top.specs.Outcome.{LimitsMean}
-use Rattle.xtalk_top.proofs.EditSteps.{edit_passes, edit_refused}
+use Rattle.call_meaning.specs.Outcome.{LimitsMean}
+use Rattle.call_meaning.proofs.EditSteps.{edit_passes, edit_refused}
 use Rattle.xtalk_top.proofs.edits.after_edit.Goals as goal
 
 pub returns-in_err-first-clause-stop : goal.returns-in_err-first-clause-stop

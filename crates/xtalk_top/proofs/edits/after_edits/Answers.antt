@@ -1,9 +1,9 @@
 use Rattle.std.proofs.Common.{arith}
 use Rattle.std.proofs.lemmas.Result.{err_from_is_err_and}
-use Rattle.xtalk_top.specs.Eco.{Ends, GoesOn, LinesMean, lines_of}
-use Rattle.xtalk_top.proofs.EditSteps.{after_levelled, after_sound, lines_lead, lines_stop}
-use Rattle.xtalk_top.proofs.Lifts.{lift_stop}
-use Rattle.xtalk_top.proofs.Within.{keeps_within}
+use Rattle.call_meaning.specs.Eco.{Ends, GoesOn, LinesMean, lines_of}
+use Rattle.call_meaning.proofs.EditSteps.{after_levelled, after_sound, lines_lead, lines_stop}
+use Rattle.call_meaning.proofs.Lifts.{lift_stop}
+use Rattle.call_meaning.proofs.Within.{keeps_within}
 use Rattle.xtalk_top.proofs.edits.after_edits.Goals as goal
 
 pub lines-init : goal.lines-init

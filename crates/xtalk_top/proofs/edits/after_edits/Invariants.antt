@@ -1,8 +1,8 @@
 use Rattle.std.proofs.Common.{◌≤◌, length}
 use Rattle.xt_model.specs.Levels.{AreLevelled}
 use Rattle.xt_model.specs.Sound.{IsSound}
-use Rattle.xtalk_top.specs.Outcome.{Outcome}
-use Rattle.xtalk_top.specs.Eco.{HasEnvelope, LinesMean, lines_of, most_edits}
+use Rattle.call_meaning.specs.Outcome.{Outcome}
+use Rattle.call_meaning.specs.Eco.{HasEnvelope, LinesMean, lines_of, most_edits}
 use Rattle.xtalk_top.proofs.edits.after_edits.Given as goal
 
 abbrev pub invariant-lines : goal.invariant-lines

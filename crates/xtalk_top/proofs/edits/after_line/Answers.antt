@@ -1,9 +1,9 @@
 use Rattle.std.proofs.lemmas.Result.{err_from_is_err_and}
 use Rattle.linked_text.specs.Fields.{fields_of}
 use Rattle.eco_warm.specs.Reading.{edit_in}
-use Rattle.xtalk_top.specs.Outcome.{LimitsMean}
-use Rattle.xtalk_top.specs.Eco.{IsAfterLine}
-use Rattle.xtalk_top.proofs.EditSteps.{both_ok, each_err, line_refused, line_stops}
+use Rattle.call_meaning.specs.Outcome.{LimitsMean}
+use Rattle.call_meaning.specs.Eco.{IsAfterLine}
+use Rattle.call_meaning.proofs.EditSteps.{both_ok, each_err, line_refused, line_stops}
 use Rattle.xtalk_top.proofs.edits.after_line.Goals as goal
 
 pub returns-in_err-edit-clause-stop : goal.returns-in_err-edit-clause-stop

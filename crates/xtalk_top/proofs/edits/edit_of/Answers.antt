@@ -1,6 +1,6 @@
 use Rattle.linked_text.specs.Fields.{fields_of}
 use Rattle.eco_warm.specs.Reading.{edit_in}
-use Rattle.xtalk_top.proofs.EditSteps.{line_fault, read_stops}
+use Rattle.call_meaning.proofs.EditSteps.{line_fault, read_stops}
 use Rattle.xtalk_top.proofs.edits.edit_of.Goals as goal
 
 pub stop_of-requires : goal.stop_of-requires

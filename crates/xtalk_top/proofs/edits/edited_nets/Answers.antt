@@ -1,4 +1,4 @@
-use Rattle.xtalk_top.proofs.EditSteps.{edit_fault, edit_stops}
+use Rattle.call_meaning.proofs.EditSteps.{edit_fault, edit_stops}
 use Rattle.xtalk_top.proofs.edits.edited_nets.Goals as goal
 
 pub stop_of-requires : goal.stop_of-requires

@@ -1,10 +1,10 @@
 use Rattle.std.proofs.Common.{inr}
 use Rattle.std.proofs.lemmas.Result.{err_from_is_err_and, IfErr-weaker, IfOk-weaker}
 use Rattle.report_kind.specs.declared.kind.ReportKind.TheVariants.{All}
-use Rattle.xtalk_top.specs.Outcome.{DesignMeans, prints}
-use Rattle.xtalk_top.specs.Eco.{EditsMean, LinesMean, lines_of}
-use Rattle.xtalk_top.proofs.EditSteps.{limit_stops}
-use Rattle.xtalk_top.proofs.Lifts.{lift_stop}
+use Rattle.call_meaning.specs.Outcome.{DesignMeans, prints}
+use Rattle.call_meaning.specs.Eco.{EditsMean, LinesMean, lines_of}
+use Rattle.call_meaning.proofs.EditSteps.{limit_stops}
+use Rattle.call_meaning.proofs.Lifts.{lift_stop}
 use Rattle.xtalk_top.proofs.edits.report_of_edits.Goals as goal
 
 pub returns-in_err-top-clause-stop : goal.returns-in_err-top-clause-stop

@@ -1,12 +1,12 @@
 use Rattle.std.proofs.Common.{subst}
 use Rattle.std.proofs.lemmas.Result.{err_from_is_err_and}
-use Rattle.xtalk_top.specs.Outcome.{DesignMeans, Outcome, counted_by, prints}
-use Rattle.xtalk_top.specs.Linking.{BlockMeans}
-use Rattle.xtalk_top.specs.Report.{ReportMeans}
-use Rattle.xtalk_top.proofs.Blocks.{block_leads, block_stops}
-use Rattle.xtalk_top.proofs.Lifts.{answers_unread, stops_first}
-use Rattle.xtalk_top.specs.Opened.{block_files}
-use Rattle.xtalk_top.proofs.Openings.{opens_same}
+use Rattle.call_meaning.specs.Outcome.{DesignMeans, Outcome, counted_by, prints}
+use Rattle.call_meaning.specs.Linking.{BlockMeans}
+use Rattle.call_meaning.specs.Report.{ReportMeans}
+use Rattle.call_meaning.proofs.Blocks.{block_leads, block_stops}
+use Rattle.call_meaning.proofs.Lifts.{answers_unread, stops_first}
+use Rattle.call_meaning.specs.Opened.{block_files}
+use Rattle.call_meaning.proofs.Openings.{opens_same}
 use Rattle.xtalk_top.proofs.report.report_of_block.Goals as goal
 
 pub returns-in_err-design-clause-means : goal.returns-in_err-design-clause-means

@@ -1,4 +1,4 @@
-use Rattle.xtalk_top.proofs.Within.{fixpoint_within}
+use Rattle.call_meaning.proofs.Within.{fixpoint_within}
 use Rattle.xtalk_top.proofs.solution.envelope_of.Goals as goal
 
 pub returns-in-Ok-clause-within : goal.returns-in-Ok-clause-within

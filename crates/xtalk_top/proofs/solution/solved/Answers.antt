@@ -1,5 +1,5 @@
 use Rattle.std.proofs.lemmas.Result.{err_from_is_err_and}
-use Rattle.xtalk_top.proofs.Within.{are_bounds}
+use Rattle.call_meaning.proofs.Within.{are_bounds}
 use Rattle.xtalk_top.proofs.solution.solved.Goals as goal
 
 pub returns-in-Ok-clause-bounds : goal.returns-in-Ok-clause-bounds

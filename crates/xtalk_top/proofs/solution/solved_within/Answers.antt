@@ -1,5 +1,5 @@
-use Rattle.xtalk_top.proofs.EditSteps.{both_ok}
-use Rattle.xtalk_top.proofs.Within.{found_within, narrows_from}
+use Rattle.call_meaning.proofs.EditSteps.{both_ok}
+use Rattle.call_meaning.proofs.Within.{found_within, narrows_from}
 use Rattle.xtalk_top.proofs.solution.solved_within.Goals as goal
 
 pub least_and_greatest-requires-clause-start : goal.least_and_greatest-requires-clause-start

@@ -1,7 +1,7 @@
 use Rattle.std.proofs.lemmas.Result.{err_from_is_err_and}
-use Rattle.xtalk_top.specs.Outcome.{FileMeans, LinkedMeans, DesignMeans, Outcome, TextReportMeans, counted_by, prints}
-use Rattle.xtalk_top.proofs.Given.{design_leads}
-use Rattle.xtalk_top.proofs.Lifts.{answers_unread, file_leads, file_stops, linked_stops, stops_first, stops_unread}
+use Rattle.call_meaning.specs.Outcome.{FileMeans, LinkedMeans, DesignMeans, Outcome, TextReportMeans, counted_by, prints}
+use Rattle.call_meaning.proofs.Given.{design_leads}
+use Rattle.call_meaning.proofs.Lifts.{answers_unread, file_leads, file_stops, linked_stops, stops_first, stops_unread}
 use Rattle.xtalk_top.proofs.text_report.report_of_text.Goals as goal
 
 pub returns-in_err-file-clause-means : goal.returns-in_err-file-clause-means

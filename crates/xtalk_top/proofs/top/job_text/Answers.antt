@@ -1,10 +1,10 @@
 use Rattle.std.proofs.Common.{refl}
 use Rattle.command_line.specs.Words.{HasCount}
-use Rattle.xtalk_top.proofs.Lifts.{answers_unread}
-use Rattle.xtalk_top.specs.Outcome.{prints}
-use Rattle.xtalk_top.specs.Gen.{GenMeans}
+use Rattle.call_meaning.proofs.Lifts.{answers_unread}
+use Rattle.call_meaning.specs.Outcome.{prints}
+use Rattle.call_meaning.specs.Gen.{GenMeans}
 use Rattle.std.proofs.Common.{[]}
-use Rattle.xtalk_top.proofs.Openings.{none_opened, opens_all}
+use Rattle.call_meaning.proofs.Openings.{none_opened, opens_all}
 use Rattle.xtalk_top.proofs.top.job_text.Goals as goal
 
 pub summary_of_generated-requires-clause-nets : goal.summary_of_generated-requires-clause-nets

@@ -2,15 +2,15 @@ use Rattle.std.proofs.Common.{◌≡◌, Err, Option, IfSome, ap, refl, sym, sub
 use Rattle.std.specs.Prelude.{MatchOption}
 use Rattle.command_line.specs.Words.{HasCount, bytes_of}
 use Rattle.command_line.specs.declared.words.Job.{Job}
-use Rattle.xtalk_top.specs.declared.refusal.Refusal.TheVariants.{Words}
-use Rattle.xtalk_top.specs.Outcome.{Outcome, prints, refuses}
-use Rattle.xtalk_top.specs.Call.{JobMeans, Means}
+use Rattle.call_meaning.specs.declared.refusal.Refusal.TheVariants.{Words}
+use Rattle.call_meaning.specs.Outcome.{Outcome, prints, refuses}
+use Rattle.call_meaning.specs.Call.{JobMeans, Means}
 use Rattle.command_line.proofs.Counts.{job_counts}
-use Rattle.xtalk_top.proofs.Lifts.{answers_first, job_means}
+use Rattle.call_meaning.proofs.Lifts.{answers_first, job_means}
 use Rattle.std.proofs.Common.{[]}
 use Rattle.command_line.specs.Words.{job_of}
-use Rattle.xtalk_top.specs.Opened.{files_named}
-use Rattle.xtalk_top.proofs.Openings.{none_opened, opens_part}
+use Rattle.call_meaning.specs.Opened.{files_named}
+use Rattle.call_meaning.proofs.Openings.{none_opened, opens_part}
 use Rattle.xtalk_top.proofs.top.text_of.Goals as goal
 
 pub job_text-requires-clause-count : goal.job_text-requires-clause-count

@@ -1,19 +1,20 @@
 use Rattle.std.proofs.Common.{◌≡◌, ◌≢◌, ◌⊎◌, ◌∙◌, ℕ, zero, suc, inl, inr, refl, arith}
 use Rattle.xt_io.specs.Outside.{Rose, appended}
-use Rattle.xtalk_top.specs.declared.refusal.Refusal.TheVariants.{Words, File, Linking, Design}
-use Rattle.xtalk_top.specs.declared.refusal.Unlinked.TheVariants as unlinked
-use Rattle.xtalk_top.specs.declared.refusal.DesignRefusal.TheVariants.{Limit}
-use Rattle.xtalk_top.specs.declared.refusal.TextRefusal.TheVariants.{At, Beyond}
-use Rattle.xtalk_top.specs.declared.refusal.FileRefusal.TheVariants.{TooLong, Content}
-use Rattle.xtalk_top.specs.declared.refusal.Stop.{Stop}
-use Rattle.xtalk_top.specs.declared.refusal.Stop.TheVariants.{Refused, Unread, NoMemory}
-use Rattle.xtalk_top.specs.declared.refusal.Failure.TheVariants.{NoText, Unwritten}
+use Rattle.call_meaning.specs.declared.refusal.Refusal.TheVariants.{Words, File, Linking, Design}
+use Rattle.call_meaning.specs.declared.refusal.Unlinked.TheVariants as unlinked
+use Rattle.call_meaning.specs.declared.refusal.DesignRefusal.TheVariants.{Limit}
+use Rattle.call_meaning.specs.declared.refusal.TextRefusal.TheVariants.{At, Beyond}
+use Rattle.call_meaning.specs.declared.refusal.FileRefusal.TheVariants.{TooLong, Content}
+use Rattle.call_meaning.specs.declared.refusal.Stop.{Stop}
+use Rattle.call_meaning.specs.declared.refusal.Stop.TheVariants.{Refused, Unread, NoMemory}
+use Rattle.call_meaning.specs.declared.refusal.Failure.TheVariants.{NoText, Unwritten}
 use Rattle.command_line.specs.Words.{bytes_of}
-use Rattle.xtalk_top.specs.Call.{Means, HadNoFault, HasFault, WritesLine, status_of}
-use Rattle.xtalk_top.proofs.Agreement.{one_outcome, refused, not_both, completed, text_is_only, stop_is_only}
+use Rattle.call_meaning.specs.Call.{Means, HadNoFault, HasFault}
+use Rattle.call_meaning.specs.FailureWords.{WritesLine, status_of}
+use Rattle.call_meaning.proofs.Agreement.{one_outcome, refused, not_both, completed, text_is_only, stop_is_only}
 use Rattle.command_line.specs.Words.{job_of}
-use Rattle.xtalk_top.specs.Opened.{files_named}
-use Rattle.xtalk_top.proofs.Openings.{opens_same}
+use Rattle.call_meaning.specs.Opened.{files_named}
+use Rattle.call_meaning.proofs.Openings.{opens_same}
 use Rattle.xtalk_top.proofs.top.xtalk_gated.Goals as goal
 
 -- a status of 0, or of 7

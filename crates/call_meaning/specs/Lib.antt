@@ -1,0 +1,12 @@
+pub mod FailureWords
+pub mod Outcome
+pub mod Linking
+pub mod Report
+pub mod Solve
+pub mod Replay
+pub mod Eco
+pub mod Link
+pub mod Gen
+pub mod Opened
+pub mod Call
+pub mod Laws

@@ -1,0 +1,6 @@
+mod Arguments
+mod Steps
+mod Once
+mod Matches
+mod Builds
+mod Accepted

@@ -1,9 +1,0 @@
-use Rattle.std.proofs.Common.{◌≡◌, map, take}
-use Rattle.clap.specs.Words.{app_of}
-use Rattle.command_line.specs.Forms.{texts_of}
-use Rattle.command_line.specs.Reading.{app_with, option_rule}
-use Rattle.command_line.proofs.grammar.command_of_options.Given as goal
-
--- the command has the options so far
-abbrev pub invariant-loop-name : goal.invariant-loop-name
-invariant-loop-name l = app_of l.command ≡ app_with (map option_rule (texts_of (take l.name-index l.options)))

@@ -1,4 +1,0 @@
-use Rattle.xtalk_top.proofs.refuse.write_line.Goals as goal
-
-pub returns-in-Unwritten : goal.returns-in-Unwritten
-returns-in-Unwritten g c = rw c.in-Unwritten.is c.write_pieces.ensures
