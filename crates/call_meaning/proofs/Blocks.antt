@@ -1,18 +1,22 @@
 -- The files of a block, each read and then its text, as the command sees them.
-use Rattle.std.proofs.Common.{◌≡◌, ◌<◌, ◌≤◌, ℕ, length, Option, Result, Ok, Err, IfSome, ap, subst, inl, inr}
+use Rattle.std.proofs.Common.{◌≡◌, ◌<◌, ◌≤◌, ℕ, length, Option, Result, Ok, Err, IfSome, ap, refl, subst, inl, inr}
 use Rattle.xt_model.specs.declared.code.Code.{Code}
 use Rattle.xt_model.specs.Parts.{Parts}
 use Rattle.liberty_cells.specs.declared.library.Library.{Library}
 use Rattle.verilog_net.specs.declared.netlist.Netlist.{Netlist}
 use Rattle.link_rules.specs.Bare.{Inputs}
 use Rattle.command_line.specs.Words.{Text}
+use Rattle.xt_io.specs.Outside.{KeepsCounts}
+use Rattle.xt_lex.specs.declared.text_fault.TextFault.{TextFault}
+use Rattle.xt_lex.specs.declared.text_fault.TextFault.TheVariants.{NoMemory, Refused}
+use Rattle.call_meaning.specs.Call.{Stops}
 use Rattle.call_meaning.specs.Outcome.{Contents, Outcome, refuses}
 use Rattle.call_meaning.specs.FailureWords.{most_bytes}
 use Rattle.call_meaning.specs.declared.refusal.TextRefusal.{TextRefusal}
 use Rattle.call_meaning.specs.declared.refusal.TextRefusal.TheVariants.{At}
 use Rattle.call_meaning.specs.declared.refusal.FileRefusal.TheVariants.{Content}
 use Rattle.call_meaning.specs.declared.refusal.Refusal.TheVariants.{File}
-use Rattle.call_meaning.specs.Linking.{BlockMeans, FileAndText, FilesMean, HoldInputs, HoldsText, LastFilesMean, LinkingMeans, MakeDesign, SourceMeans, ConstraintsIn, ParasiticsIn}
+use Rattle.call_meaning.specs.Linking.{BlockMeans, FileAndText, FilesMean, HoldInputs, HoldsText, LastFilesMean, LinkingMeans, MakeDesign, SourceMeans, ConstraintsIn, ParasiticsIn, stop_at}
 use Rattle.command_line.specs.declared.words.BlockFiles.{BlockFiles}
 
 -- a text that is refused, wherever a value would lead
@@ -34,11 +38,20 @@ pub text_leads : {V : Type 0} (file : Text) (content : Contents) (Meant : Text �
 text_leads file content Meant Leads o v h leads = inr (inr (h.bytes, h.held, h.fits, record { result = Ok v; meant = h.means; leads = leads }))
 
 -- a text that is refused at a line
-pub text_refused : {V : Type 0} (file name : Text) (content : Contents) (Meant : Text → Result V TextRefusal → Type 0) (bytes : Text) (line : ℕ) (code : Code)
+text_refused : {V : Type 0} (file name : Text) (content : Contents) (Meant : Text → Result V TextRefusal → Type 0) (bytes : Text) (line : ℕ) (code : Code)
     → name ≡ file → IfSome (content file) (λ whole. bytes ≡ whole) → length bytes ≤ most_bytes → Meant bytes (Err (At line code))
     → FileAndText file content Meant (λ _. ⊥) (refuses (File name (Content (At line code))))
 text_refused file name content Meant bytes line code is held fits e =
     inr (inr (bytes, held, fits, record { result = Err (At line code); meant = e; leads = ap (λ n. refuses (File n (Content (At line code)))) is }))
+
+-- a text that is at fault
+pub text_at_fault : {V : Type 0} (file name : Text) (content : Contents) (Meant : Text → Result V TextRefusal → Type 0) (bytes : Text) (fault : TextFault) (before now : Text → ℕ)
+    → name ≡ file → IfSome (content file) (λ whole. bytes ≡ whole) → length bytes ≤ most_bytes → KeepsCounts before now
+    → ((line : ℕ) (code : Code) → fault ≡ Refused line code → Meant bytes (Err (At line code)))
+    → Stops (stop_at name fault) (FileAndText file content Meant (λ _. ⊥)) before now
+text_at_fault file name content Meant bytes (Refused line code) before now is held fits kept means =
+    (text_refused file name content Meant bytes line code is held fits (means line code refl), λ _. kept)
+text_at_fault file name content Meant bytes NoMemory before now is held fits kept means = (tt, λ _. kept)
 
 -- a file whose content is as before
 if_same : (P : Text → Type 0) (c d : Option Text) → c ≡ d → IfSome c P → IfSome d P

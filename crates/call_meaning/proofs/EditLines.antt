@@ -1,5 +1,5 @@
 -- The lines of a text of edits, one after another.
-use Rattle.std.proofs.Common.{◌≡◌, ℕ, ◌+◌, ◌<◌, ◌==◌, Bool, true, false, eqb, ltb, cond, List, [], ◌∷◌, length, take, drop, Option, Some, None, refl, sym, ap, subst, ◌∙◌, codes, arith}
+use Rattle.std.proofs.Common.{◌≡◌, ℕ, ◌+◌, ◌<◌, Bool, true, false, eqb, ltb, cond, List, [], ◌∷◌, length, take, drop, Option, Some, None, refl, sym, ap, subst, ◌∙◌, codes, arith}
 use Rattle.std.specs.Prelude.{position}
 use Rattle.std.specs.List.{position_or_len, join_with_byte}
 use Rattle.std.specs.Str.{bytes_eq}
@@ -8,14 +8,12 @@ use Rattle.std.proofs.lemmas.List.Splits.{slice_split_first, slice_split_none, l
 use Rattle.std.proofs.lemmas.List.Sums.{fails_before_first}
 use Rattle.xt_model.specs.declared.code.Code.TheVariants as codes_of
 use Rattle.xt_model.specs.Parts.{Parts}
-use Rattle.linked_text.specs.Fields.{fields_of}
-use Rattle.eco_warm.specs.Reading.{edit_in}
 use Rattle.command_line.specs.Words.{Text}
-use Rattle.call_meaning.specs.Outcome.{Outcome, DesignMeans, LimitsMean}
+use Rattle.call_meaning.specs.Outcome.{Outcome, LimitsMean}
 use Rattle.call_meaning.specs.Call.{IsStop}
 use Rattle.call_meaning.specs.declared.refusal.Stop.{Stop}
 use Rattle.call_meaning.proofs.Lifts.{lift_stop}
-use Rattle.call_meaning.specs.Eco.{EndMeans, Ends, GoesOn, IfElse, LineMeans, LinesMean, ReadMeans, lines_of, most_edits, refused_at}
+use Rattle.call_meaning.specs.Eco.{EndMeans, Ends, GoesOn, IfElse, LineMeans, LinesMean, lines_of, most_edits, refused_at}
 
 -- ---- the first line
 

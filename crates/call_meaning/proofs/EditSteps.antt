@@ -1,12 +1,11 @@
 -- What the steps of `eco` come to, as the command sees it.
-use Rattle.std.proofs.Common.{◌≡◌, ◌⊎◌, ℕ, ◌+◌, ◌<◌, ◌≤◌, List, [], ◌∷◌, length, Some, None, Option, IfSome, IfOk, IfErr, Result, Ok, Err, refl, sym, ap, subst, ◌∙◌, inl, inr}
+use Rattle.std.proofs.Common.{◌≡◌, ◌⊎◌, ℕ, ◌+◌, ◌<◌, ◌≤◌, List, length, Some, Option, IfSome, IfOk, IfErr, Result, Ok, Err, sym, subst, inl, inr}
 use Rattle.std.specs.List.{slice_get}
 use Rattle.xt_model.specs.declared.net.Net.{Net}
 use Rattle.xt_model.specs.Levels.{AreLevelled}
 use Rattle.xt_model.specs.Parts.{Parts}
 use Rattle.xt_model.specs.Sound.{IsSound}
 use Rattle.linked_text.specs.Fields.{fields_of}
-use Rattle.report_kind.specs.declared.kind.ReportKind.TheVariants.{All}
 use Rattle.eco_warm.specs.declared.edit.Edit.{Edit}
 use Rattle.eco_warm.specs.declared.edit.EditFault.{EditFault}
 use Rattle.eco_warm.specs.declared.edit.EditFault.TheVariants as faults
@@ -16,10 +15,10 @@ use Rattle.eco_warm.specs.Reading.{IsLineFault, edit_in}
 use Rattle.eco_warm.proofs.Allowed.{edited_levels, edited_sound, there}
 use Rattle.eco_warm.proofs.Named.{edit_between}
 use Rattle.command_line.specs.Words.{Text}
-use Rattle.call_meaning.specs.Outcome.{Contents, Outcome, refuses, unread, FileMeans, DesignMeans, KeepsLimits, LimitsMean, SolvedMeans}
+use Rattle.call_meaning.specs.Outcome.{Contents, Outcome, refuses, unread, FileMeans, KeepsLimits, LimitsMean, SolvedMeans}
 use Rattle.call_meaning.specs.FailureWords.{most_bytes}
 use Rattle.call_meaning.specs.Call.{IsStop}
-use Rattle.call_meaning.specs.Eco.{EditMeans, EditsMean, FaultMeans, GoesOn, IsAfterLine, IsOfDesign, LinesMean, ReadMeans, lines_of}
+use Rattle.call_meaning.specs.Eco.{EditMeans, FaultMeans, GoesOn, IsAfterLine, IsOfDesign, LinesMean, ReadMeans}
 use Rattle.call_meaning.specs.declared.refusal.FileRefusal.TheVariants.{TooLong}
 use Rattle.call_meaning.specs.declared.refusal.Refusal.TheVariants.{File}
 use Rattle.call_meaning.specs.declared.refusal.Stop.{Stop}

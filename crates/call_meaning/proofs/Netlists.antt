@@ -15,7 +15,10 @@ use Rattle.hier_flatten.proofs.MeaningLaws.{one_outcome}
 use Rattle.hier_flatten.proofs.FlatNetlists.{flat_sound}
 use Rattle.flat_laws.proofs.Texts.{alone_is_flat}
 use Rattle.command_line.specs.Words.{Text}
-use Rattle.call_meaning.specs.Linking.{FlatIn, ModulesIn, NetlistIn}
+use Rattle.xt_lex.specs.declared.text_fault.TextFault.{TextFault}
+use Rattle.xt_lex.specs.declared.text_fault.TextFault.TheVariants as texts
+use Rattle.call_meaning.specs.Call.{IsStop}
+use Rattle.call_meaning.specs.Linking.{FlatIn, ModulesIn, NetlistIn, TextMeans, stop_at}
 use Rattle.call_meaning.specs.declared.refusal.TextRefusal.{TextRefusal}
 use Rattle.call_meaning.specs.declared.refusal.TextRefusal.TheVariants.{At, Beyond}
 use Rattle.call_meaning.specs.declared.refusal.PassedLimit.{PassedLimit}
@@ -30,9 +33,15 @@ same_limit l m a b c =
 -- ---- what a text means
 
 -- a text that is refused before its modules are there
-pub unread_modules : (bytes : Text) (line : ℕ) (code : Code) → modules_of bytes ≡ Err (record { line = line; code = code })
+unread_modules : (bytes : Text) (line : ℕ) (code : Code) → modules_of bytes ≡ Err (record { line = line; code = code })
     → NetlistIn bytes (Err (At line code))
 unread_modules bytes line code e = subst (λ m. ModulesIn m (last_line bytes) (Err (At line code))) (sym e) refl
+
+pub modules_at_fault : (file bytes : Text) (fault : TextFault) → ((line : ℕ) (code : Code) → fault ≡ texts.Refused line code → modules_of bytes ≡ Err (record { line = line; code = code }))
+    → IsStop (TextMeans file bytes NetlistIn (λ _. ⊥)) (λ _. ⊥) (stop_at file fault)
+modules_at_fault file bytes (texts.Refused line code) refused =
+    record { result = Err (At line code); meant = unread_modules bytes line code (refused line code refl); leads = refl }
+modules_at_fault file bytes texts.NoMemory refused = tt
 
 -- a text whose modules mean this
 pub flat_modules : (bytes : Text) (modules : List Netlist) (r : Result Netlist TextRefusal) → modules_of bytes ≡ Ok modules

@@ -6,6 +6,8 @@ use Rattle.xt_model.specs.Limits.{most_instances}
 use Rattle.xt_model.specs.Parts.{Parts}
 use Rattle.xt_model.specs.Sound.{IsSound}
 use Rattle.xt_lex.specs.Bytes.{last_line}
+use Rattle.xt_lex.specs.declared.text_fault.TextFault.{TextFault}
+use Rattle.xt_lex.specs.declared.text_fault.TextFault.TheVariants as texts
 use Rattle.text_forms.specs.Forms.{Refusal as Place}
 use Rattle.liberty_cells.specs.Library.{library_meant}
 use Rattle.liberty_cells.specs.declared.library.Library.{Library}
@@ -31,6 +33,8 @@ use Rattle.call_meaning.specs.declared.refusal.TextRefusal.{TextRefusal}
 use Rattle.call_meaning.specs.declared.refusal.TextRefusal.TheVariants.{At, Beyond}
 use Rattle.call_meaning.specs.declared.refusal.FileRefusal.TheVariants.{Content}
 use Rattle.call_meaning.specs.declared.refusal.Refusal.TheVariants.{File, Linking}
+use Rattle.call_meaning.specs.declared.refusal.Stop.{Stop}
+use Rattle.call_meaning.specs.declared.refusal.Stop.TheVariants as stops
 
 -- ---- the texts
 
@@ -38,6 +42,11 @@ use Rattle.call_meaning.specs.declared.refusal.Refusal.TheVariants.{File, Linkin
 abbrev pub SourceMeans : {V : Type 0} → Text → Result V TextRefusal → (V → Type 0) → Outcome → Type 0
 SourceMeans file (Ok value) Leads outcome = Leads value
 SourceMeans file (Err why) Leads outcome = outcome ≡ refuses (File file (Content why))
+
+-- why a file gives nothing whose text is at fault
+abbrev pub stop_at : Text → TextFault → Stop
+stop_at file (texts.Refused line code) = stops.Refused (File file (Content (At line code)))
+stop_at file texts.NoMemory = stops.NoMemory
 
 -- a text that means a result, and where this leads
 pub record TextMeans {V : Type 0} (file bytes : Text) (Meant : Text → Result V TextRefusal → Type 0)

@@ -14,6 +14,7 @@ ghost use Rattle.xt_io.specs.Outside.{AreOpened};
 ghost use Rattle.call_meaning.specs.Call.{Answers, IsStop};
 ghost use Rattle.call_meaning.specs.FailureWords.{most_bytes};
 ghost use Rattle.call_meaning.specs.Opened.{HasValue, OpensFirst, block_files};
+ghost use Rattle.call_meaning.specs.Linking;
 ghost use Rattle.call_meaning.specs.Linking.{BlockMeans, FileAndText, HoldsText, LinkingMeans, MakeDesign};
 ghost use Rattle.call_meaning.specs.Linking.{FinishDesign, LastFilesMean, TextMeans};
 ghost use Rattle.call_meaning.specs.Linking.{ConstraintsIn, LibraryIn, NetlistIn, ParasiticsIn};
@@ -21,7 +22,7 @@ ghost use Rattle.command_line.specs.Words.{Text};
 ghost use Rattle.call_meaning.specs.declared.refusal.Stop.TheVariants.{Refused};
 ghost use Rattle.call_meaning.specs.declared.refusal.Refusal.TheVariants.{File};
 ghost use Rattle.call_meaning.specs.declared.refusal.FileRefusal.TheVariants.{Content};
-ghost use Rattle.call_meaning.specs.declared.refusal.TextRefusal.TheVariants.{At, Beyond};
+ghost use Rattle.call_meaning.specs.declared.refusal.TextRefusal.TheVariants.{Beyond};
 
 use crate::input::read_file;
 use call_meaning::{FileRefusal, PassedLimit, Refusal, Stop, TextRefusal, Unlinked};
@@ -37,16 +38,19 @@ use verilog_net::{Netlist, read_modules};
 use xt_io::Files;
 use xt_lex::{TextFault, last_line};
 use xt_model::limits::MOST_INSTANCES;
-use xt_model::{Code, Design, LimitKind};
+use xt_model::{Design, LimitKind};
 
-// A refusal of a file's text, at this line.
-fn refused(file: FileName, line: u32, code: Code) -> Stop
-    ensures { result ≡ Refused (File file (Content (At line code))) }
+// Why a file gives nothing whose text is at fault.
+fn stop_at(file: FileName, fault: TextFault) -> Stop
+    ensures { result ≡ Linking.stop_at file fault }
 {
-    Stop::Refused(Refusal::File {
-        file,
-        why: FileRefusal::Content(TextRefusal::At { line, code }),
-    })
+    match fault {
+        TextFault::Refused { line, code } => Stop::Refused(Refusal::File {
+            file,
+            why: FileRefusal::Content(TextRefusal::At { line, code }),
+        }),
+        TextFault::NoMemory => Stop::NoMemory,
+    }
 }
 
 // A limit that the flat netlist of a file's modules passes. Its number is one more than may be, also where there are
@@ -81,8 +85,7 @@ fn library<F: Files>(alloc: Global, files: &mut F, file: FileName) -> Result<Lib
     let (file, bytes) = read_file(alloc, files, file)?;
     match read_library(alloc, &bytes) {
         Ok(value) => Ok(value),
-        Err(TextFault::Refused { line, code }) => Err(refused(file, line, code)),
-        Err(TextFault::NoMemory) => Err(Stop::NoMemory),
+        Err(fault) => Err(stop_at(file, fault)),
     }
 }
 
@@ -95,8 +98,7 @@ fn flat_netlist(alloc: Global, file: FileName, bytes: &[u8]) -> Result<Netlist, 
 {
     let modules = match read_modules(alloc, bytes) {
         Ok(modules) => modules,
-        Err(TextFault::Refused { line, code }) => return Err(refused(file, line, code)),
-        Err(TextFault::NoMemory) => return Err(Stop::NoMemory),
+        Err(fault) => return Err(stop_at(file, fault)),
     };
     let modules = match lone_module(modules) {
         Ok(netlist) => return Ok(netlist),
@@ -104,7 +106,9 @@ fn flat_netlist(alloc: Global, file: FileName, bytes: &[u8]) -> Result<Netlist, 
     };
     match flatten(alloc, &modules, last_line(bytes)) {
         Ok(netlist) => Ok(netlist),
-        Err(FlatFault::Refused { line, code }) => Err(refused(file, line, code)),
+        Err(FlatFault::Refused { line, code }) => {
+            Err(stop_at(file, TextFault::Refused { line, code }))
+        }
         Err(FlatFault::Limit { what }) => Err(beyond(file, what)),
         Err(FlatFault::NoMemory) => Err(Stop::NoMemory),
     }
@@ -135,8 +139,7 @@ fn parasitics<F: Files>(alloc: Global, files: &mut F, file: FileName) -> Result<
     let (file, bytes) = read_file(alloc, files, file)?;
     match read_spef(alloc, &bytes) {
         Ok(value) => Ok(value),
-        Err(TextFault::Refused { line, code }) => Err(refused(file, line, code)),
-        Err(TextFault::NoMemory) => Err(Stop::NoMemory),
+        Err(fault) => Err(stop_at(file, fault)),
     }
 }
 
@@ -167,8 +170,7 @@ fn constraints<F: Files>(
         library.cap_scale,
     ) {
         Ok(value) => Ok(value),
-        Err(TextFault::Refused { line, code }) => Err(refused(file, line, code)),
-        Err(TextFault::NoMemory) => Err(Stop::NoMemory),
+        Err(fault) => Err(stop_at(file, fault)),
     }
 }
 

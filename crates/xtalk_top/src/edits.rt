@@ -1,12 +1,11 @@
 //! The edits of a text, made one after another, and the report of the last design.
 
-ghost use Rattle.std.specs.Prelude.{◌≡◌, Ok, IfOk, IfErr, IfSome};
-ghost use Rattle.std.specs.List.{slice_get};
+ghost use Rattle.std.specs.Prelude.{◌≡◌, IfOk, IfErr};
 ghost use Rattle.xt_model.specs.Levels.{AreLevelled};
 ghost use Rattle.xt_model.specs.Sound.{IsSound};
 ghost use Rattle.linked_text.specs.Fields.{fields_of};
 ghost use Rattle.report_kind.specs.declared.kind.ReportKind.TheVariants.{All};
-ghost use Rattle.eco_warm.specs.Edits.{edited, first_of, move_of, net_left, second_of};
+ghost use Rattle.eco_warm.specs.Edits.{edited};
 ghost use Rattle.eco_warm.specs.Possible.{IsAllowed, IsEditOf};
 ghost use Rattle.eco_warm.specs.Reading.{edit_in};
 ghost use Rattle.command_line.specs.Words.{IsWorkerCount};
@@ -15,11 +14,11 @@ ghost use Rattle.call_meaning.specs.Call.{IsStop};
 ghost use Rattle.call_meaning.specs.Eco.{EditMeans, EditsMean, HasEnvelope, IsAfterLine};
 ghost use Rattle.call_meaning.specs.Eco.{LinesMean, ReadMeans, lines_of};
 
-use crate::design_report::report_in;
+use crate::design_report::report_within;
 use crate::edit_lines::next_line;
 use crate::edit_refusal::stop_of;
 use crate::runs::{Runs, Turns};
-use crate::solution::{envelope_of, envelope_renewed, solved_within};
+use crate::solution::{envelope_of, envelope_renewed};
 use call_meaning::Stop;
 use chaos_core::Gate;
 use command_line::FileName;
@@ -27,48 +26,7 @@ use eco_warm::{Edit, design_after, nets_after, read_edit};
 use report_text::ReportKind;
 use std::alloc::Global;
 use std::thread::Threads;
-use xt_model::{Design, Net, NoMemory, Windows};
-
-// The edit that the line of this number says.
-fn edit_of(
-    alloc: Global,
-    file: &FileName,
-    number: u32,
-    line: &[u8],
-    design: &Design,
-) -> Result<Edit, Stop>
-    ensures said { IfOk result (λ e. edit_in design.now.nets (fields_of line.now) ≡ Ok e) }
-    ensures between { IfOk result (IsEditOf design.now.nets) }
-    ensures stop { let read = edit_in design.now.nets (fields_of line.now) in
-        IfErr result (IsStop (ReadMeans file.now number read design.now (λ _. ⊥)) (λ _. ⊥)) }
-{
-    match read_edit(alloc, design, line) {
-        Ok(edit) => Ok(edit),
-        Err(fault) => Err(stop_of(alloc, file, number, design, fault)),
-    }
-}
-
-// The two nets of the edit after it.
-fn edited_nets(
-    alloc: Global,
-    file: &FileName,
-    number: u32,
-    design: &Design,
-    edit: &Edit,
-) -> Result<(Net, Net), Stop>
-    requires { IsEditOf design.now.nets edit.now }
-    ensures first { IfOk result (λ p. IfSome (slice_get design.now.nets (first_of edit.now))
-        (λ old. p.0 ≡ net_left (move_of edit.now) (second_of edit.now) old)) }
-    ensures second { IfOk result (λ p. IfSome (slice_get design.now.nets (second_of edit.now))
-        (λ old. p.1 ≡ net_left (move_of edit.now) (first_of edit.now) old)) }
-    ensures allowed { IfOk result (λ _. IsAllowed edit.now design.now.nets) }
-    ensures stop { IfErr result (IsStop (EditMeans file.now number edit.now design.now (λ _. ⊥)) (λ _. ⊥)) }
-{
-    match nets_after(alloc, design, edit) {
-        Ok(nets) => Ok(nets),
-        Err(fault) => Err(stop_of(alloc, file, number, design, fault)),
-    }
-}
+use xt_model::{Design, Windows};
 
 // The design after the edit, with its envelope.
 fn after_edit(
@@ -88,7 +46,10 @@ fn after_edit(
     ensures stop { IfErr result (IsStop
         (λ o. EditMeans file.now number edit.now design (λ after. LimitsMean after ⊥ o) o) (λ _. ⊥)) }
 {
-    let (first, second) = edited_nets(alloc, file, number, &design, edit)?;
+    let (first, second) = match nets_after(alloc, &design, edit) {
+        Ok(nets) => nets,
+        Err(fault) => return Err(stop_of(alloc, file, number, &design, fault)),
+    };
     let after = design_after(design, edit, first, second);
     let (a, b) = edit.nets();
     let top = envelope_renewed(alloc, &after.design, top, a, b)?;
@@ -111,8 +72,10 @@ fn after_line(
     ensures stop { let read = edit_in design.nets (fields_of line.now) in IfErr result (IsStop
         (λ o. ReadMeans file.now number read design (λ after. LimitsMean after ⊥ o) o) (λ _. ⊥)) }
 {
-    let edit = edit_of(alloc, file, number, line, &design)?;
-    after_edit(alloc, file, number, &edit, design, top)
+    match read_edit(alloc, &design, line) {
+        Ok(edit) => after_edit(alloc, file, number, &edit, design, top),
+        Err(fault) => Err(stop_of(alloc, file, number, &design, fault)),
+    }
 }
 
 // The design after all edits of a text, with its envelope.
@@ -167,8 +130,6 @@ pub fn report_of_edits<R: Threads + Sync, G: Gate>(
     let top = envelope_of(alloc, &design)?;
     let (design, top) = after_edits(alloc, file, text, design, top)?;
     let turns = Turns::InThreads;
-    match solved_within(rt, alloc, gate, &design, &top, Runs { workers, turns }) {
-        Ok(found) => report_in(alloc, &design, &found, ReportKind::All),
-        Err(NoMemory) => Err(Stop::NoMemory),
-    }
+    let runs = Runs { workers, turns };
+    report_within(rt, alloc, gate, &design, &top, ReportKind::All, runs)
 }

@@ -10,7 +10,7 @@ ghost use Rattle.call_meaning.specs.Call.{IsStop};
 ghost use Rattle.call_meaning.specs.Gen.{GenMeans, SummaryMeans};
 
 use crate::runs::{Runs, Turns};
-use crate::solution::solved;
+use crate::solution::{envelope_of, solved_within};
 use call_meaning::Stop;
 use chaos_core::Gate;
 use command_line::GenJob;
@@ -34,7 +34,10 @@ fn summary<R: Threads + Sync, G: Gate>(
     ensures ok { IfOk result (λ text. SummaryMeans design.now (prints text.items)) }
     ensures stop { IfErr result (IsStop (SummaryMeans design.now) (λ _. ⊥)) }
 {
-    let found = solved(rt, alloc, gate, design, runs)?;
+    let top = envelope_of(alloc, design)?;
+    let Ok(found) = solved_within(rt, alloc, gate, design, &top, runs) else {
+        return Err(Stop::NoMemory);
+    };
     match write_summary(alloc, design, &found.low, &found.high) {
         Ok(text) => Ok(text),
         Err(NoMemory) => Err(Stop::NoMemory),

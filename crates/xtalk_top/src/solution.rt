@@ -1,17 +1,12 @@
 //! The least and the greatest windows of a design, or the limit that it passes.
 
-ghost use Rattle.std.specs.Prelude.{◌<◌, List, length, IfOk, IfErr};
-ghost use Rattle.xt_model.specs.declared.direction.Direction.TheVariants.{Narrow};
-ghost use Rattle.xt_model.specs.declared.quad.Pair.{Pair};
+ghost use Rattle.std.specs.Prelude.{◌<◌, length, IfOk, IfErr};
 ghost use Rattle.xt_model.specs.Levels.{AreLevelled};
 ghost use Rattle.xt_model.specs.Sound.{IsSound};
-ghost use Rattle.xt_meaning.specs.Barrier.{IsFittingStart, IsWithinEnvelope};
-ghost use Rattle.xt_meaning.specs.Envelope.{IsAccepted, IsEnvelope};
-ghost use Rattle.xt_meaning.specs.Fixpoint.{IsFixpoint, IsLeastFixpoint, IsGreatestFixpoint};
-ghost use Rattle.envelope.specs.Firsts.{IsFirstPassed};
+ghost use Rattle.envelope.specs.Firsts.{IsFaultOfEnvelope};
 ghost use Rattle.envelope.specs.Renewal.{IsEnvelopeBut};
 ghost use Rattle.command_line.specs.Words.{IsWorkerCount};
-ghost use Rattle.call_meaning.specs.Outcome.{AreBounds, KeepsLimits, SolvedMeans};
+ghost use Rattle.call_meaning.specs.Outcome.{SolvedMeans};
 ghost use Rattle.call_meaning.specs.Call.{IsStop};
 ghost use Rattle.call_meaning.specs.Eco.{AreFound, HasEnvelope};
 
@@ -19,7 +14,7 @@ use crate::runs::{Runs, both_from};
 use call_meaning::{DesignRefusal, PassedLimit, Refusal, Stop};
 use chaos_core::Gate;
 use chaos_run::Both;
-use envelope::{EnvelopeFault, What, envelope, quiet, renewed};
+use envelope::{EnvelopeFault, envelope, quiet, renewed};
 use net_eval::read_lists;
 use std::alloc::Global;
 use std::thread::Threads;
@@ -27,19 +22,12 @@ use xt_model::{Design, Name, NetId, NoMemory, Windows};
 
 /// The envelope of a design.
 pub fn envelope_of(alloc: Global, design: &Design) -> Result<Windows, Stop>
-    ensures envelope { IfOk result (IsEnvelope design.now) }
-    ensures accepted { IfOk result (IsAccepted design.now) }
-    ensures starts { IfOk result (IsFittingStart Narrow design.now) }
-    ensures within { IfOk result (λ _. (v : List Pair) → IsFixpoint design.now v → IsWithinEnvelope design.now v) }
-    ensures kept { IfOk result (λ _. KeepsLimits design.now) }
+    ensures top { IfOk result (HasEnvelope design.now) }
     ensures stop { IfErr result (IsStop (SolvedMeans (λ _. ⊥) design.now) (λ _. ⊥)) }
 {
     match envelope(alloc, design) {
         Ok(top) => Ok(top),
-        Err(EnvelopeFault::Limit { net, what, value }) => Err(passed(
-            alloc, design, net, what, value,
-        )),
-        Err(EnvelopeFault::NoMemory) => Err(Stop::NoMemory),
+        Err(fault) => Err(stop_of(alloc, design, fault)),
     }
 }
 
@@ -59,18 +47,18 @@ pub fn envelope_renewed(
 {
     match renewed(alloc, design, old, first, second) {
         Ok(top) => Ok(top),
-        Err(EnvelopeFault::Limit { net, what, value }) => Err(passed(
-            alloc, design, net, what, value,
-        )),
-        Err(EnvelopeFault::NoMemory) => Err(Stop::NoMemory),
+        Err(fault) => Err(stop_of(alloc, design, fault)),
     }
 }
 
-// The refusal for the first limit that is passed, with the name of the net.
-fn passed(alloc: Global, design: &Design, net: NetId, what: What, value: i128) -> Stop
-    requires { IsFirstPassed design.now net.0 what value }
+// Why a design has no envelope that keeps the limits: the first that is passed, with the name of the net.
+fn stop_of(alloc: Global, design: &Design, fault: EnvelopeFault) -> Stop
+    requires { IsFaultOfEnvelope design.now fault }
     ensures { IsStop (SolvedMeans (λ _. ⊥) design.now) (λ _. ⊥) result }
 {
+    let EnvelopeFault::Limit { net, what, value } = fault else {
+        return Stop::NoMemory;
+    };
     let name = design.net(net.0 as usize).name.bytes();
     match Name::from_slice(alloc, name) {
         Ok(name) => Stop::Refused(Refusal::Design(DesignRefusal::Limit(PassedLimit {
@@ -82,27 +70,8 @@ fn passed(alloc: Global, design: &Design, net: NetId, what: What, value: i128) -
     }
 }
 
-// Runs twice: wider from windows in which nothing switches, and narrower from `top`, the envelope.
-fn least_and_greatest<R: Threads + Sync, G: Gate>(
-    rt: &R,
-    alloc: Global,
-    gate: &G,
-    design: &Design,
-    top: &Windows,
-    runs: Runs,
-) -> Result<Both, NoMemory>
-    requires start { IsFittingStart Narrow design.now top.now }
-    requires workers { IsWorkerCount runs.workers }
-    ensures least { IfOk result (λ found. IsLeastFixpoint design.now found.low) }
-    ensures greatest { IfOk result (λ found. IsGreatestFixpoint design.now found.high) }
-{
-    let lists = read_lists(alloc, design)?;
-    let bottom = quiet(alloc, design)?;
-    both_from(rt, alloc, gate, design, &lists, &bottom, top, runs)
-}
-
-/// The least and the greatest windows of a design, found from its envelope, which keeps the limits. Fails only for want
-/// of memory.
+/// The least and the greatest windows of a design, from its envelope `top`, which keeps the limits: runs twice, wider
+/// from windows in which nothing switches, and narrower from `top`. Fails only for want of memory.
 pub fn solved_within<R: Threads + Sync, G: Gate>(
     rt: &R,
     alloc: Global,
@@ -117,31 +86,7 @@ pub fn solved_within<R: Threads + Sync, G: Gate>(
     requires workers { IsWorkerCount runs.workers }
     ensures { IfOk result (λ found. AreFound design.now found.low found.high) }
 {
-    least_and_greatest(rt, alloc, gate, design, top, runs)
-}
-
-/// The least and the greatest windows of a design.
-pub fn solved<R: Threads + Sync, G: Gate>(
-    rt: &R,
-    alloc: Global,
-    gate: &G,
-    design: &Design,
-    runs: Runs,
-) -> Result<Both, Stop>
-    requires sound { IsSound design.now }
-    requires levelled { AreLevelled design.now.nets }
-    requires workers { IsWorkerCount runs.workers }
-    ensures least { IfOk result (λ found. IsLeastFixpoint design.now found.low) }
-    ensures greatest { IfOk result (λ found. IsGreatestFixpoint design.now found.high) }
-    ensures low_within { IfOk result (λ found. IsWithinEnvelope design.now found.low) }
-    ensures high_within { IfOk result (λ found. IsWithinEnvelope design.now found.high) }
-    ensures bounds { IfOk result (λ found. AreBounds design.now found.low found.high) }
-    ensures within { IfOk result (λ _. KeepsLimits design.now) }
-    ensures stop { IfErr result (IsStop (SolvedMeans (λ _. ⊥) design.now) (λ _. ⊥)) }
-{
-    let top = envelope_of(alloc, design)?;
-    match least_and_greatest(rt, alloc, gate, design, &top, runs) {
-        Ok(found) => Ok(found),
-        Err(NoMemory) => Err(Stop::NoMemory),
-    }
+    let lists = read_lists(alloc, design)?;
+    let bottom = quiet(alloc, design)?;
+    both_from(rt, alloc, gate, design, &lists, &bottom, top, runs)
 }

@@ -4,7 +4,7 @@ use Rattle.std.proofs.lemmas.Int.{ints}
 use Rattle.sdc_read.specs.Meaning.{IsScale}
 use Rattle.call_meaning.specs.Outcome.{FileMeans}
 use Rattle.call_meaning.specs.Linking.{FileAndText, by_line, ConstraintsIn}
-use Rattle.call_meaning.proofs.Blocks.{text_refused}
+use Rattle.call_meaning.proofs.Blocks.{text_at_fault}
 use Rattle.call_meaning.proofs.Lifts.{file_stops, stops_first}
 use Rattle.xtalk_top.proofs.block.constraints.Goals as goal
 
@@ -25,18 +25,14 @@ returns-in-Ok-clause-answer g c =
       c.in_ok-file.ensures.answer.1,
     )
 
-pub returns-in-Err-Refused-clause-answer : goal.returns-in-Err-Refused-clause-answer
-returns-in-Err-Refused-clause-answer g c =
+pub returns-in-Err-clause-answer : goal.returns-in-Err-clause-answer
+returns-in-Err-clause-answer g c =
     let time = scale_kept c.args.library.now.time_scale c.requires.time in
     let cap = scale_kept c.args.library.now.cap_scale c.requires.cap in
-    rw c.refused.ensures (
-      text_refused c.args.file c.in_ok-file.file (g.F.Files.content c.args.files.now) (ConstraintsIn c.args.library.now c.args.netlist.now) c.in_ok-file.bytes.items c.in-Err-Refused.line c.in-Err-Refused.code
-          c.in_ok-file.ensures.answer.0 c.in_ok-file.ensures.whole c.in_ok-file.ensures.fits (ap by_line (rw (c.deref.ensures.value, c.in-Err-Refused.field-0-is, time, cap) at c.in-Err-Refused.ensures.value)),
-      λ _. c.in_ok-file.ensures.answer.1,
-    )
-
-pub returns-in-Err-NoMemory-clause-answer : goal.returns-in-Err-NoMemory-clause-answer
-returns-in-Err-NoMemory-clause-answer g c = (tt, λ _. c.in_ok-file.ensures.answer.1)
+    let faults = g.F.Files.faults in
+    rw c.stop_at.ensures (text_at_fault c.args.file c.in_ok-file.file (g.F.Files.content c.args.files.now) (ConstraintsIn c.args.library.now c.args.netlist.now) c.in_ok-file.bytes.items c.in-Err.fault
+    (faults c.args.files.now) (faults c.read_file.new.files) c.in_ok-file.ensures.answer.0 c.in_ok-file.ensures.whole c.in_ok-file.ensures.fits c.in_ok-file.ensures.answer.1
+    (λ line code is. ap by_line (rw (c.deref.ensures.value, is, time, cap) at c.in-Err.ensures.value)))
 
 pub returns-in_err-file-clause-answer : goal.returns-in_err-file-clause-answer
 returns-in_err-file-clause-answer g c =
@@ -49,20 +45,14 @@ returns-in_err-file-clause-answer g c =
 pub returns-in-Ok-clause-content : goal.returns-in-Ok-clause-content
 returns-in-Ok-clause-content g c = c.read_file.ensures.content
 
-pub returns-in-Err-Refused-clause-content : goal.returns-in-Err-Refused-clause-content
-returns-in-Err-Refused-clause-content g c = c.read_file.ensures.content
-
-pub returns-in-Err-NoMemory-clause-content : goal.returns-in-Err-NoMemory-clause-content
-returns-in-Err-NoMemory-clause-content g c = c.read_file.ensures.content
+pub returns-in-Err-clause-content : goal.returns-in-Err-clause-content
+returns-in-Err-clause-content g c = c.read_file.ensures.content
 
 pub returns-in-Ok-clause-opened : goal.returns-in-Ok-clause-opened
 returns-in-Ok-clause-opened g c = c.read_file.ensures.opened
 
-pub returns-in-Err-Refused-clause-opened : goal.returns-in-Err-Refused-clause-opened
-returns-in-Err-Refused-clause-opened g c = c.read_file.ensures.opened
-
-pub returns-in-Err-NoMemory-clause-opened : goal.returns-in-Err-NoMemory-clause-opened
-returns-in-Err-NoMemory-clause-opened g c = c.read_file.ensures.opened
+pub returns-in-Err-clause-opened : goal.returns-in-Err-clause-opened
+returns-in-Err-clause-opened g c = c.read_file.ensures.opened
 
 pub returns-in_err-file-clause-opened : goal.returns-in_err-file-clause-opened
 returns-in_err-file-clause-opened g c = c.read_file.ensures.opened

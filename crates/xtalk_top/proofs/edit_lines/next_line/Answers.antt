@@ -1,4 +1,4 @@
-use Rattle.std.proofs.Common.{◌≡◌, ◌+◌, Bool, true, false, ltb, [], codes, length, rules}
+use Rattle.std.proofs.Common.{◌≡◌, ◌+◌, true, false, ltb, [], codes, length, rules}
 use Rattle.std.specs.Str.{bytes_eq}
 use Rattle.xt_model.specs.declared.code.Code.TheVariants.{E1}
 use Rattle.call_meaning.specs.Eco.{LinesMean, lines_of, most_edits, refused_at}

@@ -5,6 +5,7 @@ use Rattle.call_meaning.specs.Outcome.{DesignMeans, prints}
 use Rattle.call_meaning.specs.Eco.{EditsMean, LinesMean, lines_of}
 use Rattle.call_meaning.proofs.EditSteps.{limit_stops}
 use Rattle.call_meaning.proofs.Lifts.{lift_stop}
+use Rattle.call_meaning.proofs.Within.{keeps_within}
 use Rattle.xtalk_top.proofs.edits.report_of_edits.Goals as goal
 
 pub returns-in_err-top-clause-stop : goal.returns-in_err-top-clause-stop
@@ -13,14 +14,14 @@ returns-in_err-top-clause-stop g c =
     rw failed.1 (rw failed.2 (limit_stops c.args.design (LinesMean c.args.file.now (lines_of c.args.text.now) 0 c.args.design) c.in_err-top.field-0.0 c.in_err-top.ensures.stop))
 
 pub after_edits-requires-clause-top : goal.after_edits-requires-clause-top
-after_edits-requires-clause-top g c = record { envelope = c.in_ok-top.ensures.envelope; accepted = c.in_ok-top.ensures.accepted }
+after_edits-requires-clause-top g c = c.in_ok-top.ensures.top
 
-pub returns-in-Ok-clause-ok : goal.returns-in-Ok-clause-ok
-returns-in-Ok-clause-ok g c =
-    IfOk-weaker c.report_in.result _ _ (λ text h. inr (c.in_ok-top.ensures.kept, c.in_ok-design.ensures.leads (prints text.items) h)) c.report_in.ensures.ok
+pub returns-clause-ok : goal.returns-clause-ok
+returns-clause-ok g c =
+    IfOk-weaker c.report_within.result _ _ (λ text h. inr (keeps_within c.args.design c.in_ok-top.top c.in_ok-top.ensures.top, c.in_ok-design.ensures.leads (prints text.items) h)) c.report_within.ensures.ok
 
-pub returns-in-Ok-clause-stop : goal.returns-in-Ok-clause-stop
-returns-in-Ok-clause-stop g c =
+pub returns-clause-stop : goal.returns-clause-stop
+returns-clause-stop g c =
     let meant = EditsMean c.args.file.now c.args.text.now c.args.design in
-    IfErr-weaker c.report_in.result _ _ (λ s h. lift_stop (DesignMeans All c.in_ok-design.design) meant (λ _. ⊥) (λ _. ⊥) s
-    (λ o m. inr (c.in_ok-top.ensures.kept, c.in_ok-design.ensures.leads o m)) (λ _ r. r) h) c.report_in.ensures.stop
+    IfErr-weaker c.report_within.result _ _ (λ s h. lift_stop (DesignMeans All c.in_ok-design.design) meant (λ _. ⊥) (λ _. ⊥) s
+    (λ o m. inr (keeps_within c.args.design c.in_ok-top.top c.in_ok-top.ensures.top, c.in_ok-design.ensures.leads o m)) (λ _ r. r) h) c.report_within.ensures.stop
