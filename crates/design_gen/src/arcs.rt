@@ -42,12 +42,13 @@ pub(crate) fn arcs(alloc: Global, drawn: &Drawn, net: u32) -> Result<Row<TimingA
     ensures { IfOk result (λ row.
         row ≡ arcs_of drawn.now.nets (driver_of drawn.now.number drawn.now.nets) net) }
 {
-    let mut arcs = Vec::new(alloc);
     let first = sources(drawn.nets());
-    if net >= first {
-        let pin = 2 * (net - first);
-        push_arcs(&mut arcs, drawn, pin)?;
-        push_arcs(&mut arcs, drawn, pin + 1)?;
+    if net < first {
+        return Ok(Row::from_vec(Vec::new(alloc)));
     }
+    let pin = 2 * (net - first);
+    let mut arcs = Vec::with_capacity(alloc, 4)?;
+    push_arcs(&mut arcs, drawn, pin)?;
+    push_arcs(&mut arcs, drawn, pin + 1)?;
     Ok(Row::from_vec(arcs))
 }

@@ -49,7 +49,7 @@ pub(crate) fn draw_drivers(
     ensures drivers { IfOk result (λ ds. ds.items ≡ each_below (driver_of number nets) (pins nets)) }
     ensures state { OnOk result (source.new.state ≡ after number (sources nets + pins nets)) }
 {
-    let mut drivers = Vec::new(alloc);
+    let mut drivers = Vec::with_capacity(alloc, pins(nets) as usize)?;
     for pin in 0..pins(nets) {
         drivers.push(draw_driver(source, nets, pin))?;
     }

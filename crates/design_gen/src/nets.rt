@@ -9,15 +9,16 @@ ghost use Rattle.design_gen.specs.Generated.{net_name, pin_name, sink_of, both_e
 
 use crate::drivers::sources;
 use itoa::Buffer;
+use smallvec::SmallVec;
 use std::alloc::{AllocError, Global};
 use xt_model::{Coupling, Name, Pair, Quad, Row, SinkPin};
 
 /// The bytes of the name of a net: `n` and its number.
-fn name_bytes(alloc: Global, net: u32) -> Result<Vec<u8>, AllocError>
+fn name_bytes(alloc: Global, net: u32) -> Result<SmallVec<u8, 16>, AllocError>
     ensures { IfOk result (λ bytes. bytes.items ≡ net_name net) }
 {
     let mut buffer = Buffer::new();
-    let mut bytes = Vec::from_slice(alloc, b"n")?;
+    let mut bytes = SmallVec::from_slice(alloc, b"n")?;
     bytes.extend_from_slice(buffer.format(net).as_bytes())?;
     Ok(bytes)
 }
@@ -27,7 +28,8 @@ pub(crate) fn net_name(alloc: Global, net: u32) -> Result<Name, AllocError>
     requires { net < 1000000 }
     ensures { IfOk result (λ name. name ≡ net_name net) }
 {
-    Ok(Name::new(name_bytes(alloc, net)?))
+    let bytes = name_bytes(alloc, net)?;
+    Name::from_slice(alloc, bytes.as_slice())
 }
 
 /// The name of an input pin: that of its net, and its letter.
@@ -38,14 +40,14 @@ fn pin_name(alloc: Global, nets: u32, pin: u32) -> Result<Name, AllocError>
 {
     let mut bytes = name_bytes(alloc, sources(nets) + pin / 2)?;
     bytes.extend_from_slice(&[b'/', b'A' + (pin % 2) as u8])?;
-    Ok(Name::new(bytes))
+    Name::from_slice(alloc, bytes.as_slice())
 }
 
 /// The wire coefficients of a sink.
 fn coefficients(alloc: Global, couplings: &[Coupling]) -> Result<Row<i128>, AllocError>
     ensures { IfOk result (λ row. row ≡ map (λ k. pos 100000 *ℤ k.cap) couplings.now) }
 {
-    let mut coefs = Vec::new(alloc);
+    let mut coefs = Vec::with_capacity(alloc, couplings.len())?;
     for coupling in couplings {
         coefs.push(100_000 * i128::from(coupling.cap))?;
     }
@@ -64,7 +66,7 @@ pub(crate) fn sinks(
     requires pins { All (λ p. p < pins nets) numbers.now }
     ensures { IfOk result (λ row. row ≡ map (sink_of nets load couplings.now) numbers.now) }
 {
-    let mut sinks = Vec::new(alloc);
+    let mut sinks = Vec::with_capacity(alloc, numbers.len())?;
     for pin in numbers {
         sinks.push(SinkPin {
             name: pin_name(alloc, nets, *pin)?,

@@ -24,7 +24,7 @@ pub(crate) fn empty_rows<T: Drop>(alloc: Global, nets: u32) -> Result<Vec<Vec<T>
     ensures count { IfOk result (λ rows. length rows.items ≡ nets) }
     ensures empty { IfOk result (λ rows. All (λ r. r.items ≡ []) rows.items) }
 {
-    let mut rows = Vec::new(alloc);
+    let mut rows = Vec::with_capacity(alloc, nets as usize)?;
     for i in 0..nets {
         rows.push(Vec::new(alloc))?;
     }

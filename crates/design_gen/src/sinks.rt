@@ -31,7 +31,7 @@ pub(crate) fn sinks_by_driver(
         s.places.items ≡ each_below (place_of (slice_index drivers.now)) (length drivers.now)) }
 {
     let mut rows = empty_rows(alloc, nets)?;
-    let mut places = Vec::new(alloc);
+    let mut places = Vec::with_capacity(alloc, drivers.len())?;
     for pin in 0..drivers.len() {
         let driver = drivers[pin] as usize;
         places.push(rows[driver].len() as u32)?;

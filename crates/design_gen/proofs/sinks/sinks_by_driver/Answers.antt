@@ -10,7 +10,7 @@ pub loop-pin-init : goal.loop-pin-init
 loop-pin-init c = record {
   rows = record { each = none_there (λ r. r.items) c.in_ok-rows.rows.items c.in_ok-rows.ensures.empty };
   count = c.in_ok-rows.ensures.count;
-  places = c.new-places.ensures.items;
+  places = c.in_ok-places.ensures.items;
 }
 
 pub overflow_cast-len : goal.overflow_cast-len
