@@ -1,6 +1,7 @@
-//! One form of a text outside the sections of nets, by what may come next.
+//! One form of a text outside the sections of nets, from its first token on, by what may come next. What several of
+//! them call with the token is inlined: a token that is written to memory for a call costs 5 instructions a byte.
 
-ghost use Rattle.std.specs.Prelude.{◌≡◌, ℕ, false, [], ◌∷◌};
+ghost use Rattle.std.specs.Prelude.{◌≡◌, false, ◌∷◌};
 ghost use Rattle.spef_read.specs.declared.sort.Sort.TheVariants.{Brackets};
 ghost use Rattle.spef_read.specs.Forms.{separator_of, quantity_of, first_form, section_forms, start_forms};
 ghost use Rattle.spef_read.specs.Forms.{header_forms, flow_forms, unit_forms, pairs_forms, pair_name_forms};
@@ -12,12 +13,12 @@ ghost use Rattle.spef_read.specs.View.{item_text, whole_of};
 use crate::context::Context;
 use crate::item::{FormRead, Item, Quantity, Separator};
 use crate::net_forms::{
-    cap_second, cap_value, capacitors, connection, connections, lists, net_name, net_total,
+    cap_second, cap_value, capacitors, connection, connections, lists_from, net_name, net_total,
     res_second, res_value, resistors, totalled,
 };
-use crate::slots::any_word;
+use crate::slots::{any_word, is_word};
 use crate::sort::Sort;
-use text_forms::{Refused, Term, Terms};
+use text_forms::{Refused, Term, Terms, TokenSort};
 use xt_model::Code;
 
 /// A form that was read, whose last token is in this line.
@@ -55,15 +56,18 @@ fn quantity_of(word: &[u8]) -> Quantity
 }
 
 /// At the start of a text.
-fn at_start<'a>(terms: &mut Terms<'a, Sort>) -> Result<FormRead<'a>, Refused>
-    ensures { Reads (λ r. (whole_of r, terms.new)) result (first_form start_forms terms.old) }
+fn at_start<'a>(first: Term<'a, Sort>, terms: &mut Terms<'a, Sort>) -> Result<FormRead<'a>, Refused>
+    ensures { Reads (λ r. (whole_of r, terms.new)) result (first_form start_forms (token_of first.entry ∷ terms.old)) }
 {
-    terms.expect(Sort::Spef)?;
+    if !Sort::Spef.same(first.sort) {
+        return Err(first.refused());
+    }
     let text = terms.expect(Sort::Text)?;
     Ok(done(Item::Nothing, text.line, Context::Header))
 }
 
 /// A section, or the end of the text, from its first token on.
+#[inline(always)]
 fn section_from<'a>(first: Term<'a, Sort>, terms: &Terms<'a, Sort>) -> Result<FormRead<'a>, Refused>
     ensures { Reads (λ r. (whole_of r, terms.now)) result
         (first_form section_forms (token_of first.entry ∷ terms.now)) }
@@ -96,6 +100,7 @@ fn brackets<'a>(first: Term<'a, Sort>, terms: &mut Terms<'a, Sort>) -> Result<Fo
 }
 
 /// An item of the header, or what comes after it, from its first token on.
+#[inline(always)]
 fn header_from<'a>(
     first: Term<'a, Sort>,
     terms: &mut Terms<'a, Sort>,
@@ -126,71 +131,62 @@ fn header_from<'a>(
     }
 }
 
-/// An item of the header, or what comes after it.
-fn header<'a>(terms: &mut Terms<'a, Sort>) -> Result<FormRead<'a>, Refused>
-    ensures { Reads (λ r. (whole_of r, terms.new)) result (first_form header_forms terms.old) }
-{
-    let first = terms.any()?;
-    header_from(first, terms)
-}
-
 /// After a string of the design's flow.
-fn flow<'a>(terms: &mut Terms<'a, Sort>) -> Result<FormRead<'a>, Refused>
-    ensures { Reads (λ r. (whole_of r, terms.new)) result (first_form flow_forms terms.old) }
+fn flow<'a>(first: Term<'a, Sort>, terms: &mut Terms<'a, Sort>) -> Result<FormRead<'a>, Refused>
+    ensures { Reads (λ r. (whole_of r, terms.new)) result (first_form flow_forms (token_of first.entry ∷ terms.old)) }
 {
-    let first = terms.any()?;
-    match first.sort {
-        Sort::Text => Ok(done(Item::Nothing, first.line, Context::Flow)),
-        _ => header_from(first, terms),
+    if Sort::Text.same(first.sort) {
+        Ok(done(Item::Nothing, first.line, Context::Flow))
+    } else {
+        header_from(first, terms)
     }
 }
 
 /// After the number of a unit.
-fn unit<'a>(terms: &mut Terms<'a, Sort>) -> Result<FormRead<'a>, Refused>
-    ensures { Reads (λ r. (whole_of r, terms.new)) result (first_form unit_forms terms.old) }
+fn unit<'a>(first: Term<'a, Sort>, terms: &Terms<'a, Sort>) -> Result<FormRead<'a>, Refused>
+    ensures { Reads (λ r. (whole_of r, terms.now)) result (first_form unit_forms (token_of first.entry ∷ terms.now)) }
 {
-    let unit = any_word(terms)?;
-    Ok(done(Item::Unit(unit.text), unit.line, Context::Header))
+    if is_word(first.sort) {
+        Ok(done(Item::Unit(first.text), first.line, Context::Header))
+    } else {
+        Err(first.refused())
+    }
 }
 
 /// In the name map.
-fn pairs<'a>(terms: &mut Terms<'a, Sort>) -> Result<FormRead<'a>, Refused>
-    ensures { Reads (λ r. (whole_of r, terms.new)) result (first_form pairs_forms terms.old) }
+fn pairs<'a>(first: Term<'a, Sort>, terms: &Terms<'a, Sort>) -> Result<FormRead<'a>, Refused>
+    ensures { Reads (λ r. (whole_of r, terms.now)) result (first_form pairs_forms (token_of first.entry ∷ terms.now)) }
 {
-    let first = terms.any()?;
-    match first.sort {
-        Sort::Index => Ok(done(Item::PairNumber(first.text), first.line, Context::PairName)),
-        _ => section_from(first, &*terms),
+    if Sort::Index.same(first.sort) {
+        Ok(done(Item::PairNumber(first.text), first.line, Context::PairName))
+    } else {
+        section_from(first, terms)
     }
 }
 
 /// After the number of a pair.
-fn pair_name<'a>(terms: &mut Terms<'a, Sort>) -> Result<FormRead<'a>, Refused>
-    ensures { Reads (λ r. (whole_of r, terms.new)) result (first_form pair_name_forms terms.old) }
+fn pair_name<'a>(first: Term<'a, Sort>, terms: &Terms<'a, Sort>) -> Result<FormRead<'a>, Refused>
+    ensures { Reads (λ r. (whole_of r, terms.now)) result
+        (first_form pair_name_forms (token_of first.entry ∷ terms.now)) }
 {
-    let name = any_word(terms)?;
-    Ok(done(Item::PairName(name.text), name.line, Context::Pairs))
-}
-
-/// In a section that is skipped.
-fn skipped<'a>(terms: &mut Terms<'a, Sort>) -> Result<FormRead<'a>, Refused>
-    ensures { Reads (λ r. (whole_of r, terms.new)) result (first_form skipped_forms terms.old) }
-{
-    let first = terms.any()?;
-    match first.sort {
-        Sort::NameMap | Sort::Skipped | Sort::Net | Sort::Unsupported | Sort::End => {
-            section_from(first, &*terms)
-        }
-        _ => Ok(done(Item::Nothing, first.line, Context::Skipped)),
+    if is_word(first.sort) {
+        Ok(done(Item::PairName(first.text), first.line, Context::Pairs))
+    } else {
+        Err(first.refused())
     }
 }
 
-/// After the end of a net.
-fn behind_net<'a>(terms: &mut Terms<'a, Sort>) -> Result<FormRead<'a>, Refused>
-    ensures { Reads (λ r. (whole_of r, terms.new)) result (first_form section_forms terms.old) }
+/// In a section that is skipped.
+fn skipped<'a>(first: Term<'a, Sort>, terms: &Terms<'a, Sort>) -> Result<FormRead<'a>, Refused>
+    ensures { Reads (λ r. (whole_of r, terms.now)) result
+        (first_form skipped_forms (token_of first.entry ∷ terms.now)) }
 {
-    let first = terms.any()?;
-    section_from(first, &*terms)
+    match first.sort {
+        Sort::NameMap | Sort::Skipped | Sort::Net | Sort::Unsupported | Sort::End => {
+            section_from(first, terms)
+        }
+        _ => Ok(done(Item::Nothing, first.line, Context::Skipped)),
+    }
 }
 
 /// The form that is next in a context.
@@ -198,30 +194,28 @@ pub fn read_form<'a>(context: Context, terms: &mut Terms<'a, Sort>) -> Result<Fo
     requires { is_done context ≡ false }
     ensures { Reads (λ r. (whole_of r, terms.new)) result (first_form (forms_in context) terms.old) }
 {
+    let first = terms.any()?;
     match context {
-        Context::Start => at_start(terms),
-        Context::Header => header(terms),
-        Context::Flow => flow(terms),
-        Context::Unit => unit(terms),
-        Context::Pairs => pairs(terms),
-        Context::PairName => pair_name(terms),
-        Context::Skipped => skipped(terms),
-        Context::BehindNet => behind_net(terms),
-        Context::NetName => net_name(terms),
-        Context::NetTotal => net_total(terms),
-        Context::Totalled => totalled(terms),
-        Context::Lists => lists(terms),
-        Context::Connections => connections(terms),
-        Context::Connection => connection(terms),
-        Context::Capacitors => capacitors(terms),
-        Context::CapSecond => cap_second(terms),
-        Context::CapValue => cap_value(terms),
-        Context::Resistors => resistors(terms),
-        Context::ResSecond => res_second(terms),
-        Context::ResValue => res_value(terms),
-        Context::Done => Err(Refused {
-            line: 1,
-            code: Code::S2,
-        }),
+        Context::Start => at_start(first, terms),
+        Context::Header => header_from(first, terms),
+        Context::Flow => flow(first, terms),
+        Context::Unit => unit(first, &*terms),
+        Context::Pairs => pairs(first, &*terms),
+        Context::PairName => pair_name(first, &*terms),
+        Context::Skipped => skipped(first, &*terms),
+        Context::BehindNet => section_from(first, &*terms),
+        Context::NetName => net_name(first, &*terms),
+        Context::NetTotal => net_total(first, &*terms),
+        Context::Totalled => totalled(first, terms),
+        Context::Lists => lists_from(first, &*terms),
+        Context::Connections => connections(first, &*terms),
+        Context::Connection => connection(first, &*terms),
+        Context::Capacitors => capacitors(first, terms),
+        Context::CapSecond => cap_second(first, &*terms),
+        Context::CapValue => cap_value(first, &*terms),
+        Context::Resistors => resistors(first, terms),
+        Context::ResSecond => res_second(first, &*terms),
+        Context::ResValue => res_value(first, &*terms),
+        Context::Done => Err(first.refused()),
     }
 }

@@ -1,6 +1,7 @@
-//! One form of a net's section, by what may come next.
+//! One form of a net's section, from its first token on, by what may come next. What several of them call with the
+//! token is inlined, as in `forms`.
 
-ghost use Rattle.std.specs.Prelude.{◌≡◌, ℕ, ◌∷◌};
+ghost use Rattle.std.specs.Prelude.{◌∷◌};
 ghost use Rattle.spef_read.specs.Forms.{first_form, closing_forms, behind_capacitors, behind_connections};
 ghost use Rattle.spef_read.specs.Forms.{net_name_forms, net_total_forms, lists_forms, totalled_forms};
 ghost use Rattle.spef_read.specs.Forms.{connections_forms, connection_forms, capacitors_forms, cap_second_forms};
@@ -12,12 +13,13 @@ ghost use Rattle.spef_read.specs.View.{whole_of};
 use crate::context::Context;
 use crate::forms::done;
 use crate::item::{FormRead, Item};
-use crate::slots::{any_word, value_word};
+use crate::slots::{any_word, is_value_sort, is_word};
 use crate::sort::Sort;
-use text_forms::{Refused, Term, Terms};
+use text_forms::{Refused, Term, Terms, TokenSort};
 use xt_model::Code;
 
 /// The end of a net, from its token on.
+#[inline(always)]
 fn closing_from<'a>(first: Term<'a, Sort>, terms: &Terms<'a, Sort>) -> Result<FormRead<'a>, Refused>
     ensures { Reads (λ r. (whole_of r, terms.now)) result
         (first_form closing_forms (token_of first.entry ∷ terms.now)) }
@@ -31,6 +33,7 @@ fn closing_from<'a>(first: Term<'a, Sort>, terms: &Terms<'a, Sort>) -> Result<Fo
 }
 
 /// What comes after the capacitors of a net, from its first token on.
+#[inline(always)]
 fn behind_capacitors<'a>(
     first: Term<'a, Sort>,
     terms: &Terms<'a, Sort>,
@@ -38,13 +41,15 @@ fn behind_capacitors<'a>(
     ensures { Reads (λ r. (whole_of r, terms.now)) result
         (first_form behind_capacitors (token_of first.entry ∷ terms.now)) }
 {
-    match first.sort {
-        Sort::Resistors => Ok(done(Item::Nothing, first.line, Context::Resistors)),
-        _ => closing_from(first, terms),
+    if Sort::Resistors.same(first.sort) {
+        Ok(done(Item::Nothing, first.line, Context::Resistors))
+    } else {
+        closing_from(first, terms)
     }
 }
 
 /// What comes after the connections of a net, from its first token on.
+#[inline(always)]
 fn behind_connections<'a>(
     first: Term<'a, Sort>,
     terms: &Terms<'a, Sort>,
@@ -52,107 +57,127 @@ fn behind_connections<'a>(
     ensures { Reads (λ r. (whole_of r, terms.now)) result
         (first_form behind_connections (token_of first.entry ∷ terms.now)) }
 {
-    match first.sort {
-        Sort::Capacitors => Ok(done(Item::Nothing, first.line, Context::Capacitors)),
-        _ => behind_capacitors(first, terms),
+    if Sort::Capacitors.same(first.sort) {
+        Ok(done(Item::Nothing, first.line, Context::Capacitors))
+    } else {
+        behind_capacitors(first, terms)
     }
 }
 
 /// The name of a net.
-pub fn net_name<'a>(terms: &mut Terms<'a, Sort>) -> Result<FormRead<'a>, Refused>
-    ensures { Reads (λ r. (whole_of r, terms.new)) result (first_form net_name_forms terms.old) }
+pub fn net_name<'a>(first: Term<'a, Sort>, terms: &Terms<'a, Sort>) -> Result<FormRead<'a>, Refused>
+    ensures { Reads (λ r. (whole_of r, terms.now)) result
+        (first_form net_name_forms (token_of first.entry ∷ terms.now)) }
 {
-    let name = any_word(terms)?;
-    Ok(done(Item::NetName(name.text), name.line, Context::NetTotal))
-}
-
-/// The total capacitance of a net.
-pub fn net_total<'a>(terms: &mut Terms<'a, Sort>) -> Result<FormRead<'a>, Refused>
-    ensures { Reads (λ r. (whole_of r, terms.new)) result (first_form net_total_forms terms.old) }
-{
-    let total = value_word(terms)?;
-    Ok(done(Item::Total(total.text), total.line, Context::Totalled))
-}
-
-/// The lists of a net, or its end, from the first token on.
-fn lists_from<'a>(first: Term<'a, Sort>, terms: &Terms<'a, Sort>) -> Result<FormRead<'a>, Refused>
-    ensures { Reads (λ r. (whole_of r, terms.now)) result (first_form lists_forms (token_of first.entry ∷ terms.now)) }
-{
-    match first.sort {
-        Sort::Connections => Ok(done(Item::Nothing, first.line, Context::Connections)),
-        _ => behind_connections(first, terms),
+    if is_word(first.sort) {
+        Ok(done(Item::NetName(first.text), first.line, Context::NetTotal))
+    } else {
+        Err(first.refused())
     }
 }
 
-/// After the total capacitance of a net.
-pub fn totalled<'a>(terms: &mut Terms<'a, Sort>) -> Result<FormRead<'a>, Refused>
-    ensures { Reads (λ r. (whole_of r, terms.new)) result (first_form totalled_forms terms.old) }
+/// The total capacitance of a net.
+pub fn net_total<'a>(
+    first: Term<'a, Sort>,
+    terms: &Terms<'a, Sort>,
+) -> Result<FormRead<'a>, Refused>
+    ensures { Reads (λ r. (whole_of r, terms.now)) result
+        (first_form net_total_forms (token_of first.entry ∷ terms.now)) }
 {
-    let first = terms.any()?;
-    match first.sort {
-        Sort::Confidence => {
-            let second = terms.any()?;
-            match second.sort {
-                Sort::End => Err(second.refused()),
-                _ => Ok(done(Item::Nothing, second.line, Context::Lists)),
-            }
-        }
-        _ => lists_from(first, &*terms),
+    if is_value_sort(first.sort) {
+        Ok(done(Item::Total(first.text), first.line, Context::Totalled))
+    } else {
+        Err(first.refused())
     }
 }
 
 /// The lists of a net, or its end.
-pub fn lists<'a>(terms: &mut Terms<'a, Sort>) -> Result<FormRead<'a>, Refused>
-    ensures { Reads (λ r. (whole_of r, terms.new)) result (first_form lists_forms terms.old) }
+#[inline(always)]
+pub fn lists_from<'a>(
+    first: Term<'a, Sort>,
+    terms: &Terms<'a, Sort>,
+) -> Result<FormRead<'a>, Refused>
+    ensures { Reads (λ r. (whole_of r, terms.now)) result (first_form lists_forms (token_of first.entry ∷ terms.now)) }
 {
-    let first = terms.any()?;
-    lists_from(first, &*terms)
+    if Sort::Connections.same(first.sort) {
+        Ok(done(Item::Nothing, first.line, Context::Connections))
+    } else {
+        behind_connections(first, terms)
+    }
+}
+
+/// After the total capacitance of a net.
+pub fn totalled<'a>(
+    first: Term<'a, Sort>,
+    terms: &mut Terms<'a, Sort>,
+) -> Result<FormRead<'a>, Refused>
+    ensures { Reads (λ r. (whole_of r, terms.new)) result
+        (first_form totalled_forms (token_of first.entry ∷ terms.old)) }
+{
+    if !Sort::Confidence.same(first.sort) {
+        return lists_from(first, &*terms);
+    }
+    let second = terms.any()?;
+    match second.sort {
+        Sort::End => Err(second.refused()),
+        _ => Ok(done(Item::Nothing, second.line, Context::Lists)),
+    }
 }
 
 /// After `*CONN`.
-pub fn connections<'a>(terms: &mut Terms<'a, Sort>) -> Result<FormRead<'a>, Refused>
-    ensures { Reads (λ r. (whole_of r, terms.new)) result (first_form connections_forms terms.old) }
+pub fn connections<'a>(
+    first: Term<'a, Sort>,
+    terms: &Terms<'a, Sort>,
+) -> Result<FormRead<'a>, Refused>
+    ensures { Reads (λ r. (whole_of r, terms.now)) result
+        (first_form connections_forms (token_of first.entry ∷ terms.now)) }
 {
-    let first = terms.any()?;
-    match first.sort {
-        Sort::Connection => Ok(done(Item::Nothing, first.line, Context::Connection)),
-        _ => behind_connections(first, &*terms),
+    if Sort::Connection.same(first.sort) {
+        Ok(done(Item::Nothing, first.line, Context::Connection))
+    } else {
+        behind_connections(first, terms)
     }
 }
 
 /// In a connection.
-pub fn connection<'a>(terms: &mut Terms<'a, Sort>) -> Result<FormRead<'a>, Refused>
-    ensures { Reads (λ r. (whole_of r, terms.new)) result (first_form connection_forms terms.old) }
+pub fn connection<'a>(
+    first: Term<'a, Sort>,
+    terms: &Terms<'a, Sort>,
+) -> Result<FormRead<'a>, Refused>
+    ensures { Reads (λ r. (whole_of r, terms.now)) result
+        (first_form connection_forms (token_of first.entry ∷ terms.now)) }
 {
-    let first = terms.any()?;
     match first.sort {
         Sort::NameMap | Sort::Skipped | Sort::Net | Sort::End => Err(first.refused()),
         Sort::Capacitors | Sort::Resistors | Sort::NetEnd | Sort::Inductances | Sort::Unsupported =>
-            behind_connections(first, &*terms),
+            { behind_connections(first, terms) }
         _ => Ok(done(Item::Nothing, first.line, Context::Connection)),
     }
 }
 
 /// A capacitor, or what comes after the last one.
-pub fn capacitors<'a>(terms: &mut Terms<'a, Sort>) -> Result<FormRead<'a>, Refused>
-    ensures { Reads (λ r. (whole_of r, terms.new)) result (first_form capacitors_forms terms.old) }
+pub fn capacitors<'a>(
+    first: Term<'a, Sort>,
+    terms: &mut Terms<'a, Sort>,
+) -> Result<FormRead<'a>, Refused>
+    ensures { Reads (λ r. (whole_of r, terms.new)) result
+        (first_form capacitors_forms (token_of first.entry ∷ terms.old)) }
 {
-    let first = terms.any()?;
-    match first.sort {
-        Sort::Digits => {
-            let node = any_word(terms)?;
-            let item = Item::FirstNode(node.text);
-            Ok(done(item, node.line, Context::CapSecond))
-        }
-        _ => behind_capacitors(first, &*terms),
+    if !Sort::Digits.same(first.sort) {
+        return behind_capacitors(first, &*terms);
     }
+    let node = any_word(terms)?;
+    Ok(done(Item::FirstNode(node.text), node.line, Context::CapSecond))
 }
 
 /// After the first node of a capacitor.
-pub fn cap_second<'a>(terms: &mut Terms<'a, Sort>) -> Result<FormRead<'a>, Refused>
-    ensures { Reads (λ r. (whole_of r, terms.new)) result (first_form cap_second_forms terms.old) }
+pub fn cap_second<'a>(
+    first: Term<'a, Sort>,
+    terms: &Terms<'a, Sort>,
+) -> Result<FormRead<'a>, Refused>
+    ensures { Reads (λ r. (whole_of r, terms.now)) result
+        (first_form cap_second_forms (token_of first.entry ∷ terms.now)) }
 {
-    let first = terms.any()?;
     match first.sort {
         Sort::Text | Sort::End => Err(first.refused()),
         Sort::Digits | Sort::Value => Ok(done(
@@ -165,40 +190,61 @@ pub fn cap_second<'a>(terms: &mut Terms<'a, Sort>) -> Result<FormRead<'a>, Refus
 }
 
 /// After the second node of a capacitor.
-pub fn cap_value<'a>(terms: &mut Terms<'a, Sort>) -> Result<FormRead<'a>, Refused>
-    ensures { Reads (λ r. (whole_of r, terms.new)) result (first_form cap_value_forms terms.old) }
+pub fn cap_value<'a>(
+    first: Term<'a, Sort>,
+    terms: &Terms<'a, Sort>,
+) -> Result<FormRead<'a>, Refused>
+    ensures { Reads (λ r. (whole_of r, terms.now)) result
+        (first_form cap_value_forms (token_of first.entry ∷ terms.now)) }
 {
-    let value = value_word(terms)?;
-    Ok(done(Item::CapValue(value.text), value.line, Context::Capacitors))
-}
-
-/// A resistor, or what comes after the last one.
-pub fn resistors<'a>(terms: &mut Terms<'a, Sort>) -> Result<FormRead<'a>, Refused>
-    ensures { Reads (λ r. (whole_of r, terms.new)) result (first_form resistors_forms terms.old) }
-{
-    let first = terms.any()?;
-    match first.sort {
-        Sort::Digits => {
-            let node = any_word(terms)?;
-            let item = Item::FirstNode(node.text);
-            Ok(done(item, node.line, Context::ResSecond))
-        }
-        _ => closing_from(first, &*terms),
+    if is_value_sort(first.sort) {
+        Ok(done(Item::CapValue(first.text), first.line, Context::Capacitors))
+    } else {
+        Err(first.refused())
     }
 }
 
-/// After the first node of a resistor.
-pub fn res_second<'a>(terms: &mut Terms<'a, Sort>) -> Result<FormRead<'a>, Refused>
-    ensures { Reads (λ r. (whole_of r, terms.new)) result (first_form res_second_forms terms.old) }
+/// A resistor, or what comes after the last one.
+pub fn resistors<'a>(
+    first: Term<'a, Sort>,
+    terms: &mut Terms<'a, Sort>,
+) -> Result<FormRead<'a>, Refused>
+    ensures { Reads (λ r. (whole_of r, terms.new)) result
+        (first_form resistors_forms (token_of first.entry ∷ terms.old)) }
 {
+    if !Sort::Digits.same(first.sort) {
+        return closing_from(first, &*terms);
+    }
     let node = any_word(terms)?;
-    Ok(done(Item::ResNode(node.text), node.line, Context::ResValue))
+    Ok(done(Item::FirstNode(node.text), node.line, Context::ResSecond))
+}
+
+/// After the first node of a resistor.
+pub fn res_second<'a>(
+    first: Term<'a, Sort>,
+    terms: &Terms<'a, Sort>,
+) -> Result<FormRead<'a>, Refused>
+    ensures { Reads (λ r. (whole_of r, terms.now)) result
+        (first_form res_second_forms (token_of first.entry ∷ terms.now)) }
+{
+    if is_word(first.sort) {
+        Ok(done(Item::ResNode(first.text), first.line, Context::ResValue))
+    } else {
+        Err(first.refused())
+    }
 }
 
 /// After the second node of a resistor.
-pub fn res_value<'a>(terms: &mut Terms<'a, Sort>) -> Result<FormRead<'a>, Refused>
-    ensures { Reads (λ r. (whole_of r, terms.new)) result (first_form res_value_forms terms.old) }
+pub fn res_value<'a>(
+    first: Term<'a, Sort>,
+    terms: &Terms<'a, Sort>,
+) -> Result<FormRead<'a>, Refused>
+    ensures { Reads (λ r. (whole_of r, terms.now)) result
+        (first_form res_value_forms (token_of first.entry ∷ terms.now)) }
 {
-    let value = value_word(terms)?;
-    Ok(done(Item::ResValue(value.text), value.line, Context::Resistors))
+    if is_value_sort(first.sort) {
+        Ok(done(Item::ResValue(first.text), first.line, Context::Resistors))
+    } else {
+        Err(first.refused())
+    }
 }

@@ -1,7 +1,7 @@
-//! The next token of a form by what its place asks for.
+//! What the place of a form asks for besides one sort.
 
 ghost use Rattle.std.specs.Prelude.{◌≡◌, true, ◌∷◌, IfOk, IfErr};
-ghost use Rattle.spef_read.specs.Forms.{AnyWord, ValueWord, fits, misfit, IsMisfit};
+ghost use Rattle.spef_read.specs.Forms.{AnyWord, fits, misfit, IsMisfit, is_word, is_value_sort};
 ghost use Rattle.spef_read.specs.declared.sort.Sort.TheVariants.{End};
 ghost use Rattle.text_forms.specs.Misfits.{refusal_at};
 ghost use Rattle.text_forms.specs.Stops.{refusal_of};
@@ -10,7 +10,29 @@ ghost use Rattle.text_forms.specs.Tokens.{token_of};
 use crate::sort::Sort;
 use text_forms::{Refused, Term, Terms};
 
-/// The next token, which has to be a word; a keyword is one too.
+/// Whether a token of this sort is a word; a keyword is one too.
+#[inline]
+pub fn is_word(sort: Sort) -> bool
+    ensures { result ≡ is_word sort }
+{
+    match sort {
+        Sort::Text | Sort::End => false,
+        _ => true,
+    }
+}
+
+/// Whether a token of this sort has the form of a value.
+#[inline]
+pub fn is_value_sort(sort: Sort) -> bool
+    ensures { result ≡ is_value_sort sort }
+{
+    match sort {
+        Sort::Digits | Sort::Value => true,
+        _ => false,
+    }
+}
+
+/// The next token, which has to be a word.
 #[inline]
 pub fn any_word<'a>(terms: &mut Terms<'a, Sort>) -> Result<Term<'a, Sort>, Refused>
     ensures found { IfOk result (λ t. (terms.old ≡ token_of t ∷ terms.new) × (fits AnyWord t.sort ≡ true)) }
@@ -18,22 +40,9 @@ pub fn any_word<'a>(terms: &mut Terms<'a, Sort>) -> Result<Term<'a, Sort>, Refus
     ensures other { IfErr result (λ r. IsMisfit AnyWord terms.old) }
 {
     let term = terms.any()?;
-    match term.sort {
-        Sort::Text | Sort::End => Err(term.refused()),
-        _ => Ok(term),
-    }
-}
-
-/// The next token, which has to have the form of a value.
-#[inline]
-pub fn value_word<'a>(terms: &mut Terms<'a, Sort>) -> Result<Term<'a, Sort>, Refused>
-    ensures found { IfOk result (λ t. (terms.old ≡ token_of t ∷ terms.new) × (fits ValueWord t.sort ≡ true)) }
-    ensures refused { IfErr result (λ r. refusal_of r ≡ refusal_at misfit End terms.old) }
-    ensures other { IfErr result (λ r. IsMisfit ValueWord terms.old) }
-{
-    let term = terms.any()?;
-    match term.sort {
-        Sort::Digits | Sort::Value => Ok(term),
-        _ => Err(term.refused()),
+    if is_word(term.sort) {
+        Ok(term)
+    } else {
+        Err(term.refused())
     }
 }
