@@ -12,12 +12,12 @@ use Rattle.xt_model.specs.Quads.{bottom, join_of}
 use Rattle.xt_model.specs.Parts.{Parts}
 use Rattle.xt_model.specs.Sound.{IsSound}
 use Rattle.xt_model.specs.Assign.{Assignment, assigned}
-use Rattle.xt_meaning.specs.Operator.{contributes, contribution, contribution_by, wire_range, load_range, with_arc, arcs_quad, net_quad, operator_by, widest_operator}
+use Rattle.xt_meaning.specs.Operator.{contributes, contribution, contribution_by, wire_range, load_range, with_arc, arcs_quad, net_quad, operator_by}
 use Rattle.xt_meaning.specs.Overlap.{all_overlap}
 use Rattle.xt_meaning.specs.Envelope.{IsEnvelope, IsAccepted, keeps, tests_of}
-use Rattle.envelope.specs.Renewal.{IsApart, IsEnvelopeBut}
+use Rattle.envelope.specs.Renewal.{IsEnvelopeBut}
 use Rattle.eco_warm.specs.declared.edit.Edit.{Edit}
-use Rattle.eco_warm.specs.Edits.{nets_left, move_of, first_of, second_of, edited}
+use Rattle.eco_warm.specs.Edits.{move_of, first_of, second_of, edited}
 use Rattle.eco_warm.specs.Possible.{IsEditOf}
 use Rattle.eco_warm.proofs.Nets.{length-nets_left}
 use Rattle.eco_warm.proofs.Ordered.{with_nets}

@@ -1,6 +1,6 @@
 //! What is left of one coupling and of its coefficients.
 
-ghost use Rattle.std.specs.Prelude.{◌≡◌, ◌*◌, ◌/◌, ◌^◌, ◌<◌, ◌≤◌, MatchOption, pos, ◌≤ℤ◌};
+ghost use Rattle.std.specs.Prelude.{◌≡◌, ◌*◌, ◌/◌, ◌^◌, ◌<◌, ◌≤◌, MatchOption, pos};
 ghost use Rattle.xt_model.specs.Sound.{IsBetween, IsCap, IsProduct};
 ghost use Rattle.eco_warm.specs.Edits.{cap_left, coef_left, in_proportion};
 ghost use Rattle.eco_warm.specs.Possible.{IsMove};
