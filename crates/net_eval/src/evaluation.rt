@@ -38,6 +38,7 @@ impl<'a, V: Bounds> Evaluation<'a, V> {
 
     /// What the operator makes of the net: what a net without arcs is given, and else at each edge the join of what the
     /// arcs to it contribute.
+    #[inline(always)]
     pub fn pair(&self) -> Pair
         ensures value { result ≡ self.now }
         ensures range { IsPairInRange result }
