@@ -18,6 +18,7 @@ use command_line::FileName;
 use envelope::What;
 use itoa::Buffer;
 use link_rules::LinkRefusal;
+use std::mem;
 use xt_io::{MOST_BYTES, Sink, write_whole};
 use xt_model::{LimitKind, Name};
 
@@ -29,7 +30,9 @@ pub fn refuse<E: Sink>(err: &mut E, failure: Failure) -> u8
         (line_of failure) }
 {
     write_line(err, &failure);
-    status(&failure)
+    let status = status(&failure);
+    mem::drop(failure);
+    status
 }
 
 // The exit status of a failure.

@@ -9,11 +9,12 @@ ghost use Rattle.call_meaning.specs.Eco.{EcoMeans};
 
 use crate::counted::counted_by;
 use crate::edits::report_of_edits;
-use crate::input::{read_design, read_file};
+use call_files::{read_design, read_file};
 use call_meaning::Stop;
 use chaos_core::Gate;
 use command_line::EcoJob;
 use std::alloc::Global;
+use std::mem;
 use std::thread::Threads;
 use xt_io::Files;
 
@@ -40,7 +41,14 @@ pub fn eco<R: Threads + Sync, F: Files, G: Gate>(
     } = job;
     let (file, bytes) = read_file(alloc, files, file)?;
     let design = read_design(alloc, file, bytes)?;
-    let (edits, lines) = read_file(alloc, files, edits)?;
-    let design = counted_by(design, miller);
-    report_of_edits(rt, alloc, gate, &edits, &lines, design, workers)
+    match read_file(alloc, files, edits) {
+        Ok((edits, lines)) => {
+            let design = counted_by(design, miller);
+            report_of_edits(rt, alloc, gate, &edits, &lines, design, workers)
+        }
+        Err(stop) => {
+            mem::drop(design);
+            Err(stop)
+        }
+    }
 }

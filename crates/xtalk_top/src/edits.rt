@@ -25,6 +25,7 @@ use command_line::FileName;
 use eco_warm::{Edit, design_after, nets_after, read_edit};
 use report_text::ReportKind;
 use std::alloc::Global;
+use std::mem;
 use std::thread::Threads;
 use xt_model::{Design, Windows};
 
@@ -48,12 +49,21 @@ fn after_edit(
 {
     let (first, second) = match nets_after(alloc, &design, edit) {
         Ok(nets) => nets,
-        Err(fault) => return Err(stop_of(alloc, file, number, &design, fault)),
+        Err(fault) => {
+            let stop = stop_of(alloc, file, number, &design, fault);
+            mem::drop(design);
+            return Err(stop);
+        }
     };
     let after = design_after(design, edit, first, second);
     let (a, b) = edit.nets();
-    let top = envelope_renewed(alloc, &after.design, top, a, b)?;
-    Ok((after.design, top))
+    match envelope_renewed(alloc, &after.design, top, a, b) {
+        Ok(top) => Ok((after.design, top)),
+        Err(stop) => {
+            mem::drop(after);
+            Err(stop)
+        }
+    }
 }
 
 // The design after the edit that the line of this number says, with its envelope.
@@ -74,7 +84,11 @@ fn after_line(
 {
     match read_edit(alloc, &design, line) {
         Ok(edit) => after_edit(alloc, file, number, &edit, design, top),
-        Err(fault) => Err(stop_of(alloc, file, number, &design, fault)),
+        Err(fault) => {
+            let stop = stop_of(alloc, file, number, &design, fault);
+            mem::drop(design);
+            Err(stop)
+        }
     }
 }
 
@@ -127,9 +141,17 @@ pub fn report_of_edits<R: Threads + Sync, G: Gate>(
     ensures ok { IfOk result (λ report. EditsMean file.now text.now design (prints report.items)) }
     ensures stop { IfErr result (IsStop (EditsMean file.now text.now design) (λ _. ⊥)) }
 {
-    let top = envelope_of(alloc, &design)?;
+    let top = match envelope_of(alloc, &design) {
+        Ok(top) => top,
+        Err(stop) => {
+            mem::drop(design);
+            return Err(stop);
+        }
+    };
     let (design, top) = after_edits(alloc, file, text, design, top)?;
     let turns = Turns::InThreads;
     let runs = Runs { workers, turns };
-    report_within(rt, alloc, gate, &design, &top, ReportKind::All, runs)
+    let report = report_within(rt, alloc, gate, &design, &top, ReportKind::All, runs);
+    mem::drop(design);
+    report
 }

@@ -17,6 +17,7 @@ use command_line::GenJob;
 use design_gen::generate;
 use report_text::write_summary;
 use std::alloc::Global;
+use std::mem;
 use std::thread::Threads;
 use xt_model::{Design, NoMemory};
 
@@ -64,7 +65,11 @@ pub fn summary_of_generated<R: Threads + Sync, G: Gate>(
     let turns = Turns::InThreads;
     let runs = Runs { workers, turns };
     match generate(alloc, number, nets) {
-        Ok(design) => summary(rt, alloc, gate, &design, runs),
+        Ok(design) => {
+            let text = summary(rt, alloc, gate, &design, runs);
+            mem::drop(design);
+            text
+        }
         Err(NoMemory) => Err(Stop::NoMemory),
     }
 }

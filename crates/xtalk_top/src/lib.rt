@@ -1,7 +1,6 @@
 //! The top call: it makes the text that the words of a command line ask for, of the files that they name.
 #![tactic(auto)]
 
-mod block;
 mod counted;
 mod design_report;
 mod eco;
@@ -9,7 +8,6 @@ mod edit_lines;
 mod edit_refusal;
 mod edits;
 mod generated;
-mod input;
 mod link;
 mod replay;
 mod report;

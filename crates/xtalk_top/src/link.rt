@@ -8,12 +8,13 @@ ghost use Rattle.call_meaning.specs.Opened.{HasValue, OpensFirst, block_files};
 ghost use Rattle.call_meaning.specs.Call.{Answers, IsStop};
 ghost use Rattle.call_meaning.specs.Link.{LinkMeans};
 
-use crate::block::read_block;
 use crate::counted::counted_by;
+use call_files::read_block;
 use call_meaning::Stop;
 use command_line::LinkJob;
 use linked_text::write_linked;
 use std::alloc::Global;
+use std::mem;
 use xt_io::Files;
 use xt_model::{Design, NoMemory};
 
@@ -41,5 +42,7 @@ pub fn text_of_block<F: Files>(alloc: Global, files: &mut F, job: LinkJob) -> Re
     } = job;
     let design = read_block(alloc, files, block)?;
     let design = counted_by(design, miller);
-    text_of_design(alloc, &design)
+    let text = text_of_design(alloc, &design);
+    mem::drop(design);
+    text
 }

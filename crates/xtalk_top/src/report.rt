@@ -6,14 +6,15 @@ ghost use Rattle.call_meaning.specs.Opened.{HasValue, OpensFirst, block_files};
 ghost use Rattle.call_meaning.specs.Call.{Answers};
 ghost use Rattle.call_meaning.specs.Report.{ReportMeans};
 
-use crate::block::read_block;
 use crate::counted::counted_by;
 use crate::design_report::report;
 use crate::runs::{Runs, Turns};
+use call_files::read_block;
 use call_meaning::Stop;
 use chaos_core::Gate;
 use command_line::ReportJob;
 use std::alloc::Global;
+use std::mem;
 use std::thread::Threads;
 use xt_io::Files;
 
@@ -42,5 +43,7 @@ pub fn report_of_block<R: Threads + Sync, F: Files, G: Gate>(
     let design = counted_by(design, miller);
     let turns = Turns::by(engine);
     let runs = Runs { workers, turns };
-    report(rt, alloc, gate, &design, kind, runs)
+    let text = report(rt, alloc, gate, &design, kind, runs);
+    mem::drop(design);
+    text
 }

@@ -8,13 +8,14 @@ ghost use Rattle.call_meaning.specs.Call.{Answers};
 
 use crate::counted::counted_by;
 use crate::design_report::report;
-use crate::input::{read_design, read_file};
 use crate::runs::Runs;
+use call_files::{read_design, read_file};
 use call_meaning::Stop;
 use chaos_core::Gate;
 use command_line::FileName;
 use report_text::ReportKind;
 use std::alloc::Global;
+use std::mem;
 use std::thread::Threads;
 use xt_io::Files;
 use xt_model::Miller;
@@ -38,5 +39,7 @@ pub fn report_of_text<R: Threads + Sync, F: Files, G: Gate>(
     let (file, bytes) = read_file(alloc, files, file)?;
     let design = read_design(alloc, file, bytes)?;
     let design = counted_by(design, miller);
-    report(rt, alloc, gate, &design, kind, runs)
+    let text = report(rt, alloc, gate, &design, kind, runs);
+    mem::drop(design);
+    text
 }

@@ -30,45 +30,44 @@ returns-in_err-design-clause-means g c =
     (faults c.args.files.now) (faults c.read_file.new.files) c.in_err-design.field-0.0 c.in_ok-file.ensures.answer.1
     (rw c.in_ok-file.ensures.answer.0 at c.in_err-design.ensures.stop)))
 
-pub returns-in_err-edits-clause-means : goal.returns-in_err-edits-clause-means
-returns-in_err-edits-clause-means g c =
+pub returns-in-Err-clause-means : goal.returns-in-Err-clause-means
+returns-in-Err-clause-means g c =
     let job = c.args.job in
     let bytes = c.in_ok-file.bytes.items in
     let content = g.F.Files.content c.args.files.now in
     let later = g.F.Files.content c.read_file.new.files in
     let faults = g.F.Files.faults in
     let Edits : Outcome → Parts → Type 0 = λ o d. FileMeans job.edits content (λ lines. EditsMean job.edits lines (counted_by job.miller d) o) o in
-    let failed = err_from_is_err_and c.from_residual-in_err-edits.result c.from_residual-in_err-edits.ensures.1 in
-    rw failed.1 (rw failed.2 (stops_later (FileMeans job.edits later (λ _. ⊥)) (EcoMeans job content)
+    stops_later (FileMeans job.edits later (λ _. ⊥)) (EcoMeans job content)
     (λ o h. file_leads job.file content (λ b. LinkedMeans job.file b (Edits o) o) o bytes c.in_ok-file.ensures.whole c.in_ok-file.ensures.fits
     (inr (c.in_ok-design.design, c.in_ok-design.ensures.ok, file_stops job.edits content _ o (file_as job.edits content later (λ _. ⊥) o (c.read_file.ensures.content job.edits) h))))
-    (faults c.args.files.now) (faults c.read_file.new.files) (faults c.read_file-2.new.files) c.in_err-edits.field-0.0 c.in_ok-file.ensures.answer.1 c.in_err-edits.ensures.answer))
+    (faults c.args.files.now) (faults c.read_file.new.files) (faults c.read_file-2.new.files) c.in-Err.stop c.in_ok-file.ensures.answer.1 c.in-Err.ensures.answer
 
-pub returns-clause-means : goal.returns-clause-means
-returns-clause-means g c =
+pub returns-in-Ok-clause-means : goal.returns-in-Ok-clause-means
+returns-in-Ok-clause-means g c =
     let job = c.args.job in
     let bytes = c.in_ok-file.bytes.items in
-    let lines = c.in_ok-edits.lines.items in
+    let lines = c.in-Ok.lines.items in
     let content = g.F.Files.content c.args.files.now in
     let faults = g.F.Files.faults in
     let Edits : Outcome → Parts → Type 0 = λ o d. FileMeans job.edits content (λ ls. EditsMean job.edits ls (counted_by job.miller d) o) o in
     let d = c.counted_by-design.result in
     let Meant : Outcome → Type 0 = EditsMean job.edits lines d in
     let same = c.read_file.ensures.content job.edits in
-    let whole : IfSome (content job.edits) (λ whole. lines ≡ whole) = rw (← same) c.in_ok-edits.ensures.whole in
+    let whole : IfSome (content job.edits) (λ whole. lines ≡ whole) = rw (← same) c.in-Ok.ensures.whole in
     let leads : (o : Outcome) → Meant o → EcoMeans job content o = λ o m.
     file_leads job.file content (λ b. LinkedMeans job.file b (Edits o) o) o bytes c.in_ok-file.ensures.whole c.in_ok-file.ensures.fits
     (inr (
       c.in_ok-design.design,
       c.in_ok-design.ensures.ok,
-      file_leads job.edits content (λ ls. EditsMean job.edits ls (counted_by job.miller c.in_ok-design.design) o) o lines whole c.in_ok-edits.ensures.fits
+      file_leads job.edits content (λ ls. EditsMean job.edits ls (counted_by job.miller c.in_ok-design.design) o) o lines whole c.in-Ok.ensures.fits
           (subst (λ x. EditsMean job.edits lines x o) c.counted_by-design.ensures.value m),
     )) in
     answers_unread Meant (EcoMeans job content) leads
     _ (λ text. EcoMeans job content (prints text.items)) (λ text h. leads (prints text.items) h)
     (faults c.args.files.now) (faults c.read_file-2.new.files) c.report_of_edits.result
-    (kept_trans (faults c.args.files.now) (faults c.read_file.new.files) (faults c.read_file-2.new.files) c.in_ok-file.ensures.answer.1 c.in_ok-edits.ensures.answer.1)
-    (rw (c.in_ok-edits.ensures.answer.0, c.deref.ensures.value) at c.report_of_edits.ensures.ok) (rw (c.in_ok-edits.ensures.answer.0, c.deref.ensures.value) at c.report_of_edits.ensures.stop)
+    (kept_trans (faults c.args.files.now) (faults c.read_file.new.files) (faults c.read_file-2.new.files) c.in_ok-file.ensures.answer.1 c.in-Ok.ensures.answer.1)
+    (rw (c.in-Ok.ensures.answer.0, c.deref.ensures.value) at c.report_of_edits.ensures.ok) (rw (c.in-Ok.ensures.answer.0, c.deref.ensures.value) at c.report_of_edits.ensures.stop)
 
 pub returns-in_err-file-clause-opened : goal.returns-in_err-file-clause-opened
 returns-in_err-file-clause-opened g c =
@@ -82,14 +81,14 @@ returns-in_err-design-clause-opened g c =
     let failed = err_from_is_err_and c.from_residual-in_err-design.result c.from_residual-in_err-design.ensures.1 in
     rw failed.1 (opens_part (c.args.job.file ∷ []) (c.args.job.edits ∷ []) ⊥ (opened c.args.files.now) (opened c.read_file.new.files) c.read_file.ensures.opened (λ w. w))
 
-pub returns-in_err-edits-clause-opened : goal.returns-in_err-edits-clause-opened
-returns-in_err-edits-clause-opened g c =
+pub returns-in-Err-clause-opened : goal.returns-in-Err-clause-opened
+returns-in-Err-clause-opened g c =
     let opened = g.F.Files.opened in
     opens_all (c.args.job.file ∷ c.args.job.edits ∷ []) _ (opened c.args.files.now) (opened c.read_file-2.new.files)
     (opened_then (c.args.job.file ∷ []) (c.args.job.edits ∷ []) (opened c.args.files.now) (opened c.read_file.new.files) (opened c.read_file-2.new.files) c.read_file.ensures.opened c.read_file-2.ensures.opened)
 
-pub returns-clause-opened : goal.returns-clause-opened
-returns-clause-opened g c =
+pub returns-in-Ok-clause-opened : goal.returns-in-Ok-clause-opened
+returns-in-Ok-clause-opened g c =
     let opened = g.F.Files.opened in
     opens_all (c.args.job.file ∷ c.args.job.edits ∷ []) _ (opened c.args.files.now) (opened c.read_file-2.new.files)
     (opened_then (c.args.job.file ∷ []) (c.args.job.edits ∷ []) (opened c.args.files.now) (opened c.read_file.new.files) (opened c.read_file-2.new.files) c.read_file.ensures.opened c.read_file-2.ensures.opened)

@@ -1,5 +1,5 @@
 use Rattle.std.proofs.Common.{inr}
-use Rattle.std.proofs.lemmas.Result.{err_from_is_err_and, IfErr-weaker, IfOk-weaker}
+use Rattle.std.proofs.lemmas.Result.{IfErr-weaker, IfOk-weaker}
 use Rattle.report_kind.specs.declared.kind.ReportKind.TheVariants.{All}
 use Rattle.call_meaning.specs.Outcome.{DesignMeans, prints}
 use Rattle.call_meaning.specs.Eco.{EditsMean, LinesMean, lines_of}
@@ -8,20 +8,18 @@ use Rattle.call_meaning.proofs.Lifts.{lift_stop}
 use Rattle.call_meaning.proofs.Within.{keeps_within}
 use Rattle.xtalk_top.proofs.edits.report_of_edits.Goals as goal
 
-pub returns-in_err-top-clause-stop : goal.returns-in_err-top-clause-stop
-returns-in_err-top-clause-stop g c =
-    let failed = err_from_is_err_and c.from_residual.result c.from_residual.ensures.1 in
-    rw failed.1 (rw failed.2 (limit_stops c.args.design (LinesMean c.args.file.now (lines_of c.args.text.now) 0 c.args.design) c.in_err-top.field-0.0 c.in_err-top.ensures.stop))
+pub returns-in-Err-clause-stop : goal.returns-in-Err-clause-stop
+returns-in-Err-clause-stop g c = limit_stops c.args.design (LinesMean c.args.file.now (lines_of c.args.text.now) 0 c.args.design) c.in-Err.stop c.in-Err.ensures.stop
 
 pub after_edits-requires-clause-top : goal.after_edits-requires-clause-top
-after_edits-requires-clause-top g c = c.in_ok-top.ensures.top
+after_edits-requires-clause-top g c = c.in-Ok.ensures.top
 
 pub returns-clause-ok : goal.returns-clause-ok
 returns-clause-ok g c =
-    IfOk-weaker c.report_within.result _ _ (λ text h. inr (keeps_within c.args.design c.in_ok-top.top c.in_ok-top.ensures.top, c.in_ok-design.ensures.leads (prints text.items) h)) c.report_within.ensures.ok
+    IfOk-weaker c.report_within-report.result _ _ (λ text h. inr (keeps_within c.args.design c.in-Ok.top c.in-Ok.ensures.top, c.in_ok-design.ensures.leads (prints text.items) h)) c.report_within-report.ensures.ok
 
 pub returns-clause-stop : goal.returns-clause-stop
 returns-clause-stop g c =
     let meant = EditsMean c.args.file.now c.args.text.now c.args.design in
-    IfErr-weaker c.report_within.result _ _ (λ s h. lift_stop (DesignMeans All c.in_ok-design.design) meant (λ _. ⊥) (λ _. ⊥) s
-    (λ o m. inr (keeps_within c.args.design c.in_ok-top.top c.in_ok-top.ensures.top, c.in_ok-design.ensures.leads o m)) (λ _ r. r) h) c.report_within.ensures.stop
+    IfErr-weaker c.report_within-report.result _ _ (λ s h. lift_stop (DesignMeans All c.in_ok-design.design) meant (λ _. ⊥) (λ _. ⊥) s
+    (λ o m. inr (keeps_within c.args.design c.in-Ok.top c.in-Ok.ensures.top, c.in_ok-design.ensures.leads o m)) (λ _ r. r) h) c.report_within-report.ensures.stop

@@ -28,7 +28,7 @@ returns-clause-means g c =
     _ (λ text. LinkMeans c.args.job content (prints text.items))
     (λ text h. block_leads c.args.job.files content (λ d. prints text.items ≡ prints (text_of (linked (counted_by c.args.job.miller d)))) (prints text.items)
     c.in_ok-design.design c.in_ok-design.ensures.means.0 (ap prints (h ∙ ap (λ d. text_of (linked d)) c.counted_by-design.ensures.value)))
-    (faults c.args.files.now) (faults c.read_block.new.files) c.text_of_design.result c.in_ok-design.ensures.means.1 c.text_of_design.ensures.ok c.text_of_design.ensures.stop
+    (faults c.args.files.now) (faults c.read_block.new.files) c.text_of_design-text.result c.in_ok-design.ensures.means.1 c.text_of_design-text.ensures.ok c.text_of_design-text.ensures.stop
 
 pub returns-in_err-design-clause-opened : goal.returns-in_err-design-clause-opened
 returns-in_err-design-clause-opened g c =

@@ -26,7 +26,7 @@ returns-clause-means g c =
     (subst (λ d. DesignMeans c.args.job.kind d o) c.counted_by-design.ensures.value m) in
     answers_unread (DesignMeans c.args.job.kind c.counted_by-design.result) (ReportMeans c.args.job content) leads
     _ (λ text. ReportMeans c.args.job content (prints text.items)) (λ text h. leads (prints text.items) h)
-    (faults c.args.files.now) (faults c.read_block.new.files) c.report.result c.in_ok-design.ensures.means.1 c.report.ensures.ok c.report.ensures.stop
+    (faults c.args.files.now) (faults c.read_block.new.files) c.report-text.result c.in_ok-design.ensures.means.1 c.report-text.ensures.ok c.report-text.ensures.stop
 
 pub returns-in_err-design-clause-opened : goal.returns-in_err-design-clause-opened
 returns-in_err-design-clause-opened g c =

@@ -36,7 +36,7 @@ returns-clause-means g c =
     c.in_ok-file.ensures.fits text c.counted_by-design.ensures.value m in
     answers_unread (DesignMeans c.args.kind c.counted_by-design.result) (TextReportMeans c.args.file c.args.miller c.args.kind content) leads
     _ (λ text. TextReportMeans c.args.file c.args.miller c.args.kind content (prints text.items)) (λ text h. leads (prints text.items) h)
-    (faults c.args.files.now) (faults c.read_file.new.files) c.report.result c.in_ok-file.ensures.answer.1 c.report.ensures.ok c.report.ensures.stop
+    (faults c.args.files.now) (faults c.read_file.new.files) c.report-text.result c.in_ok-file.ensures.answer.1 c.report-text.ensures.ok c.report-text.ensures.stop
 
 pub returns-in_err-file-clause-opened : goal.returns-in_err-file-clause-opened
 returns-in_err-file-clause-opened g c = c.read_file.ensures.opened

@@ -4,7 +4,7 @@ use Rattle.call_meaning.specs.Outcome.{FileMeans}
 use Rattle.call_meaning.specs.Linking.{FileAndText, by_line, LibraryIn}
 use Rattle.call_meaning.proofs.Blocks.{text_at_fault}
 use Rattle.call_meaning.proofs.Lifts.{file_stops, stops_first}
-use Rattle.xtalk_top.proofs.block.library.Goals as goal
+use Rattle.call_files.proofs.block.library.Goals as goal
 
 pub returns-in-Ok-clause-answer : goal.returns-in-Ok-clause-answer
 returns-in-Ok-clause-answer g c = (

@@ -34,6 +34,7 @@ use link_rules::LinkFault;
 use sdc_read::{Constraints, read_sdc};
 use spef_read::{Parasitics, read_spef};
 use std::alloc::Global;
+use std::mem;
 use verilog_net::{Netlist, read_modules};
 use xt_io::Files;
 use xt_lex::{TextFault, last_line};
@@ -237,7 +238,10 @@ fn finish_block<F: Files>(
 {
     let parasitics = parasitics(alloc, files, spef)?;
     let constraints = constraints(alloc, files, sdc, library, netlist)?;
-    linked(alloc, library, netlist, &parasitics, &constraints)
+    let design = linked(alloc, library, netlist, &parasitics, &constraints);
+    mem::drop(constraints);
+    mem::drop(parasitics);
+    design
 }
 
 /// The design that the four files of a block make.
@@ -255,5 +259,8 @@ pub fn read_block<F: Files>(alloc: Global, files: &mut F, block: BlockFiles) -> 
     } = block;
     let library = library(alloc, files, lib)?;
     let netlist = netlist(alloc, files, netlist_file)?;
-    finish_block(alloc, files, spef, sdc, &library, &netlist)
+    let design = finish_block(alloc, files, spef, sdc, &library, &netlist);
+    mem::drop(netlist);
+    mem::drop(library);
+    design
 }

@@ -1,5 +1,5 @@
 use Rattle.std.proofs.Common.{Err, ap, inl, inr, refl}
-use Rattle.xtalk_top.proofs.input.read_file.Goals as goal
+use Rattle.call_files.proofs.input.read_file.Goals as goal
 
 pub returns-in-Ok-clause-whole : goal.returns-in-Ok-clause-whole
 returns-in-Ok-clause-whole g c = rw c.as_str.ensures at c.in-Ok.ensures.whole

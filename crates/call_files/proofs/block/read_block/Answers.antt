@@ -12,7 +12,7 @@ use Rattle.call_meaning.proofs.Blocks.{holds_as, last_as, text_as, text_leads, t
 use Rattle.call_meaning.proofs.Lifts.{answers_later, kept_trans, stops_first, stops_later}
 use Rattle.std.proofs.Common.{[], ◌∷◌}
 use Rattle.call_meaning.proofs.Openings.{opened_then, opens_more, opens_part}
-use Rattle.xtalk_top.proofs.block.read_block.Goals as goal
+use Rattle.call_files.proofs.block.read_block.Goals as goal
 
 pub returns-in_err-library-clause-means : goal.returns-in_err-library-clause-means
 returns-in_err-library-clause-means g c =
@@ -68,7 +68,7 @@ returns-clause-means g c =
     c.library.ensures.content c.netlist.ensures.content c.in_ok-library.ensures.answer.0 c.in_ok-netlist.ensures.answer.0 in
     answers_later _ (BlockMeans c.args.block (content c.args.files.now) (λ _. ⊥)) stops
     _ (MakeDesign c.args.block (content c.args.files.now)) makes
-    (faults c.args.files.now) (faults c.netlist.new.files) (faults c.finish_block.new.files) c.finish_block.result kept c.finish_block.ensures.means
+    (faults c.args.files.now) (faults c.netlist.new.files) (faults c.finish_block-design.new.files) c.finish_block-design.result kept c.finish_block-design.ensures.means
 
 pub returns-in_err-library-clause-opened : goal.returns-in_err-library-clause-opened
 returns-in_err-library-clause-opened g c =
@@ -89,5 +89,5 @@ pub returns-clause-opened : goal.returns-clause-opened
 returns-clause-opened g c =
     let opened = g.F.Files.opened in
     let block = c.args.block in
-    opens_more (block.lib ∷ block.netlist ∷ []) (block.spef ∷ block.sdc ∷ []) _ (opened c.args.files.now) (opened c.netlist.new.files) (opened c.finish_block.new.files)
-    (opened_then (block.lib ∷ []) (block.netlist ∷ []) (opened c.args.files.now) (opened c.library.new.files) (opened c.netlist.new.files) c.library.ensures.opened c.netlist.ensures.opened) c.finish_block.ensures.opened
+    opens_more (block.lib ∷ block.netlist ∷ []) (block.spef ∷ block.sdc ∷ []) _ (opened c.args.files.now) (opened c.netlist.new.files) (opened c.finish_block-design.new.files)
+    (opened_then (block.lib ∷ []) (block.netlist ∷ []) (opened c.args.files.now) (opened c.library.new.files) (opened c.netlist.new.files) c.library.ensures.opened c.netlist.ensures.opened) c.finish_block-design.ensures.opened

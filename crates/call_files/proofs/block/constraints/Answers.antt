@@ -6,7 +6,7 @@ use Rattle.call_meaning.specs.Outcome.{FileMeans}
 use Rattle.call_meaning.specs.Linking.{FileAndText, by_line, ConstraintsIn}
 use Rattle.call_meaning.proofs.Blocks.{text_at_fault}
 use Rattle.call_meaning.proofs.Lifts.{file_stops, stops_first}
-use Rattle.xtalk_top.proofs.block.constraints.Goals as goal
+use Rattle.call_files.proofs.block.constraints.Goals as goal
 
 -- a scale is kept by the bits of a number
 scale_kept : (x : ℤ) → IsScale x → to_z w32 (of_z w32 x) ≡ x

@@ -5,7 +5,7 @@ use Rattle.call_meaning.proofs.Blocks.{holds_as, text_as, text_leads, text_stops
 use Rattle.call_meaning.proofs.Lifts.{answers_unread, kept_trans, stops_first, stops_later}
 use Rattle.std.proofs.Common.{[], ◌∷◌}
 use Rattle.call_meaning.proofs.Openings.{opened_then, opens_all, opens_part}
-use Rattle.xtalk_top.proofs.block.finish_block.Goals as goal
+use Rattle.call_files.proofs.block.finish_block.Goals as goal
 
 pub returns-in_err-parasitics-clause-means : goal.returns-in_err-parasitics-clause-means
 returns-in_err-parasitics-clause-means g c =
@@ -51,9 +51,9 @@ returns-clause-means g c =
       linked = h.0;
       sound = h.1;
     })
-    (faults c.args.files.now) (faults c.constraints.new.files) c.linked.result
+    (faults c.args.files.now) (faults c.constraints.new.files) c.linked-design.result
     (kept_trans (faults c.args.files.now) (faults c.parasitics.new.files) (faults c.constraints.new.files) c.in_ok-parasitics.ensures.answer.1 c.in_ok-constraints.ensures.answer.1)
-    c.linked.ensures.ok c.linked.ensures.stop
+    c.linked-design.ensures.ok c.linked-design.ensures.stop
 
 pub returns-in_err-parasitics-clause-opened : goal.returns-in_err-parasitics-clause-opened
 returns-in_err-parasitics-clause-opened g c =

@@ -3,7 +3,7 @@ use Rattle.std.proofs.lemmas.Result.{err_from_is_err_and}
 use Rattle.call_meaning.specs.Outcome.{FileMeans}
 use Rattle.call_meaning.specs.Linking.{FileAndText, HoldsText, NetlistIn, TextMeans}
 use Rattle.call_meaning.proofs.Lifts.{answers_unread, file_leads, file_stops, stops_first}
-use Rattle.xtalk_top.proofs.block.netlist.Goals as goal
+use Rattle.call_files.proofs.block.netlist.Goals as goal
 
 pub returns-in_err-file-clause-answer : goal.returns-in_err-file-clause-answer
 returns-in_err-file-clause-answer g c =

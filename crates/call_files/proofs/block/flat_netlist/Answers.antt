@@ -7,7 +7,7 @@ use Rattle.verilog_net.specs.Sound.{IsSoundModule}
 use Rattle.call_meaning.specs.declared.refusal.PassedLimit.{PassedLimit}
 use Rattle.call_meaning.specs.declared.refusal.TextRefusal.TheVariants.{At, Beyond}
 use Rattle.call_meaning.proofs.Netlists.{modules_at_fault, flat_modules, lone_means, lone_sound}
-use Rattle.xtalk_top.proofs.block.flat_netlist.Goals as goal
+use Rattle.call_files.proofs.block.flat_netlist.Goals as goal
 
 pub returns-in-Err-clause-stop : goal.returns-in-Err-clause-stop
 returns-in-Err-clause-stop c =
