@@ -1,16 +1,17 @@
 //! How the runs of a design are made, and the windows in which they end.
 
-ghost use Rattle.std.specs.Prelude.{◌≡◌, ℕ, ◌≤◌, IfOk, IfSome};
+ghost use Rattle.std.specs.Prelude.{◌≡◌, ◌↔◌, ℕ, ◌≤◌, IfOk, IfSome};
 ghost use Rattle.xt_model.specs.declared.direction.Direction.TheVariants.{Narrow, Widen};
 ghost use Rattle.xt_model.specs.Parts.{Parts};
 ghost use Rattle.xt_model.specs.Build.{IsRoundBound};
 ghost use Rattle.xt_meaning.specs.Barrier.{IsFittingStart};
-ghost use Rattle.xt_meaning.specs.Fixpoint.{IsLeastFixpoint, IsGreatestFixpoint};
+ghost use Rattle.xt_meaning.specs.Fixpoint.{IsFixpoint, IsLeastFixpoint, IsGreatestFixpoint};
 ghost use Rattle.xt_meaning.specs.Laws.{IsExtremeFixpoint};
 ghost use Rattle.net_eval.specs.ReadLists.{AreReadLists};
 ghost use Rattle.dirty_words.specs.Readers.{AreReaders};
 ghost use Rattle.command_line.specs.Words.{IsWorkerCount};
 ghost use Rattle.xtalk_top.specs.Runs.{most_rounds, turns_by};
+ghost use Rattle.xtalk_top.specs.declared.runs.Turns.TheVariants.{InThreads};
 
 use chaos_core::{Gate, Settled, settle_picked};
 use chaos_run::{Both, settle_from};
@@ -81,6 +82,8 @@ fn run_from<R: Threads + Sync, G: Gate>(
     requires readers { IfSome readers (λ some. AreReaders lists.now some.now) }
     requires workers { IsWorkerCount runs.workers }
     ensures extreme { IfOk result (λ settled. IsExtremeFixpoint direction design.now settled.windows) }
+    ensures closed { runs.turns ≡ InThreads
+        → IfOk result (λ settled. (settled.rounds ≡ 0) ↔ IsFixpoint design.now start.now) }
     ensures few { IfOk result (λ settled. (bound : ℕ) → IsRoundBound design.now.nets bound
         → settled.rounds ≤ most_rounds runs.turns bound) }
 {
@@ -100,7 +103,8 @@ fn run_from<R: Threads + Sync, G: Gate>(
 }
 
 /// Runs twice, wider from `low` and narrower from `high`: to the least and the greatest windows of a design, in rounds
-/// within its bound, or by marks within one more. Fails only for want of memory.
+/// within its bound, or by marks within one more. By rounds in threads a run makes none just where its start is a
+/// fixpoint. Fails only for want of memory.
 pub fn both_from<R: Threads + Sync, G: Gate>(
     rt: &R,
     alloc: Global,
@@ -117,6 +121,10 @@ pub fn both_from<R: Threads + Sync, G: Gate>(
     requires workers { IsWorkerCount runs.workers }
     ensures least { IfOk result (λ found. IsLeastFixpoint design.now found.low) }
     ensures greatest { IfOk result (λ found. IsGreatestFixpoint design.now found.high) }
+    ensures low_closed { runs.turns ≡ InThreads
+        → IfOk result (λ found. (found.low_rounds ≡ 0) ↔ IsFixpoint design.now low.now) }
+    ensures high_closed { runs.turns ≡ InThreads
+        → IfOk result (λ found. (found.high_rounds ≡ 0) ↔ IsFixpoint design.now high.now) }
     ensures few { IfOk result (λ found. (bound : ℕ) → IsRoundBound design.now.nets bound
         → (found.low_rounds ≤ most_rounds runs.turns bound) × (found.high_rounds ≤ most_rounds runs.turns bound)) }
 {

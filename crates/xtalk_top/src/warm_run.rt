@@ -7,13 +7,14 @@ ghost use Rattle.xt_meaning.specs.Fixpoint.{IsFixpoint, IsGreatestFixpoint, IsLe
 ghost use Rattle.eco_warm.specs.Starts.{IsAfterEdit, high_start, low_start};
 ghost use Rattle.command_line.specs.Words.{IsWorkerCount};
 
+use crate::runs::{Runs, Turns, both_from};
 use chaos_core::Gate;
-use chaos_run::{Both, settle_from};
+use chaos_run::Both;
 use eco_warm::{Edited, StartWindows, starts};
 use net_eval::read_lists;
 use std::alloc::Global;
 use std::thread::Threads;
-use xt_model::{Design, Direction, NoMemory, Windows};
+use xt_model::{Design, NoMemory, Windows};
 
 /// The least and the greatest windows of a design after an edit, from those of the design before it and the envelope of
 /// the design after it, by this many workers, from 1 to 64: runs from where `starts` says. Neither makes more rounds
@@ -46,30 +47,7 @@ pub fn warm<R: Threads + Sync, G: Gate>(
     let StartWindows { low, high } = starts(alloc, before, after, &old.low, &old.high, top)?;
     let design = &after.design;
     let lists = read_lists(alloc, design)?;
-    let least = settle_from(
-        rt,
-        alloc,
-        design,
-        &lists,
-        Direction::Widen,
-        &low,
-        workers,
-        gate,
-    )?;
-    let greatest = settle_from(
-        rt,
-        alloc,
-        design,
-        &lists,
-        Direction::Narrow,
-        &high,
-        workers,
-        gate,
-    )?;
-    Ok(Both {
-        low: least.windows,
-        high: greatest.windows,
-        low_rounds: least.rounds,
-        high_rounds: greatest.rounds,
-    })
+    let turns = Turns::InThreads;
+    let runs = Runs { workers, turns };
+    both_from(rt, alloc, gate, design, &lists, &low, &high, runs)
 }

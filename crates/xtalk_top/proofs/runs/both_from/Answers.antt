@@ -36,3 +36,27 @@ returns-in_err-greatest-clause-greatest g c = rw (err_from_is_err_and c.from_res
 
 pub returns-in_err-greatest-clause-few : goal.returns-in_err-greatest-clause-few
 returns-in_err-greatest-clause-few g c = rw (err_from_is_err_and c.from_residual-in_err-greatest.result c.from_residual-in_err-greatest.ensures.1).1 tt
+
+pub returns-clause-low_closed : goal.returns-clause-low_closed
+returns-clause-low_closed g c = c.in_ok-least.ensures.closed
+
+pub returns-clause-high_closed : goal.returns-clause-high_closed
+returns-clause-high_closed g c = c.in_ok-greatest.ensures.closed
+
+pub returns-in_err-readers-clause-low_closed : goal.returns-in_err-readers-clause-low_closed
+returns-in_err-readers-clause-low_closed g c = λ _. rw (err_from_is_err_and c.from_residual.result c.from_residual.ensures.1).1 tt
+
+pub returns-in_err-readers-clause-high_closed : goal.returns-in_err-readers-clause-high_closed
+returns-in_err-readers-clause-high_closed g c = λ _. rw (err_from_is_err_and c.from_residual.result c.from_residual.ensures.1).1 tt
+
+pub returns-in_err-least-clause-low_closed : goal.returns-in_err-least-clause-low_closed
+returns-in_err-least-clause-low_closed g c = λ _. rw (err_from_is_err_and c.from_residual-in_err-least.result c.from_residual-in_err-least.ensures.1).1 tt
+
+pub returns-in_err-least-clause-high_closed : goal.returns-in_err-least-clause-high_closed
+returns-in_err-least-clause-high_closed g c = λ _. rw (err_from_is_err_and c.from_residual-in_err-least.result c.from_residual-in_err-least.ensures.1).1 tt
+
+pub returns-in_err-greatest-clause-low_closed : goal.returns-in_err-greatest-clause-low_closed
+returns-in_err-greatest-clause-low_closed g c = λ _. rw (err_from_is_err_and c.from_residual-in_err-greatest.result c.from_residual-in_err-greatest.ensures.1).1 tt
+
+pub returns-in_err-greatest-clause-high_closed : goal.returns-in_err-greatest-clause-high_closed
+returns-in_err-greatest-clause-high_closed g c = λ _. rw (err_from_is_err_and c.from_residual-in_err-greatest.result c.from_residual-in_err-greatest.ensures.1).1 tt

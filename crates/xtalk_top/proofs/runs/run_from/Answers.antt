@@ -1,4 +1,4 @@
-use Rattle.std.proofs.Common.{◌≤◌, sym, subst}
+use Rattle.std.proofs.Common.{◌≤◌, ◌∙◌, sym, subst}
 use Rattle.std.proofs.lemmas.Result.{IfOk-weaker}
 use Rattle.xtalk_top.specs.declared.runs.Turns.{Turns}
 use Rattle.xtalk_top.specs.Runs.{most_rounds}
@@ -19,3 +19,15 @@ returns-in-Some-clause-few g c =
 pub returns-in-None-clause-few : goal.returns-in-None-clause-few
 returns-in-None-clause-few g c =
     IfOk-weaker c.settle_dirty_from.result _ _ (λ settled h bound b. subst (λ (t : Turns). settled.rounds ≤ most_rounds t bound) (sym c.in-ByMarks.is) (h bound b)) c.settle_dirty_from.ensures.few
+
+pub returns-in-InThreads-clause-closed : goal.returns-in-InThreads-clause-closed
+returns-in-InThreads-clause-closed g c = λ _. c.settle_from.ensures.closed
+
+pub returns-in-Picked-clause-closed : goal.returns-in-Picked-clause-closed
+returns-in-Picked-clause-closed g c = λ e. let other = sym c.in-Picked.is ∙ e in absurd cc
+
+pub returns-in-Some-clause-closed : goal.returns-in-Some-clause-closed
+returns-in-Some-clause-closed g c = λ e. let other = sym c.in-ByMarks.is ∙ e in absurd cc
+
+pub returns-in-None-clause-closed : goal.returns-in-None-clause-closed
+returns-in-None-clause-closed g c = λ e. let other = sym c.in-ByMarks.is ∙ e in absurd cc

@@ -1,20 +1,6 @@
+use Rattle.std.proofs.Common.{refl}
 use Rattle.std.proofs.lemmas.Result.{err_from_is_err_and}
 use Rattle.xtalk_top.proofs.warm_run.warm.Goals as goal
-
-pub returns-clause-few : goal.returns-clause-few
-returns-clause-few g c = λ bound b. (c.in_ok-least.ensures.few bound b, c.in_ok-greatest.ensures.few bound b)
-
-pub returns-clause-least : goal.returns-clause-least
-returns-clause-least g c = c.in_ok-least.ensures.extreme
-
-pub returns-clause-greatest : goal.returns-clause-greatest
-returns-clause-greatest g c = c.in_ok-greatest.ensures.extreme
-
-pub returns-clause-low_closed : goal.returns-clause-low_closed
-returns-clause-low_closed g c = rw c.in_ok-low.ensures.low at c.in_ok-least.ensures.closed
-
-pub returns-clause-high_closed : goal.returns-clause-high_closed
-returns-clause-high_closed g c = rw c.in_ok-low.ensures.high at c.in_ok-greatest.ensures.closed
 
 pub returns-in_err-low-clause-least : goal.returns-in_err-low-clause-least
 returns-in_err-low-clause-least g c = rw (err_from_is_err_and c.from_residual.result c.from_residual.ensures.1).1 tt
@@ -46,32 +32,17 @@ returns-in_err-lists-clause-high_closed g c = rw (err_from_is_err_and c.from_res
 pub returns-in_err-lists-clause-few : goal.returns-in_err-lists-clause-few
 returns-in_err-lists-clause-few g c = rw (err_from_is_err_and c.from_residual-in_err-lists.result c.from_residual-in_err-lists.ensures.1).1 tt
 
-pub returns-in_err-least-clause-least : goal.returns-in_err-least-clause-least
-returns-in_err-least-clause-least g c = rw (err_from_is_err_and c.from_residual-in_err-least.result c.from_residual-in_err-least.ensures.1).1 tt
+pub returns-clause-least : goal.returns-clause-least
+returns-clause-least g c = c.both_from.ensures.least
 
-pub returns-in_err-least-clause-greatest : goal.returns-in_err-least-clause-greatest
-returns-in_err-least-clause-greatest g c = rw (err_from_is_err_and c.from_residual-in_err-least.result c.from_residual-in_err-least.ensures.1).1 tt
+pub returns-clause-greatest : goal.returns-clause-greatest
+returns-clause-greatest g c = c.both_from.ensures.greatest
 
-pub returns-in_err-least-clause-low_closed : goal.returns-in_err-least-clause-low_closed
-returns-in_err-least-clause-low_closed g c = rw (err_from_is_err_and c.from_residual-in_err-least.result c.from_residual-in_err-least.ensures.1).1 tt
+pub returns-clause-low_closed : goal.returns-clause-low_closed
+returns-clause-low_closed g c = rw c.in_ok-low.ensures.low at (c.both_from.ensures.low_closed refl)
 
-pub returns-in_err-least-clause-high_closed : goal.returns-in_err-least-clause-high_closed
-returns-in_err-least-clause-high_closed g c = rw (err_from_is_err_and c.from_residual-in_err-least.result c.from_residual-in_err-least.ensures.1).1 tt
+pub returns-clause-high_closed : goal.returns-clause-high_closed
+returns-clause-high_closed g c = rw c.in_ok-low.ensures.high at (c.both_from.ensures.high_closed refl)
 
-pub returns-in_err-least-clause-few : goal.returns-in_err-least-clause-few
-returns-in_err-least-clause-few g c = rw (err_from_is_err_and c.from_residual-in_err-least.result c.from_residual-in_err-least.ensures.1).1 tt
-
-pub returns-in_err-greatest-clause-least : goal.returns-in_err-greatest-clause-least
-returns-in_err-greatest-clause-least g c = rw (err_from_is_err_and c.from_residual-in_err-greatest.result c.from_residual-in_err-greatest.ensures.1).1 tt
-
-pub returns-in_err-greatest-clause-greatest : goal.returns-in_err-greatest-clause-greatest
-returns-in_err-greatest-clause-greatest g c = rw (err_from_is_err_and c.from_residual-in_err-greatest.result c.from_residual-in_err-greatest.ensures.1).1 tt
-
-pub returns-in_err-greatest-clause-low_closed : goal.returns-in_err-greatest-clause-low_closed
-returns-in_err-greatest-clause-low_closed g c = rw (err_from_is_err_and c.from_residual-in_err-greatest.result c.from_residual-in_err-greatest.ensures.1).1 tt
-
-pub returns-in_err-greatest-clause-high_closed : goal.returns-in_err-greatest-clause-high_closed
-returns-in_err-greatest-clause-high_closed g c = rw (err_from_is_err_and c.from_residual-in_err-greatest.result c.from_residual-in_err-greatest.ensures.1).1 tt
-
-pub returns-in_err-greatest-clause-few : goal.returns-in_err-greatest-clause-few
-returns-in_err-greatest-clause-few g c = rw (err_from_is_err_and c.from_residual-in_err-greatest.result c.from_residual-in_err-greatest.ensures.1).1 tt
+pub returns-clause-few : goal.returns-clause-few
+returns-clause-few g c = c.both_from.ensures.few
