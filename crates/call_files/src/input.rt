@@ -1,18 +1,16 @@
-//! The files of a command: their bytes, and the designs that they hold.
+//! The bytes of a file.
 
-ghost use Rattle.std.specs.Prelude.{◌≡◌, ◌≤◌, [], ◌∷◌, length, IfOk, IfErr, IfSome};
+ghost use Rattle.std.specs.Prelude.{◌≡◌, ◌≤◌, [], ◌∷◌, length, IfOk, IfSome};
 ghost use Rattle.xt_io.specs.Outside.{AreOpened};
 ghost use Rattle.command_line.specs.Words.{Text};
-ghost use Rattle.call_meaning.specs.Outcome.{FileMeans, LinkedMeans, IsDesignText};
+ghost use Rattle.call_meaning.specs.Outcome.{FileMeans};
 ghost use Rattle.call_meaning.specs.FailureWords.{most_bytes};
-ghost use Rattle.call_meaning.specs.Call.{Answers, IsStop};
+ghost use Rattle.call_meaning.specs.Call.{Answers};
 
-use call_meaning::{FileRefusal, PassedLimit, Refusal, Stop, TextRefusal};
+use call_meaning::{FileRefusal, Refusal, Stop};
 use command_line::FileName;
-use linked_text::{LinkedFault, read_linked_text};
 use std::alloc::Global;
 use xt_io::{Files, ReadFail, read_whole};
-use xt_model::Design;
 
 /// The bytes of a file, after its name. The file is opened once.
 pub fn read_file<F: Files>(
@@ -35,25 +33,5 @@ pub fn read_file<F: Files>(
             why: FileRefusal::TooLong,
         })),
         Err(ReadFail::NoMemory) => Err(Stop::NoMemory),
-    }
-}
-
-/// The design whose linked text a file of this name holds.
-pub fn read_design(alloc: Global, file: FileName, bytes: Vec<u8>) -> Result<Design, Stop>
-    requires { length bytes.items ≤ most_bytes }
-    ensures ok { IfOk result (IsDesignText bytes.items) }
-    ensures stop { IfErr result (IsStop (LinkedMeans file bytes.items (λ _. ⊥)) (λ _. ⊥)) }
-{
-    match read_linked_text(alloc, bytes) {
-        Ok(design) => Ok(design),
-        Err(LinkedFault::Refused { line, code }) => Err(Stop::Refused(Refusal::File {
-            file,
-            why: FileRefusal::Content(TextRefusal::At { line, code }),
-        })),
-        Err(LinkedFault::Limit { what, name, value }) => Err(Stop::Refused(Refusal::File {
-            file,
-            why: FileRefusal::Content(TextRefusal::Beyond(PassedLimit { what, name, value })),
-        })),
-        Err(LinkedFault::NoMemory) => Err(Stop::NoMemory),
     }
 }

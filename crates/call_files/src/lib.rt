@@ -1,8 +1,8 @@
-//! The files of a call: what is read of each, and the design that they make.
+//! The files of a call: the bytes of each, and the design that the four files of a block make.
 #![tactic(auto)]
 
 mod block;
 mod input;
 
 pub use block::read_block;
-pub use input::{read_design, read_file};
+pub use input::read_file;

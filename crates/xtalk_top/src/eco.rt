@@ -9,7 +9,8 @@ ghost use Rattle.call_meaning.specs.Eco.{EcoMeans};
 
 use crate::counted::counted_by;
 use crate::edits::report_of_edits;
-use call_files::{read_design, read_file};
+use crate::input::read_design;
+use call_files::read_file;
 use call_meaning::Stop;
 use chaos_core::Gate;
 use command_line::EcoJob;

@@ -8,6 +8,7 @@ mod edit_lines;
 mod edit_refusal;
 mod edits;
 mod generated;
+mod input;
 mod link;
 mod replay;
 mod report;

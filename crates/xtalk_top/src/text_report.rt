@@ -8,8 +8,9 @@ ghost use Rattle.call_meaning.specs.Call.{Answers};
 
 use crate::counted::counted_by;
 use crate::design_report::report;
+use crate::input::read_design;
 use crate::runs::Runs;
-use call_files::{read_design, read_file};
+use call_files::read_file;
 use call_meaning::Stop;
 use chaos_core::Gate;
 use command_line::FileName;
