@@ -41,7 +41,7 @@ use xt_lex::{TextFault, last_line};
 use xt_model::limits::MOST_INSTANCES;
 use xt_model::{Design, LimitKind};
 
-// Why a file gives nothing whose text is at fault.
+// Why a file whose text is at fault gives nothing.
 fn stop_at(file: FileName, fault: TextFault) -> Stop
     ensures { result ≡ Linking.stop_at file fault }
 {
@@ -244,7 +244,7 @@ fn finish_block<F: Files>(
     design
 }
 
-/// The design that the four files of a block make.
+/// The design that the four files of a block make, or the first reason why they make none, in the order of the files.
 pub fn read_block<F: Files>(alloc: Global, files: &mut F, block: BlockFiles) -> Result<Design, Stop>
     ensures means { let Meant = BlockMeans block (F.content files.old) (λ _. ⊥) in
         let IsValue = MakeDesign block (F.content files.old) in

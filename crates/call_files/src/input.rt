@@ -12,7 +12,8 @@ use command_line::FileName;
 use std::alloc::Global;
 use xt_io::{Files, ReadFail, read_whole};
 
-/// The bytes of a file, after its name. The file is opened once.
+/// The bytes of a file, after its name. The file is opened once. Fails where it can't be read, where it has more than
+/// 268,435,456 bytes, and for want of memory.
 pub fn read_file<F: Files>(
     alloc: Global,
     files: &mut F,

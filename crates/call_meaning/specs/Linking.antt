@@ -43,7 +43,7 @@ abbrev pub SourceMeans : {V : Type 0} → Text → Result V TextRefusal → (V �
 SourceMeans file (Ok value) Leads outcome = Leads value
 SourceMeans file (Err why) Leads outcome = outcome ≡ refuses (File file (Content why))
 
--- why a file gives nothing whose text is at fault
+-- why a file whose text is at fault gives nothing
 abbrev pub stop_at : Text → TextFault → Stop
 stop_at file (texts.Refused line code) = stops.Refused (File file (Content (At line code)))
 stop_at file texts.NoMemory = stops.NoMemory

@@ -1,5 +1,5 @@
 //! One form of a text outside the sections of nets, from its first token on, by what may come next. What several of
-//! them call with the token is inlined: a token that is written to memory for a call costs 5 instructions a byte.
+//! them call with the token is inlined, so that no token is written to memory for a call.
 
 ghost use Rattle.std.specs.Prelude.{◌≡◌, false, ◌∷◌};
 ghost use Rattle.spef_read.specs.declared.sort.Sort.TheVariants.{Brackets};

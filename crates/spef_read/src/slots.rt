@@ -1,4 +1,4 @@
-//! What the place of a form asks for besides one sort.
+//! Which sorts fit a place of a form that takes several.
 
 ghost use Rattle.std.specs.Prelude.{◌≡◌, true, ◌∷◌, IfOk, IfErr};
 ghost use Rattle.spef_read.specs.Forms.{AnyWord, fits, misfit, IsMisfit, is_word, is_value_sort};
