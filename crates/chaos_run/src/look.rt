@@ -201,8 +201,9 @@ fn closed_first(
 
 /// Whether the operator gives the windows back at every net, decided by this many threads. What a start leaves unsteady
 /// is mostly among the inputs, which are mostly the first nets, and what a round leaves so mostly near these or among
-/// the last nets. So one thread looks at the first eighth of the nets from the first up, and at the last eighth from the
-/// last down; where these are steady, it has looked at a quarter of the nets alone, and all threads look at the rest.
+/// the last nets. So one thread looks at the first eighth of the nets from the first up, and at the last eighth from
+/// the last down; where these are steady, it has looked at a quarter of the nets alone, and all threads look at the
+/// rest.
 fn closed_from_ends<R: Threads + Sync>(
     rt: &R,
     design: &Design,
