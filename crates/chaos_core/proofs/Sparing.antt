@@ -15,7 +15,7 @@ use Rattle.xt_model.specs.Quads.{quad_at}
 use Rattle.xt_model.specs.Parts.{Parts}
 use Rattle.xt_model.specs.Assign.{Assignment, word_number}
 use Rattle.xt_meaning.specs.Overlap.{overlaps}
-use Rattle.xt_meaning.specs.Reads.{HoldsOfArcReads, HoldsOfEnds, IsReadList}
+use Rattle.xt_meaning.specs.Reads.{HoldsOfArcReads, HoldsOfEnds, HoldsOfReads}
 use Rattle.xt_meaning.specs.Words.{bound_in}
 use Rattle.xt_meaning.proofs.Extremes.{same_pair}
 use Rattle.xt_meaning.proofs.Order.{same_quad}
@@ -25,7 +25,6 @@ use Rattle.chaos_core.specs.Alike.{AreDecidedAlike, HasSameAnswers, HaveSameAnsw
 use Rattle.chaos_core.specs.Spared.{loaded_quads, AreRead, IsStill, HasAnswersAlike, IsInputAlike, AreInputsAlike, IsOwnAlike}
 use Rattle.chaos_core.specs.Tasks.{evaluated, loaded_bounds, place_of}
 use Rattle.chaos_core.proofs.Deciding.{same_where_decided}
-use Rattle.chaos_core.proofs.Places.{nets_read}
 
 -- ---- windows
 -- the words of a net that is read are read
@@ -58,17 +57,17 @@ answers_met period W V n m a b p q own_before own_after other_before other_after
 abbrev pub no_arc : TimingArc
 no_arc = record { from = record { 0 = 0 }; sink = 0; input = Rise; output = Rise; delay = 0; slew = 0 }
 
-arcs_read : (d : Parts) (n : ℕ) (reads : List ℕ) (net : Net) → IsReadList d n reads → slice_get d.nets n ≡ Some net → All (HoldsOfArcReads (Contains reads) d n net) net.arcs
-arcs_read d n reads net list at = found (λ (x : Net). All (HoldsOfArcReads (Contains reads) d n x) x.arcs) (slice_get d.nets n) net at (nets_read d n reads list).arcs
+arcs_read : (R : ℕ → Type 0) (d : Parts) (n : ℕ) (net : Net) → HoldsOfReads R d n → slice_get d.nets n ≡ Some net → All (HoldsOfArcReads R d n net) net.arcs
+arcs_read R d n net read at = found (λ (x : Net). All (HoldsOfArcReads R d n x) x.arcs) (slice_get d.nets n) net at read.arcs
 
-pub own_read : (d : Parts) (n : ℕ) (reads : List ℕ) (net : Net) → IsReadList d n reads → slice_get d.nets n ≡ Some net → 0 < length net.arcs → AreRead d reads n
-own_read d n reads net list at some =
-    let a = arcs_read d n reads net list at 0 no_arc some in
-    record { own = a.own; ends = held (λ (x : Net). HoldsOfEnds (Contains reads) x.couplings) (slice_get d.nets n) net at a.aggressors }
+pub own_read : (R : ℕ → Type 0) (d : Parts) (n : ℕ) (net : Net) → HoldsOfReads R d n → slice_get d.nets n ≡ Some net → 0 < length net.arcs → AreRead d R n
+own_read R d n net read at some =
+    let a = arcs_read R d n net read at 0 no_arc some in
+    record { own = a.own; ends = held (λ (x : Net). HoldsOfEnds R x.couplings) (slice_get d.nets n) net at a.aggressors }
 
-pub input_read : (d : Parts) (n : ℕ) (reads : List ℕ) (net : Net) (i : ℕ) (x : TimingArc) → IsReadList d n reads → slice_get d.nets n ≡ Some net → i < length net.arcs → AreRead d reads (get_or net.arcs i x).from.0
-input_read d n reads net i x list at h =
-    let a = arcs_read d n reads net list at i x h in
+pub input_read : (R : ℕ → Type 0) (d : Parts) (n : ℕ) (net : Net) (i : ℕ) (x : TimingArc) → HoldsOfReads R d n → slice_get d.nets n ≡ Some net → i < length net.arcs → AreRead d R (get_or net.arcs i x).from.0
+input_read R d n net i x read at h =
+    let a = arcs_read R d n net read at i x h in
     record { own = a.from; ends = a.from_aggressors }
 
 -- ---- all of a list
@@ -91,13 +90,7 @@ pub inputs_all : (d : Parts) (W V : Assignment) (n : ℕ) (net : Net) (items : L
 inputs_all d W V n net items at is h = held (λ (x : Net). All (λ a. IsInputAlike d W V a.from.0) x.arcs) (slice_get d.nets n) net at (subst (λ (xs : List TimingArc). All (λ a. IsInputAlike d W V a.from.0) xs) is h)
 
 -- ---- the operator
-module _ (d : Parts) (reads before after : List ℕ) (n : ℕ) where
-  abbrev W : Assignment
-  W = loaded_quads reads before
-
-  abbrev V : Assignment
-  V = loaded_quads reads after
-
+module _ (d : Parts) (W V : Assignment) (n : ℕ) where
   fed : (o : Option Net) → IfSome o (λ net. All (λ a. IsInputAlike d W V a.from.0) net.arcs) → IfSome o (λ net. All (λ a. HaveSameAnswers d.period W V n net.couplings) net.arcs)
       → IfSome o (λ net. All (IsFedAlike d W V n net) net.arcs)
   fed None inputs own = tt
@@ -105,7 +98,18 @@ module _ (d : Parts) (reads before after : List ℕ) (n : ℕ) where
       let input = inputs i a h in
       record { window = input.windows (get_or net.arcs i a).input; own = own i a h; from = input.answers }
 
-  pub evaluated_alike : AreInputsAlike d W V n → IsOwnAlike d W V n → evaluated d reads before n ≡ evaluated d reads after n
-  evaluated_alike inputs own =
-      let h : AreDecidedAlike d W V n = record { arcs = fed (slice_get d.nets n) inputs own } in
-      same_pair (evaluated d reads before n) (evaluated d reads after n) (same_where_decided d W V n Rise h) (same_where_decided d W V n Fall h)
+  same_own : (o : Option Net) → IfSome o (λ net. HaveSameAnswers d.period W V n net.couplings) → IfSome o (λ net. All (λ a. HaveSameAnswers d.period W V n net.couplings) net.arcs)
+  same_own None h = tt
+  same_own (Some net) h = λ i a lt. h
+
+  pub own_alike : HasAnswersAlike d W V n → IsOwnAlike d W V n
+  own_alike h = same_own (slice_get d.nets n) h
+
+  pub decided_alike : AreInputsAlike d W V n → IsOwnAlike d W V n → AreDecidedAlike d W V n
+  decided_alike inputs own = record { arcs = fed (slice_get d.nets n) inputs own }
+
+pub evaluated_alike : (d : Parts) (reads before after : List ℕ) (n : ℕ) → AreDecidedAlike d (loaded_quads reads before) (loaded_quads reads after) n → evaluated d reads before n ≡ evaluated d reads after n
+evaluated_alike d reads before after n h =
+    let W = loaded_quads reads before in
+    let V = loaded_quads reads after in
+    same_pair (evaluated d reads before n) (evaluated d reads after n) (same_where_decided d W V n Rise h) (same_where_decided d W V n Fall h)

@@ -13,11 +13,12 @@ pub record KnowsTurns (d : Parts) (workers : ℕ) (words : List ℕ) (m : Marks)
   pub marks : AreMarks d words m
   pub listed : AreListed d lists
 
--- of several: windows and marks, whatever they are, for each net
-pub record KnowsMoves (d : Parts) (v : List Pair) (marks : List Bool) : Type 0 where
+-- of several: windows and two marks, whatever they are, for each net
+pub record KnowsMoves (d : Parts) (v : List Pair) (still decided : List Bool) : Type 0 where
   pub before : length v ≡ length d.nets
-  pub unmoved : length marks ≡ length d.nets
+  pub unmoved : length still ≡ length d.nets
+  pub marks : length decided ≡ length d.nets
 
 abbrev pub IsKnown : Parts → ℕ → List ℕ → Known → Type 0
 IsKnown d workers words (Turns m lists) = KnowsTurns d workers words m lists
-IsKnown d workers words (Moves before unmoved) = KnowsMoves d before unmoved.items
+IsKnown d workers words (Moves before unmoved marks) = KnowsMoves d before unmoved.items marks.items

@@ -1,6 +1,7 @@
--- Two lists of numbers loaded for one read list, and when the operator makes the same of a net of both.
+-- Windows of two times, as those of two lists of numbers loaded for one read list, and when the operator makes the same
+-- of a net of both.
 use Rattle.std.specs.Prelude.{◌≡◌, ℕ, List, IfSome}
-use Rattle.std.specs.List.{All, Contains, slice_get}
+use Rattle.std.specs.List.{All, slice_get}
 use Rattle.xt_model.specs.declared.edge.Edge.{Edge}
 use Rattle.xt_model.specs.Parts.{Parts}
 use Rattle.xt_model.specs.Assign.{Assignment, quads_of}
@@ -12,10 +13,10 @@ use Rattle.chaos_core.specs.Alike.{HaveSameAnswers}
 abbrev pub loaded_quads : List ℕ → List ℕ → Assignment
 loaded_quads reads numbers = quads_of (loaded_bounds reads numbers)
 
--- net m and the nets of its couplings are in a read list
-pub record AreRead (d : Parts) (reads : List ℕ) (m : ℕ) : Type 0 where
-  pub own : Contains reads m
-  pub ends : IfSome (slice_get d.nets m) (λ net. HoldsOfEnds (Contains reads) net.couplings)
+-- R holds of net m and of the nets of its couplings
+pub record AreRead (d : Parts) (R : ℕ → Type 0) (m : ℕ) : Type 0 where
+  pub own : R m
+  pub ends : IfSome (slice_get d.nets m) (λ net. HoldsOfEnds R net.couplings)
 
 -- net m has the same windows in two assignments
 abbrev pub IsStill : Assignment → Assignment → ℕ → Type 0

@@ -30,12 +30,12 @@ use std::alloc::Global;
 use xt_model::{Design, Direction, NoMemory, Windows};
 
 /// What a run passes over nets by. One worker: by the turns in which nets moved and answers turned, and the nets whose
-/// coupling list has a net. Several, in their looks alone: by windows before a round, and a mark for each net that the
-/// round did not move.
+/// coupling list has a net. Several, in their looks alone: by windows before a round, a mark for each net that it did
+/// not move, and one for each net of which it did not move what decides it.
 #[derive(Drop)]
 pub(crate) enum Known {
     Turns(TurnMarks, NetLists),
-    Moves(Windows, Vec<bool>),
+    Moves(Windows, Vec<bool>, Vec<bool>),
 }
 
 impl Known {
@@ -56,7 +56,8 @@ impl Known {
         }
         let before = board.windows(alloc)?;
         let unmoved = vec![in alloc; false; design.nets().len()]?;
-        Ok(Known::Moves(before, unmoved))
+        let marks = vec![in alloc; false; design.nets().len()]?;
+        Ok(Known::Moves(before, unmoved, marks))
     }
 
     /// Whether the words are closed, whose windows are given. What one worker finds steady it knows in its first round.
@@ -72,7 +73,7 @@ impl Known {
     {
         match self {
             Known::Turns(marks, _) => closed_by(design, groups, marks, windows),
-            Known::Moves(_, _) => closed(design, windows),
+            Known::Moves(_, _, _) => closed(design, windows),
         }
     }
 
@@ -119,15 +120,15 @@ impl Known {
                 );
                 closed_by(design, groups, marks, windows)
             }
-            Known::Moves(before, unmoved) => {
+            Known::Moves(before, unmoved, marks) => {
                 board.load_into(before);
                 round(board, workers, design, lists, direction, source);
                 board.load_into(windows);
                 closed_after(
                     design,
                     groups,
-                    lists,
                     unmoved.as_mut_slice(),
+                    marks.as_mut_slice(),
                     before,
                     windows,
                 )

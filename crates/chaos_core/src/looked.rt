@@ -1,24 +1,23 @@
 //! What a look at words found, for the workers of the round after it: a net that is steady there need not be evaluated
 //! where the numbers loaded for it are those that the look found.
 
-ghost use Rattle.std.specs.Prelude.{◌≡◌, ℕ, ◌+◌, ◌*◌, ◌<◌, ◌≤◌, length, slice_index, IfSome, IsTrue};
-ghost use Rattle.std.specs.List.{All};
+ghost use Rattle.std.specs.Prelude.{◌≡◌, ℕ, ◌+◌, ◌*◌, ◌<◌, ◌≤◌, false, length, slice_index, IfSome, IsTrue};
+ghost use Rattle.std.specs.List.{All, slice_index_or};
 ghost use Rattle.xt_model.specs.Quads.{IsPairInRange};
 ghost use Rattle.xt_meaning.specs.Words.{number_for};
 ghost use Rattle.table_box.specs.Groups.{AreGroups};
 ghost use Rattle.net_eval.specs.ReadLists.{AreReadLists, ids, reads_of};
 ghost use Rattle.chaos_core.specs.Tasks.{bound_at, evaluated, list_of};
 ghost use Rattle.chaos_core.specs.Views.{IsLoaded};
-ghost use Rattle.chaos_core.specs.Looks.{AreAllMarked, AreNumbersOf, IsLook};
+ghost use Rattle.chaos_core.specs.Looks.{AreNumbersOf, IsLook};
 
 use crate::loaded::evaluate_grouped;
-use crate::unmoved::are_all_marked;
 use crate::words::number_in;
 use net_eval::ReadLists;
 use xt_model::{Design, NetId, Pair, Windows};
 
-/// The windows that a look found in words, and a mark for each net. Where a net and all nets of its read list are
-/// marked, the operator gives its windows back.
+/// The windows that a look found in words, and a mark for each net. The operator gives the windows of each marked net
+/// back.
 #[derive(Drop)]
 pub struct Looked<'a> {
     pub windows: &'a Windows,
@@ -64,17 +63,16 @@ impl<'a> Looked<'a> {
         true
     }
 
-    /// Whether a net is marked with all that it reads, and what was loaded for its read list is what the look found.
+    /// Whether a net is marked, and what was loaded for its read list is what the look found.
     fn knows(&self, lists: &ReadLists, net: NetId, numbers: &[u64]) -> bool
         requires there { net.0 < length lists.now }
         requires own { net.0 < length self.now.marks.now }
-        requires marks { All (λ m. m.0 < length self.now.marks.now) (reads_of lists.now net.0) }
         requires windows { All (λ m. m.0 < length self.now.windows.now) (reads_of lists.now net.0) }
         requires whole { length numbers.now ≡ 8 * length (reads_of lists.now net.0) }
-        ensures marked { IsTrue result → AreAllMarked lists.now self.now.marks.now net.0 }
+        ensures marked { IsTrue result → IsTrue (slice_index_or self.now.marks.now net.0 false) }
         ensures numbers { IsTrue result → AreNumbersOf self.now.windows.now (list_of lists.now net.0) numbers.now }
     {
-        are_all_marked(lists, self.marks, net) && self.has_numbers(lists.of(net), numbers)
+        self.marks[net.0 as usize] && self.has_numbers(lists.of(net), numbers)
     }
 }
 
@@ -94,7 +92,7 @@ pub(crate) fn evaluate_by(
     requires lists { AreReadLists design.now lists.now }
     requires loaded { IsLoaded design.now (list_of lists.now net.0) net.0 numbers.now }
     requires places { length design.now.nets ≤ length places.old }
-    requires look { IfSome look (λ l. IsLook design.now lists.now l.now.windows.now l.now.marks.now) }
+    requires look { IfSome look (λ l. IsLook design.now l.now.windows.now l.now.marks.now) }
     ensures value { result ≡ evaluated design.now (list_of lists.now net.0) numbers.now net.0 }
     ensures range { IsPairInRange result }
     ensures count { length places.new ≡ length places.old }

@@ -15,9 +15,10 @@ ghost use Rattle.chaos_core.specs.Runs.{IsDone, Ran};
 use crate::board::Board;
 use crate::looked::{Looked, evaluate_by};
 use crate::steps::{load_step, publish, worker_step};
-use crate::words::number_in;
+use crate::words::numbers_in;
 use crate::worker::{Stage, Worker};
 use net_eval::ReadLists;
+use std::mem;
 use xt_model::{Design, Direction, NetId, Pair};
 
 /// Whether a worker is done.
@@ -41,7 +42,7 @@ fn load_rest<B: Board>(
     requires groups { AreGroups design.now.tables groups.now }
     requires design { (B.knows board.old).setting.design ≡ design.now }
     requires lists { AreReadLists design.now lists.now }
-    requires look { IfSome look (λ l. IsLook design.now lists.now l.now.windows.now l.now.marks.now) }
+    requires look { IfSome look (λ l. IsLook design.now l.now.windows.now l.now.marks.now) }
     requires fits { IsFitting (B.knows board.old) lists.now worker.old }
     requires loading { task_of worker.old ≡ loading net.0 (loaded_of (task_of worker.old)) }
     requires whole { length (loaded_of (task_of worker.old)) % 8 ≡ 0 }
@@ -52,11 +53,14 @@ fn load_rest<B: Board>(
     ensures places { places_of worker.new ≡ places_of worker.old }
 {
     let reads = lists.of(net);
-    for place in worker.loaded.as_slice().len() / 8..reads.len() {
+    let alloc = *worker.loaded.allocator();
+    // Taken out of the worker until all is loaded, so that its end and its room need not be read again at each load.
+    let mut loaded = mem::replace(&mut worker.loaded, Vec::new(alloc));
+    for place in loaded.as_slice().len() / 8..reads.len() {
         let first = 8 * reads[place].0 as usize;
         for side in 0..8 {
             let number = board.load(first + side);
-            worker.loaded.push_reserved(number);
+            loaded.push_reserved(number);
         }
     }
     let pair = evaluate_by(
@@ -64,10 +68,11 @@ fn load_rest<B: Board>(
         groups,
         lists,
         net,
-        worker.loaded.as_slice(),
+        loaded.as_slice(),
         worker.places.as_mut_slice(),
         look,
     );
+    worker.loaded = loaded;
     worker.stage = Stage::Publishing(net.0, pair, 0);
 }
 
@@ -85,7 +90,7 @@ fn load_on<B: Board>(
     requires groups { AreGroups design.now.tables groups.now }
     requires design { (B.knows board.old).setting.design ≡ design.now }
     requires lists { AreReadLists design.now lists.now }
-    requires look { IfSome look (λ l. IsLook design.now lists.now l.now.windows.now l.now.marks.now) }
+    requires look { IfSome look (λ l. IsLook design.now l.now.windows.now l.now.marks.now) }
     requires fits { IsFitting (B.knows board.old) lists.now worker.old }
     requires loading { task_of worker.old ≡ loading net.0 (loaded_of (task_of worker.old)) }
     ensures fits { IsFitting (B.knows board.new) lists.now worker.new }
@@ -119,9 +124,10 @@ fn publish_rest<B: Board>(
     ensures room { room_of worker.new ≡ room_of worker.old }
     ensures places { places_of worker.new ≡ places_of worker.old }
 {
+    let numbers = numbers_in(&pair);
     for place in from..8 {
         let word = 8 * net as usize + place as usize;
-        publish(board, direction, word, number_in(&pair, place));
+        publish(board, direction, word, numbers[place as usize]);
     }
     worker.stage = Stage::Idle;
 }
@@ -141,7 +147,7 @@ fn advance<B: Board>(
     requires design { (B.knows board.old).setting.design ≡ design.now }
     requires direction { (B.knows board.old).setting.way ≡ direction }
     requires lists { AreReadLists design.now lists.now }
-    requires look { IfSome look (λ l. IsLook design.now lists.now l.now.windows.now l.now.marks.now) }
+    requires look { IfSome look (λ l. IsLook design.now l.now.windows.now l.now.marks.now) }
     requires fits { IsFitting (B.knows board.old) lists.now worker.old }
     requires late { task_of worker.old ≡ idle → 0 < (B.knows board.old).late }
     ensures fits { IsFitting (B.knows board.new) lists.now worker.new }
@@ -176,7 +182,7 @@ fn run_by<B: Board>(
     requires design { (B.knows board.old).setting.design ≡ design.now }
     requires direction { (B.knows board.old).setting.way ≡ direction }
     requires lists { AreReadLists design.now lists.now }
-    requires look { IfSome look (λ l. IsLook design.now lists.now l.now.windows.now l.now.marks.now) }
+    requires look { IfSome look (λ l. IsLook design.now l.now.windows.now l.now.marks.now) }
     requires fits { IsFitting (B.knows board.old) lists.now worker.old }
     requires idle { task_of worker.old ≡ idle }
     requires fresh { (B.knows board.old).drawn ≡ [] }
@@ -237,7 +243,7 @@ pub fn run_grouped<B: Board>(
     requires design { (B.knows board.old).setting.design ≡ design.now }
     requires direction { (B.knows board.old).setting.way ≡ direction }
     requires lists { AreReadLists design.now lists.now }
-    requires look { IsLook design.now lists.now look.now.windows.now look.now.marks.now }
+    requires look { IsLook design.now look.now.windows.now look.now.marks.now }
     requires fits { IsFitting (B.knows board.old) lists.now worker.old }
     requires idle { task_of worker.old ≡ idle }
     requires fresh { (B.knows board.old).drawn ≡ [] }

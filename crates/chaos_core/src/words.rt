@@ -1,6 +1,6 @@
 //! The words of windows.
 
-ghost use Rattle.std.specs.Prelude.{◌≡◌, ◌+◌, ◌*◌, ◌%◌, ◌<◌, ◌≤◌, ◌++◌, length, take, drop, slice_index, IfOk, OnOk};
+ghost use Rattle.std.specs.Prelude.{◌≡◌, ℕ, ◌+◌, ◌*◌, ◌%◌, ◌<◌, ◌≤◌, ◌++◌, length, take, drop, slice_index, IfOk, OnOk};
 ghost use Rattle.std.specs.List.{All};
 ghost use Rattle.xt_model.specs.Quads.{IsBound, IsInRange, IsPairInRange};
 ghost use Rattle.xt_meaning.specs.Words.{number_for, numbers_of, quad_numbers, top_number};
@@ -43,6 +43,23 @@ pub fn number_in(pair: &Pair, place: u32) -> u64
     ensures { result ≡ number_for (bound_at pair.now place) }
 {
     number_of(bound_of(pair, place))
+}
+
+/// The numbers of the eight words of a net with these windows.
+pub fn numbers_in(pair: &Pair) -> [u64; 8]
+    requires range { IsPairInRange pair.now }
+    ensures { (place : ℕ) → place < 8 → slice_index result place ≡ number_for (bound_at pair.now place) }
+{
+    [
+        number_in(pair, 0),
+        number_in(pair, 1),
+        number_in(pair, 2),
+        number_in(pair, 3),
+        number_in(pair, 4),
+        number_in(pair, 5),
+        number_in(pair, 6),
+        number_in(pair, 7),
+    ]
 }
 
 /// Appends the numbers of the eight words of a net.

@@ -80,10 +80,12 @@ SettlesAlone a lists windows rounds =
 abbrev pub workers_in : RunRoom → ℕ
 workers_in room = length room.workers.idle.items
 
--- a room for a run on a design with these read lists: all its workers are idle, and it has windows and a mark for each
--- net, and groups of the tables
+-- a room for a run on a design with these read lists: all its workers are idle, and it has windows and marks for each
+-- net, each twice, and groups of the tables
 pub record IsRoomFor (d : Parts) (lists : List (List NetId)) (room : RunRoom) : Type 0 where
   pub idle : AreIdle lists room.workers
+  pub before : length room.before ≡ length d.nets
   pub count : length room.windows ≡ length d.nets
+  pub unmoved : length room.unmoved.items ≡ length d.nets
   pub marks : length room.marks.items ≡ length d.nets
   pub groups : AreGroups d.tables room.groups.items

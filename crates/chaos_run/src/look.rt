@@ -11,7 +11,6 @@ ghost use Rattle.xt_meaning.specs.Barrier.{IsFittingStart, IsWithinEnvelope};
 ghost use Rattle.xt_meaning.specs.Words.{bounds_in, numbers_of};
 ghost use Rattle.table_box.specs.Groups.{AreGroups};
 ghost use Rattle.net_eval.specs.Closing.{IsSteadyAt};
-ghost use Rattle.net_eval.specs.ReadLists.{AreReadLists};
 ghost use Rattle.chaos_core.specs.Boards.{nets_of};
 ghost use Rattle.chaos_core.specs.Looks.{AreUnmoved, IsLook};
 ghost use Rattle.chaos_core.specs.Memories.{AreKept};
@@ -20,8 +19,8 @@ ghost use Rattle.window_words.specs.Boards.{IsAlone, IsOf};
 ghost use Rattle.window_words.specs.Steps.{IsRested};
 ghost use Rattle.chaos_run.specs.Looks.{quad_from};
 
-use chaos_core::{bound_of, closed_where_grouped};
-use net_eval::ReadLists;
+use chaos_core::{bound_of, closed_where_grouped, mark_decided};
+use std::mem;
 use std::thread::{Threads, join};
 use window_words::{Pass, SharedBoard};
 use xt_model::{Design, Pair, Quad, Windows};
@@ -77,16 +76,23 @@ fn load_pair(board: &SharedBoard, first: &mut Pass, net: usize) -> Pair
     }
 }
 
-/// Gives each net the windows that are in its words, and marks the nets that had these before, and no other.
-fn load_all(board: &SharedBoard, first: &mut Pass, windows: &mut Windows, marks: &mut [bool])
+/// Gives each net the windows that are in its words, and marks the nets that have these in `before`, and no other.
+fn load_all(
+    board: &SharedBoard,
+    first: &mut Pass,
+    before: &Windows,
+    windows: &mut Windows,
+    unmoved: &mut [bool],
+)
     requires own { IsOf board.now first.old }
     requires alone { IsAlone first.old.view }
     requires count { length windows.old ≡ nets_of first.old.view.setting }
-    requires marks { length marks.old ≡ length windows.old }
+    requires before { length before.now ≡ length windows.old }
+    requires unmoved { length unmoved.old ≡ length windows.old }
     ensures own { IsOf board.now first.new }
     ensures view { first.new.view ≡ first.old.view }
     ensures count { length windows.new ≡ length windows.old }
-    ensures marks { AreUnmoved windows.old windows.new marks.new }
+    ensures unmoved { AreUnmoved before.now windows.new unmoved.new }
     ensures numbers { numbers_of windows.new ≡ first.old.view.seen }
     ensures range { All IsPairInRange windows.new }
     ensures kept { AreKept first.old.view.setting first.old.view.seen }
@@ -96,7 +102,7 @@ fn load_all(board: &SharedBoard, first: &mut Pass, windows: &mut Windows, marks:
     first.respects();
     for net in 0..windows.pairs().len() {
         let pair = load_pair(board, first, net);
-        marks[net] = windows.pair(net).same(&pair);
+        unmoved[net] = before.pair(net).same(&pair);
         windows.set(net, pair);
     }
 }
@@ -122,12 +128,11 @@ fn unmark(marks: &mut [bool])
 }
 
 /// Whether the operator gives the windows back at each net from number `from` to before number `to`. Each of this many
-/// threads decides it of a share of the nets, and evaluates no net that is marked with all nets of its read list.
+/// threads decides it of a share of the nets, and evaluates no net that is marked.
 fn closed_by<R: Threads + Sync>(
     rt: &R,
     design: &Design,
     groups: &[usize],
-    lists: &ReadLists,
     marks: &[bool],
     windows: &Windows,
     from: u32,
@@ -135,8 +140,7 @@ fn closed_by<R: Threads + Sync>(
     shares: u32,
 ) -> bool
     requires groups { AreGroups design.now.tables groups.now }
-    requires lists { AreReadLists design.now lists.now }
-    requires look { IsLook design.now lists.now windows.now marks.now }
+    requires look { IsLook design.now windows.now marks.now }
     requires within { IsWithinEnvelope design.now windows.now }
     requires order { from ≤ to }
     requires end { to ≤ length design.now.nets }
@@ -144,7 +148,7 @@ fn closed_by<R: Threads + Sync>(
     ensures { IsTrue result ↔ ((n : ℕ) → from ≤ n → n < to → IsSteadyAt design.now windows.now n) }
 {
     if shares <= 1 {
-        return closed_where_grouped(design, groups, lists, marks, windows, from, to);
+        return closed_where_grouped(design, groups, marks, windows, from, to);
     }
     let some = shares / 2;
     let rest = shares - some;
@@ -152,47 +156,95 @@ fn closed_by<R: Threads + Sync>(
     let (left, right) = join(
         rt,
         move || -> bool
-            requires { IsSync R.row × AreGroups design.now.tables groups.now × AreReadLists design.now lists.now
-                × IsLook design.now lists.now windows.now marks.now × IsWithinEnvelope design.now windows.now
+            requires { IsSync R.row × AreGroups design.now.tables groups.now
+                × IsLook design.now windows.now marks.now × IsWithinEnvelope design.now windows.now
                 × (from ≤ middle) × (middle ≤ length design.now.nets)
                 × (some ≤ most_workers) }
             ensures { IsTrue result ↔ ((n : ℕ) → from ≤ n → n < middle
                 → IsSteadyAt design.entry.now windows.entry.now n) }
-        {
-            closed_by(
-                rt, design, groups, lists, marks, windows, from, middle, some,
-            )
-        },
+        { closed_by(rt, design, groups, marks, windows, from, middle, some) },
         move || -> bool
-            requires { IsSync R.row × AreGroups design.now.tables groups.now × AreReadLists design.now lists.now
-                × IsLook design.now lists.now windows.now marks.now × IsWithinEnvelope design.now windows.now
+            requires { IsSync R.row × AreGroups design.now.tables groups.now
+                × IsLook design.now windows.now marks.now × IsWithinEnvelope design.now windows.now
                 × (middle ≤ to) × (to ≤ length design.now.nets)
                 × (rest ≤ most_workers) }
             ensures { IsTrue result ↔ ((n : ℕ) → middle ≤ n → n < to
                 → IsSteadyAt design.entry.now windows.entry.now n) }
-        { closed_by(rt, design, groups, lists, marks, windows, middle, to, rest) },
+        { closed_by(rt, design, groups, marks, windows, middle, to, rest) },
     );
     left && right
 }
 
-/// Whether the operator gives the windows back at each of this many first nets. It looks from the first of them up.
+/// Whether the operator gives the windows of a net back. Marks the net where it does, and evaluates none that has a
+/// mark.
+fn is_steady(
+    design: &Design,
+    groups: &[usize],
+    marks: &mut [bool],
+    windows: &Windows,
+    net: u32,
+    next: u32,
+) -> bool
+    requires groups { AreGroups design.now.tables groups.now }
+    requires look { IsLook design.now windows.now marks.old }
+    requires within { IsWithinEnvelope design.now windows.now }
+    requires net { net < length design.now.nets }
+    requires next { next ≡ net + 1 }
+    ensures look { IsLook design.now windows.now marks.new }
+    ensures steady { IsTrue result ↔ IsSteadyAt design.now windows.now net }
+{
+    if !closed_where_grouped(design, groups, marks, windows, net, next) {
+        return false;
+    }
+    marks[net as usize] = true;
+    true
+}
+
+/// Whether the operator gives the windows back at each of this many first nets. It looks from the first of them up, and
+/// marks those up to the first that is not steady.
 fn closed_first(
     design: &Design,
     groups: &[usize],
-    lists: &ReadLists,
-    marks: &[bool],
+    marks: &mut [bool],
     windows: &Windows,
     count: u32,
 ) -> bool
     requires groups { AreGroups design.now.tables groups.now }
-    requires lists { AreReadLists design.now lists.now }
-    requires look { IsLook design.now lists.now windows.now marks.now }
+    requires look { IsLook design.now windows.now marks.old }
     requires within { IsWithinEnvelope design.now windows.now }
     requires count { count ≤ length design.now.nets }
-    ensures { IsTrue result ↔ ((n : ℕ) → n < count → IsSteadyAt design.now windows.now n) }
+    ensures look { IsLook design.now windows.now marks.new }
+    ensures closed { IsTrue result ↔ ((n : ℕ) → n < count → IsSteadyAt design.now windows.now n) }
 {
     for net in 0..count {
-        if !closed_where_grouped(design, groups, lists, marks, windows, net, net + 1) {
+        if !is_steady(design, groups, marks, windows, net, net + 1) {
+            return false;
+        }
+    }
+    true
+}
+
+/// Whether the operator gives the windows back at each net from number `from` to before number `to`. It looks from the
+/// last of them down, and marks those down to the first that is not steady.
+fn closed_last(
+    design: &Design,
+    groups: &[usize],
+    marks: &mut [bool],
+    windows: &Windows,
+    from: u32,
+    to: u32,
+) -> bool
+    requires groups { AreGroups design.now.tables groups.now }
+    requires look { IsLook design.now windows.now marks.old }
+    requires within { IsWithinEnvelope design.now windows.now }
+    requires order { from ≤ to }
+    requires end { to ≤ length design.now.nets }
+    ensures look { IsLook design.now windows.now marks.new }
+    ensures closed { IsTrue result ↔ ((n : ℕ) → from ≤ n → n < to → IsSteadyAt design.now windows.now n) }
+{
+    for step in from..to {
+        let net = to - 1 - (step - from);
+        if !is_steady(design, groups, marks, windows, net, net + 1) {
             return false;
         }
     }
@@ -202,48 +254,45 @@ fn closed_first(
 /// Whether the operator gives the windows back at every net, decided by this many threads. What a start leaves unsteady
 /// is mostly among the inputs, which are mostly the first nets, and what a round leaves so mostly near these or among
 /// the last nets. So one thread looks at the first eighth of the nets from the first up, and at the last eighth from
-/// the last down; where these are steady, it has looked at a quarter of the nets alone, and all threads look at the
-/// rest.
+/// the last down, and marks those that it finds steady; where all of these are, all threads look at the rest.
 fn closed_from_ends<R: Threads + Sync>(
     rt: &R,
     design: &Design,
     groups: &[usize],
-    lists: &ReadLists,
-    marks: &[bool],
+    marks: &mut [bool],
     windows: &Windows,
     shares: u32,
 ) -> bool
     requires groups { AreGroups design.now.tables groups.now }
-    requires lists { AreReadLists design.now lists.now }
-    requires look { IsLook design.now lists.now windows.now marks.now }
+    requires look { IsLook design.now windows.now marks.old }
     requires within { IsWithinEnvelope design.now windows.now }
     requires few { shares ≤ most_workers }
-    ensures { IsTrue result ↔ ((n : ℕ) → n < length design.now.nets → IsSteadyAt design.now windows.now n) }
+    ensures look { IsLook design.now windows.now marks.new }
+    ensures closed { IsTrue result ↔ ((n : ℕ) → n < length design.now.nets → IsSteadyAt design.now windows.now n) }
 {
     let nets = design.nets().len() as u32;
     let first = nets / 8;
     let last = nets - first;
-    if !closed_first(design, groups, lists, marks, windows, first) {
+    if !closed_first(design, groups, marks, windows, first) {
         return false;
     }
-    if !closed_where_grouped(design, groups, lists, marks, windows, last, nets) {
+    if !closed_last(design, groups, marks, windows, last, nets) {
         return false;
     }
-    closed_by(
-        rt, design, groups, lists, marks, windows, first, last, shares,
-    )
+    closed_by(rt, design, groups, marks, windows, first, last, shares)
 }
 
 /// Loads each word by the first pass into the windows, and decides whether the words are closed, by this many threads.
-/// Leaves no net marked. Takes no memory.
+/// Marks nets that it finds steady, and no other. Takes no memory.
 pub(crate) fn look<R: Threads + Sync>(
     rt: &R,
     board: &SharedBoard,
     first: &mut Pass,
     design: &Design,
     groups: &[usize],
-    lists: &ReadLists,
+    before: &Windows,
     windows: &mut Windows,
+    unmoved: &mut [bool],
     marks: &mut [bool],
     shares: u32,
 ) -> bool
@@ -251,8 +300,9 @@ pub(crate) fn look<R: Threads + Sync>(
     requires alone { IsAlone first.old.view }
     requires design { board.now.setting.design ≡ design.now }
     requires groups { AreGroups design.now.tables groups.now }
-    requires lists { AreReadLists design.now lists.now }
     requires count { length windows.old ≡ length design.now.nets }
+    requires before { length before.now ≡ length design.now.nets }
+    requires unmoved { length unmoved.old ≡ length design.now.nets }
     requires marks { length marks.old ≡ length design.now.nets }
     requires few { shares ≤ most_workers }
     ensures own { IsOf board.now first.new }
@@ -261,24 +311,26 @@ pub(crate) fn look<R: Threads + Sync>(
     ensures fits { IsFittingStart board.now.setting.way design.now windows.new }
     ensures kept { AreKept board.now.setting first.old.view.seen }
     ensures rested { 0 < length design.now.nets → IsRested first.old.view }
-    ensures look { IsLook design.now lists.now windows.new marks.new }
+    ensures look { IsLook design.now windows.new marks.new }
+    ensures unmoved { length unmoved.new ≡ length unmoved.old }
     ensures closed { IsTrue result ↔ AreClosed design.now first.old.view.seen }
 {
-    load_all(board, first, windows, marks);
+    load_all(board, first, before, windows, unmoved);
     unmark(marks);
-    closed_from_ends(rt, design, groups, lists, marks, windows, shares)
+    closed_from_ends(rt, design, groups, marks, windows, shares)
 }
 
-/// A look as by [`look`] after a round from the words of these windows: it marks the nets that the round did not move,
-/// and evaluates only nets that read one which it moved.
+/// A look as by [`look`] after a round from the words of these windows, which it leaves in `before`. It marks the nets
+/// of which the round did not move what decides them, and evaluates only others.
 pub(crate) fn look_again<R: Threads + Sync>(
     rt: &R,
     board: &SharedBoard,
     first: &mut Pass,
     design: &Design,
     groups: &[usize],
-    lists: &ReadLists,
+    before: &mut Windows,
     windows: &mut Windows,
+    unmoved: &mut [bool],
     marks: &mut [bool],
     shares: u32,
 ) -> bool
@@ -286,8 +338,9 @@ pub(crate) fn look_again<R: Threads + Sync>(
     requires alone { IsAlone first.old.view }
     requires design { board.now.setting.design ≡ design.now }
     requires groups { AreGroups design.now.tables groups.now }
-    requires lists { AreReadLists design.now lists.now }
-    requires before { IsFittingStart board.now.setting.way design.now windows.old }
+    requires fits { IsFittingStart board.now.setting.way design.now windows.old }
+    requires before { length before.old ≡ length design.now.nets }
+    requires unmoved { length unmoved.old ≡ length design.now.nets }
     requires marks { length marks.old ≡ length design.now.nets }
     requires carried { IsRested first.old.view
         → HasCarried board.now.setting (numbers_of windows.old) first.old.view.seen }
@@ -298,9 +351,13 @@ pub(crate) fn look_again<R: Threads + Sync>(
     ensures fits { IsFittingStart board.now.setting.way design.now windows.new }
     ensures kept { AreKept board.now.setting first.old.view.seen }
     ensures rested { 0 < length design.now.nets → IsRested first.old.view }
-    ensures look { IsLook design.now lists.now windows.new marks.new }
+    ensures look { IsLook design.now windows.new marks.new }
+    ensures before { length before.new ≡ length before.old }
+    ensures unmoved { length unmoved.new ≡ length unmoved.old }
     ensures closed { IsTrue result ↔ AreClosed design.now first.old.view.seen }
 {
-    load_all(board, first, windows, marks);
-    closed_from_ends(rt, design, groups, lists, marks, windows, shares)
+    mem::swap(before, windows);
+    load_all(board, first, before, windows, unmoved);
+    mark_decided(design, unmoved, before, windows, marks);
+    closed_from_ends(rt, design, groups, marks, windows, shares)
 }

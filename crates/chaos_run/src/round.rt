@@ -53,7 +53,7 @@ fn work<G: Gate>(
 )
     requires groups { AreGroups run.now.design.now.tables groups.now }
     requires run { IsRun run.now.board.now run.now.design.now run.now.lists.now run.now.direction }
-    requires look { IsLook run.now.design.now run.now.lists.now look.now.windows.now look.now.marks.now }
+    requires look { IsLook run.now.design.now look.now.windows.now look.now.marks.now }
     requires ready { IsReady run.now.board.now run.now.lists.now own.old }
     ensures { HasRun run.now.board.now run.now.design.now run.now.lists.now own.old own.new }
 {
@@ -82,7 +82,7 @@ fn work_all<R: Threads + Sync, G: Gate>(
 )
     requires groups { AreGroups run.now.design.now.tables groups.now }
     requires run { IsRun run.now.board.now run.now.design.now run.now.lists.now run.now.direction }
-    requires look { IsLook run.now.design.now run.now.lists.now look.now.windows.now look.now.marks.now }
+    requires look { IsLook run.now.design.now look.now.windows.now look.now.marks.now }
     requires some { 0 < length seated.old }
     requires few { length seated.old ≤ most_workers }
     requires ready { All (IsReady run.now.board.now run.now.lists.now) seated.old }
@@ -96,7 +96,7 @@ fn work_all<R: Threads + Sync, G: Gate>(
         &|place: usize, own: &mut SeatedWorker<'_>|
             requires { (place < most_workers) × AreGroups run.now.design.now.tables groups.now
                 × IsRun run.now.board.now run.now.design.now run.now.lists.now run.now.direction
-                × IsLook run.now.design.now run.now.lists.now look.now.windows.now look.now.marks.now
+                × IsLook run.now.design.now look.now.windows.now look.now.marks.now
                 × IsReady run.now.board.now run.now.lists.now own.now }
             ensures { HasRun run.entry.now.board.now run.entry.now.design.now run.entry.now.lists.now
                 own.entry.now own.exit.now }
@@ -145,7 +145,7 @@ pub(crate) fn round<'a, R: Threads + Sync, G: Gate>(
     requires run { IsRun run.now.board.now run.now.design.now run.now.lists.now run.now.direction }
     requires own { IsOf run.now.board.now first.old }
     requires alone { IsAlone first.old.view }
-    requires look { IsLook run.now.design.now run.now.lists.now windows.now marks.now }
+    requires look { IsLook run.now.design.now windows.now marks.now }
     requires idle { AreIdle run.now.lists.now workers.old }
     requires some { 0 < length workers.old.idle.items }
     requires few { length workers.old.idle.items ≤ most_workers }

@@ -34,7 +34,9 @@ fn run_rounds<'a, R: Threads + Sync, G: Gate>(
     groups: &[usize],
     workers: &mut Workers<'a>,
     first: &mut Pass,
+    before: &mut Windows,
     windows: &mut Windows,
+    unmoved: &mut [bool],
     marks: &mut [bool],
 ) -> u64
     requires groups { AreGroups run.now.design.now.tables groups.now }
@@ -45,6 +47,8 @@ fn run_rounds<'a, R: Threads + Sync, G: Gate>(
     requires some { 0 < length workers.old.idle.items }
     requires few { length workers.old.idle.items ≤ most_workers }
     requires count { length windows.old ≡ length run.now.design.now.nets }
+    requires before { length before.old ≡ length run.now.design.now.nets }
+    requires unmoved { length unmoved.old ≡ length run.now.design.now.nets }
     requires marks { length marks.old ≡ length run.now.design.now.nets }
     ensures own { IsOf run.now.board.now first.new }
     ensures alone { IsAlone first.new.view }
@@ -59,7 +63,7 @@ fn run_rounds<'a, R: Threads + Sync, G: Gate>(
 {
     let shares = workers.idle.as_slice().len() as u32;
     let mut done = look(
-        rt, run.board, first, run.design, groups, run.lists, windows, marks, shares,
+        rt, run.board, first, run.design, groups, before, windows, unmoved, marks, shares,
     );
     let mut rounds: u64 = 0;
     'rounds: while !done {
@@ -67,7 +71,7 @@ fn run_rounds<'a, R: Threads + Sync, G: Gate>(
         rounds += 1;
         round(rt, run, groups, workers, first, rounds, windows, marks);
         done = look_again(
-            rt, run.board, first, run.design, groups, run.lists, windows, marks, shares,
+            rt, run.board, first, run.design, groups, before, windows, unmoved, marks, shares,
         );
     }
     rounds
@@ -106,12 +110,16 @@ pub fn settle_in<'a, R: Threads + Sync, G: Gate>(
 {
     let RunRoom {
         workers,
+        before,
         windows,
+        unmoved,
         marks,
         groups,
     } = room;
     let mut workers = workers;
+    let mut before = before;
     let mut windows = windows;
+    let mut unmoved = unmoved;
     let mut marks = marks;
     let run = Run {
         board,
@@ -126,7 +134,9 @@ pub fn settle_in<'a, R: Threads + Sync, G: Gate>(
         groups.as_slice(),
         &mut workers,
         first,
+        &mut before,
         &mut windows,
+        unmoved.as_mut_slice(),
         marks.as_mut_slice(),
     );
     Settled { windows, rounds }

@@ -51,12 +51,14 @@ impl<'a> Workers<'a> {
     }
 }
 
-/// The room of a run: its workers, windows and marks for the look at its words, and the groups of the design's tables.
-/// It serves a run on one board.
+/// The room of a run: its workers, the windows of a look at its words and of the look before, two marks for each net
+/// for these, and the groups of the design's tables. It serves a run on one board.
 #[derive(Drop)]
 pub struct RunRoom<'a> {
     pub(crate) workers: Workers<'a>,
+    pub(crate) before: Windows,
     pub(crate) windows: Windows,
+    pub(crate) unmoved: Vec<bool>,
     pub(crate) marks: Vec<bool>,
     pub(crate) groups: Vec<usize>,
 }
@@ -75,12 +77,16 @@ impl<'a> RunRoom<'a> {
         ensures count { IfOk result (λ room. workers_in room ≡ workers) }
     {
         let workers = Workers::new(alloc, lists, workers)?;
+        let before = quiet(alloc, design)?;
         let windows = quiet(alloc, design)?;
+        let unmoved = vec![in alloc; false; design.nets().len()]?;
         let marks = vec![in alloc; false; design.nets().len()]?;
         let groups = table_groups(alloc, design.tables())?;
         Ok(RunRoom {
             workers,
+            before,
             windows,
+            unmoved,
             marks,
             groups,
         })

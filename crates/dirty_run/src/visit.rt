@@ -5,11 +5,10 @@ ghost use Rattle.std.specs.Prelude.{◌≡◌, ℕ, ◌*◌, ◌%◌, ◌<◌, �
 ghost use Rattle.std.specs.List.{All, Contains};
 ghost use Rattle.std.specs.List.Sorted.{IsStrictlyIncreasing};
 ghost use Rattle.xt_model.specs.Quads.{IsPairInRange};
-ghost use Rattle.xt_meaning.specs.Words.{bound_in, number_for};
 ghost use Rattle.table_box.specs.Groups.{AreGroups};
 ghost use Rattle.net_eval.specs.ReadLists.{AreReadLists, ids};
 ghost use Rattle.chaos_core.specs.Boards.{nets_of};
-ghost use Rattle.chaos_core.specs.Tasks.{list_of, evaluated, bound_at};
+ghost use Rattle.chaos_core.specs.Tasks.{list_of, evaluated};
 ghost use Rattle.chaos_core.specs.Views.{IsLoaded};
 ghost use Rattle.dirty_words.specs.declared.view.Flight.{Flight};
 ghost use Rattle.dirty_words.specs.Boards.{IsOf};
@@ -21,7 +20,7 @@ ghost use Rattle.dirty_run.specs.Visits.{HasVisited, IsPublishing, IsReady, IsRu
 
 use crate::notes::{Before, Notes};
 use crate::worker::{Run, Worker};
-use chaos_core::{evaluate_grouped, evaluate_noted, moves_down, number_in};
+use chaos_core::{evaluate_grouped, evaluate_noted, moves_down, numbers_in};
 use dirty_words::{DirtyBoard, DirtyPass};
 use net_eval::ReadLists;
 use xt_model::{Direction, NetId, Pair};
@@ -169,23 +168,6 @@ fn publish(
         return value < board.lower(pass, word, value);
     }
     board.raise(pass, word, value) < value
-}
-
-/// The numbers of the eight words of a net with these windows.
-fn numbers_in(pair: &Pair) -> [u64; 8]
-    requires range { IsPairInRange pair.now }
-    ensures { (place : ℕ) → place < 8 → slice_index result place ≡ number_for (bound_at pair.now place) }
-{
-    [
-        number_in(pair, 0),
-        number_in(pair, 1),
-        number_in(pair, 2),
-        number_in(pair, 3),
-        number_in(pair, 4),
-        number_in(pair, 5),
-        number_in(pair, 6),
-        number_in(pair, 7),
-    ]
 }
 
 /// One of several numbers.

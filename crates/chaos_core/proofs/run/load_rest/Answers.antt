@@ -33,7 +33,7 @@ loop-place-init g c =
     let numbers = loaded_of (task_of c.args.worker.now) in
     let fits = subst (Fits k lists) c.requires.loading c.requires.fits.task in
     let same : numbers ≡ c.worker.inside.loaded.items = ap loaded_of (loads_there c.worker.inside.stage c.worker.inside.loaded.items net _ (ap task_of c.worker.view_is) c.requires.loading) in
-    record {
+    rw c.replace-loaded.ensures.value (record {
       setting = refl;
       seen = fits.seen;
       loaded = subst (AreLoaded k.setting k.seen (list_of lists net)) same fits.loaded;
@@ -42,8 +42,8 @@ loop-place-init g c =
           (0, subst P same (none_more c.args.design.now lists order k net numbers fits.more));
       room = ap room_of c.worker.view_is;
       places = ap places_of c.worker.view_is;
-      at = let whole = c.requires.whole in let e = ap length same in let f = ap length c.as_slice.ensures.value in omega (arith, whole, e, f);
-    }
+      at = let whole = c.requires.whole in let e = ap length same in let f = rw c.replace-loaded.ensures.value at (ap length c.as_slice.ensures.value) in omega (arith, whole, e, f);
+    })
 
 pub loop-side-init : goal.loop-side-init
 loop-side-init g c =
@@ -57,12 +57,12 @@ load-number-requires g c =
     let lists = c.args.lists.now in
     let net = c.args.net.0 in
     let numbers = loaded_of (task_of c.args.worker.now) in
-    let items = c.loop-side.worker-inside.loaded.items in
+    let items = c.loop-side.loaded.items in
     let d = c.args.design.now in
     let inv = c.loop-side.invariant in
     let outer = c.loop-place.invariant in
     let fits = subst (Fits k lists) c.requires.loading c.requires.fits.task in
-    let more = more_of lists net c.of-reads.result.now items c.loop-place.worker-inside.loaded.items c.loop-place.place c.loop-side.side c.of-reads.ensures outer.at inv.at c.loop-side-test.true c.loop-place-test.true in
+    let more = more_of lists net c.of-reads.result.now items c.loop-place.loaded.items c.loop-place.place c.loop-side.side c.of-reads.ensures outer.at inv.at c.loop-side-test.true c.loop-place-test.true in
     let at : 8 * c.loop-place.place + c.loop-side.side ≡ length items = let a = outer.at in let b = inv.at in omega (arith, a, b) in
     let is = side_of lists net c.of-reads.result.now items (record { 0 = 0 }) c.loop-place.place c.loop-side.side c.of-reads.ensures at c.loop-side-test.true more in
     record { word = inside_now k l lists net numbers items d c.requires.design c.requires.lists fits inv.setting inv.seen inv.loaded _ is more }
@@ -75,13 +75,13 @@ loop-side-preserved g c =
     let lists = c.args.lists.now in
     let net = c.args.net.0 in
     let numbers = loaded_of (task_of c.args.worker.now) in
-    let items = c.loop-side.worker-inside.loaded.items in
+    let items = c.loop-side.loaded.items in
     let later = c.push_reserved.new.self.items in
     let d = c.args.design.now in
     let inv = c.loop-side.invariant in
     let outer = c.loop-place.invariant in
     let fits = subst (Fits k lists) c.requires.loading c.requires.fits.task in
-    let more = more_of lists net c.of-reads.result.now items c.loop-place.worker-inside.loaded.items c.loop-place.place c.loop-side.side c.of-reads.ensures outer.at inv.at c.loop-side-test.true c.loop-place-test.true in
+    let more = more_of lists net c.of-reads.result.now items c.loop-place.loaded.items c.loop-place.place c.loop-side.side c.of-reads.ensures outer.at inv.at c.loop-side-test.true c.loop-place-test.true in
     let at : 8 * c.loop-place.place + c.loop-side.side ≡ length items = let a = outer.at in let b = inv.at in omega (arith, a, b) in
     let is = side_of lists net c.of-reads.result.now items (record { 0 = 0 }) c.loop-place.place c.loop-side.side c.of-reads.ensures at c.loop-side-test.true more in
     record {
@@ -122,7 +122,7 @@ evaluate_by-pair-requires-clause-loaded g c =
     let inv = c.loop-place.invariant in
     let fits = subst (Fits k lists) c.requires.loading c.requires.fits.task in
     let long = ap length c.as_slice-2.ensures.value in
-    whole_now k l lists net (loaded_of (task_of c.args.worker.now)) c.loop-place.worker-inside.loaded.items c.args.design.now c.requires.design c.requires.lists fits inv.setting inv.seen inv.loaded (reads_of lists net) c.as_slice-2.result.now
+    whole_now k l lists net (loaded_of (task_of c.args.worker.now)) c.loop-place.loaded.items c.args.design.now c.requires.design c.requires.lists fits inv.setting inv.seen inv.loaded (reads_of lists net) c.as_slice-2.result.now
     refl c.as_slice-2.ensures.value (let reads = ap length c.of-reads.ensures in let at = inv.at in let done = c.loop-place-test.false in omega (arith, long, reads, at, done))
 
 pub returns-clause-fits : goal.returns-clause-fits
@@ -138,9 +138,9 @@ returns-clause-fits g c =
     let kept = inv.places in
     record {
       room = room_stays lists _ _ inv.room c.requires.fits.room;
-      places = places_stay (length lists) c.loop-place.worker-inside.places.len c.loop-place.worker-inside.places.items c.evaluate_by-pair.new.places c.loop-place.worker-inside.places.ok.0
+      places = places_stay (length lists) c.worker.inside.places.len c.worker.inside.places.items c.evaluate_by-pair.new.places c.worker.inside.places.ok.0
           (c.evaluate_by-pair.ensures.count ∙ ap length c.as_mut_slice.ensures.value) (omega (arith, few, kept));
-      task = publishes_now k l lists net (loaded_of (task_of c.args.worker.now)) c.loop-place.worker-inside.loaded.items c.args.design.now c.requires.design c.requires.lists fits inv.setting inv.seen inv.loaded (reads_of lists net)
+      task = publishes_now k l lists net (loaded_of (task_of c.args.worker.now)) c.loop-place.loaded.items c.args.design.now c.requires.design c.requires.lists fits inv.setting inv.seen inv.loaded (reads_of lists net)
           c.as_slice-2.result.now c.evaluate_by-pair.result refl c.as_slice-2.ensures.value (let reads = ap length c.of-reads.ensures in let at = inv.at in let done = c.loop-place-test.false in omega (arith, long, reads, at, done))
           c.evaluate_by-pair.ensures.value c.evaluate_by-pair.ensures.range;
     }
@@ -152,7 +152,7 @@ returns-clause-steps g c = λ order.
     let lists = c.args.lists.now in
     let net = c.args.net.0 in
     let numbers = loaded_of (task_of c.args.worker.now) in
-    let items = c.loop-place.worker-inside.loaded.items in
+    let items = c.loop-place.loaded.items in
     let d = c.args.design.now in
     let inv = c.loop-place.invariant in
     let fits = subst (Fits k lists) c.requires.loading c.requires.fits.task in

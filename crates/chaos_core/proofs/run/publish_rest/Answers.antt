@@ -12,7 +12,7 @@ pub publish-requires-clause-way : goal.publish-requires-clause-way
 publish-requires-clause-way g c = ap (λ (a : Setting). a.way) c.loop-place.invariant.setting ∙ c.requires.way
 
 pub publish-requires-clause-value : goal.publish-requires-clause-value
-publish-requires-clause-value g c = can_publish _ c.args.net c.args.pair c.loop-place.place _ (c.loop-place.invariant.fits c.loop-place-test.true) c.number_in.ensures
+publish-requires-clause-value g c = can_publish _ c.args.net c.args.pair c.loop-place.place _ (c.loop-place.invariant.fits c.loop-place-test.true) (c.numbers_in-numbers.ensures c.loop-place.place c.loop-place-test.true)
 
 pub loop-place-init : goal.loop-place-init
 loop-place-init g c = record {
@@ -40,7 +40,7 @@ loop-place-preserved g c =
           let low = inv.low in
           let e : suc (place - from) ≡ place + 1 - from = omega (arith, low) in
           subst (λ n. AreSteps d lists order n k (publishing c.args.net c.args.pair from) m (published_to c.args.net c.args.pair (place + 1))) e
-          (publish_more d lists order (place - from) k l m (publishing c.args.net c.args.pair from) c.args.net c.args.pair place _ fits c.number_in.ensures h (inv.steps d lists order));
+          (publish_more d lists order (place - from) k l m (publishing c.args.net c.args.pair from) c.args.net c.args.pair place _ fits (c.numbers_in-numbers.ensures c.loop-place.place c.loop-place-test.true) h (inv.steps d lists order));
     }
 
 pub returns-clause-steps : goal.returns-clause-steps

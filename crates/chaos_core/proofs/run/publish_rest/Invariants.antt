@@ -10,7 +10,7 @@ abbrev pub invariant-loop-place : goal.invariant-loop-place
 invariant-loop-place g l = record {
   low : l.from ≤ l.place;
   setting : (g.B.Board.knows l.board).setting ≡ (g.B.Board.knows l.initial.board).setting;
-  fits : l.place < 8 → FitsPublishing (g.B.Board.knows l.board) l.net l.pair l.place;
+  fits : l.place < 8 → FitsPublishing (g.B.Board.knows l.board) l.net l.fn.pair l.place;
   steps : (d : Parts) (lists : List (List NetId)) (order : List ℕ)
-      → AreSteps d lists order (l.place - l.from) (g.B.Board.knows l.initial.board) (publishing l.net l.pair l.from) (g.B.Board.knows l.board) (published_to l.net l.pair l.place);
+      → AreSteps d lists order (l.place - l.from) (g.B.Board.knows l.initial.board) (publishing l.net l.fn.pair l.from) (g.B.Board.knows l.board) (published_to l.net l.fn.pair l.place);
 }

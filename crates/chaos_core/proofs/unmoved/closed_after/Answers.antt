@@ -1,12 +1,12 @@
-use Rattle.std.proofs.Common.{arith, ◌∙◌}
+use Rattle.std.proofs.Common.{arith}
 use Rattle.net_eval.proofs.Steady.{steady_all}
 use Rattle.chaos_core.proofs.unmoved.closed_after.Goals as goal
 
 pub closed_where_grouped-requires-clause-look : goal.closed_where_grouped-requires-clause-look
 closed_where_grouped-requires-clause-look c = record {
   windows = c.requires.after;
-  count = c.mark_unmoved.ensures.count ∙ c.requires.before;
-  steady = λ net there marked. c.requires.kept net there (λ m has e. c.mark_unmoved.ensures.same m e (marked.reads m has));
+  count = c.mark_decided.ensures.decided.count;
+  steady = λ net there marked. c.requires.kept net (c.mark_decided.ensures.decided.alike net marked);
 }
 
 pub returns-clause-closed : goal.returns-clause-closed

@@ -25,23 +25,22 @@ loop-net-preserved c =
     let inside : net < length v = let k = c.loop-net-test.true in let e = ap length c.pairs-net-end.ensures.value in let m = inv.count in omega (arith, k, e, m) in
     let here : (e : Edge) → quad_at p e ≡ quads_of (bounds_in first.seen) net e =
     λ e. subst (λ (x : View). quad_at p e ≡ quads_of (bounds_in x.seen) net e) inv.view (c.load_pair-pair.ensures.pair e) in
-    let before = c.args.windows.now in
+    let before = c.args.before.now in
     let after = set v net p in
-    let inside_marks : net < length c.loop-net.marks = let m = inv.marks in let n = inv.count in omega (arith, inside, m, n) in
+    let inside_unmoved : net < length c.loop-net.unmoved = let m = inv.unmoved in let n = inv.count in omega (arith, inside, m, n) in
     let P : ℕ → Type 0 = λ n. (e : Edge) → assigned before n e ≡ assigned after n e in
-    let kept : (n : ℕ) → n < net → IsTrue (get_or c.loop-net.marks n false) → P n =
+    let kept : (n : ℕ) → n < net → IsTrue (get_or c.loop-net.unmoved n false) → P n =
     λ n h t e. inv.same n h t e ∙ sym (assigned-set_other v net n p e (λ is. absurd (omega (arith, h, is)))) in
     let marked : IsTrue c.same.result → P net = λ t e.
-    sym (inv.rest net e (omega arith)) ∙ (ap (λ (o : Option Pair). quad_of_pair o e) (c.pair.ensures.value ∙ ap Some (c.same.ensures.0 t)) ∙ sym (assigned-set_same v net p e inside)) in
+    ap (λ (o : Option Pair). quad_of_pair o e) (c.pair.ensures.value ∙ ap Some (c.same.ensures.0 t)) ∙ sym (assigned-set_same v net p e inside) in
     record {
       own = c.load_pair-pair.ensures.own;
       view = c.load_pair-pair.ensures.view ∙ inv.view;
       count = ap length c.set.ensures ∙ (length-set v net p ∙ inv.count);
-      marks = length-set c.loop-net.marks net c.same.result ∙ inv.marks;
-      rest = λ n e h. ap (λ (w : List Pair). assigned w n e) c.set.ensures ∙ (assigned-set_other v net n p e (λ is. absurd (omega (arith, h, is))) ∙ inv.rest n e (omega (arith, h)));
+      unmoved = length-set c.loop-net.unmoved net c.same.result ∙ inv.unmoved;
       same = λ n h t e.
           let under : n < suc net = omega (arith, h) in
-          marks_set P c.loop-net.marks net c.same.result inside_marks kept marked n under t e ∙ sym (ap (λ (w : List Pair). assigned w n e) c.set.ensures);
+          marks_set P c.loop-net.unmoved net c.same.result inside_unmoved kept marked n under t e ∙ sym (ap (λ (w : List Pair). assigned w n e) c.set.ensures);
       range = subst (All IsPairInRange) (sym c.set.ensures) (All-set IsPairInRange v net p c.load_pair-pair.ensures.range inv.range);
       there = λ n e h. subst (λ w. assigned w n e ≡ quads_of (bounds_in first.seen) n e) (sym c.set.ensures) (windows_more (bounds_in first.seen) v net p inside inv.there here n e h);
       rested = λ some. subst IsRested inv.view c.load_pair-pair.ensures.rested;
@@ -58,24 +57,23 @@ returns-clause-numbers c =
     let nets = c.requires.count in
     numbers_found c.loop-net.windows first.seen (omega (arith, many, m, nets)) inv.range (λ n f h. inv.there n f (omega (arith, end, e, m, h)))
 
-pub returns-clause-marks : goal.returns-clause-marks
-returns-clause-marks c =
+pub returns-clause-unmoved : goal.returns-clause-unmoved
+returns-clause-unmoved c =
     let inv = c.loop-net.invariant in
-    let P : ℕ → Type 0 = λ n. (e : Edge) → assigned c.args.windows.now n e ≡ assigned c.loop-net.windows n e in
+    let P : ℕ → Type 0 = λ n. (e : Edge) → assigned c.args.before.now n e ≡ assigned c.loop-net.windows n e in
     let end = c.loop-net-test.false in
     let k = ap length c.pairs-net-end.ensures.value in
-    let m = inv.marks in
-    record { count = inv.marks; same = λ n e t. marks_all P c.loop-net.marks c.loop-net.net (omega (arith, end, k, m)) inv.same n t e }
+    let m = inv.unmoved in
+    record { count = let b = c.requires.before in let u = inv.unmoved in omega (arith, b, u); same = λ n e t. marks_all P c.loop-net.unmoved c.loop-net.net (omega (arith, end, k, m)) inv.same n t e }
 
 pub loop-net-init : goal.loop-net-init
 loop-net-init c = record {
   own = c.requires.own;
   view = refl;
   count = refl;
-  marks = c.requires.marks;
+  unmoved = c.requires.unmoved;
   range = c.pairs-net-end.ensures.in_range;
   there = λ n e h. absurd (omega (arith, h));
-  rest = λ n e h. refl;
   same = λ n h t e. absurd (omega (arith, h));
   rested = λ h. absurd (omega (arith, h));
 }

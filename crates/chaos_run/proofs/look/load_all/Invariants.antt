@@ -1,4 +1,4 @@
-use Rattle.std.proofs.Common.{◌≡◌, ℕ, ◌<◌, ◌≤◌, length, get_or, false}
+use Rattle.std.proofs.Common.{◌≡◌, ℕ, ◌<◌, length, get_or, false}
 use Rattle.std.specs.Prelude.{IsTrue}
 use Rattle.std.specs.List.{All}
 use Rattle.xt_model.specs.declared.edge.Edge.{Edge}
@@ -14,10 +14,9 @@ invariant-loop-net l = record {
   own : IsOf l.board l.first;
   view : l.first.view ≡ l.fn.first.view;
   count : length l.windows ≡ length l.fn.windows;
-  marks : length l.marks ≡ length l.fn.windows;
+  unmoved : length l.unmoved ≡ length l.fn.windows;
   range : All IsPairInRange l.windows;
   there : (n : ℕ) (e : Edge) → n < l.net → assigned l.windows n e ≡ quads_of (bounds_in l.fn.first.view.seen) n e;
-  rest : (n : ℕ) (e : Edge) → l.net ≤ n → assigned l.windows n e ≡ assigned l.fn.windows n e;
-  same : (n : ℕ) → n < l.net → IsTrue (get_or l.marks n false) → (e : Edge) → assigned l.fn.windows n e ≡ assigned l.windows n e;
+  same : (n : ℕ) → n < l.net → IsTrue (get_or l.unmoved n false) → (e : Edge) → assigned l.before n e ≡ assigned l.windows n e;
   rested : 0 < l.net → IsRested l.fn.first.view;
 }

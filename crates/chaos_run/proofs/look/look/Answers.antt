@@ -26,17 +26,8 @@ closed_from_ends-requires-clause-look g c = λ _ _.
     let count = c.requires.count in
     record {
       windows = record { count = c.load_all.ensures.count ∙ count; in_range = c.load_all.ensures.range };
-      count = let m = c.unmark.ensures.count in let n = c.load_all.ensures.marks.count in omega (arith, m, n, count);
-      steady = λ net there marked. absurd (c.unmark.ensures.none net marked.own);
-    }
-
-pub returns-clause-look : goal.returns-clause-look
-returns-clause-look g c =
-    let count = c.requires.count in
-    record {
-      windows = record { count = c.load_all.ensures.count ∙ count; in_range = c.load_all.ensures.range };
-      count = let m = c.unmark.ensures.count in let n = c.load_all.ensures.marks.count in omega (arith, m, n, count);
-      steady = λ net there marked. absurd (c.unmark.ensures.none net marked.own);
+      count = c.unmark.ensures.count ∙ c.requires.marks;
+      steady = λ net there marked. absurd (c.unmark.ensures.none net marked);
     }
 
 pub returns-clause-kept : goal.returns-clause-kept
@@ -49,6 +40,9 @@ returns-clause-closed g c =
     let v = c.load_all.new.windows in
     let range = c.load_all.ensures.range in
     let is = c.load_all.ensures.numbers in (
-      λ t. closed_from d words v range is (steady_all d v (c.load_all.ensures.count ∙ c.requires.count) (c.closed_from_ends.ensures.0 t)),
-      λ k. c.closed_from_ends.ensures.1 (λ n high. record { fixed = λ e. steady_from d words v range is k n e }),
+      λ t. closed_from d words v range is (steady_all d v (c.load_all.ensures.count ∙ c.requires.count) (c.closed_from_ends.ensures.closed.0 t)),
+      λ k. c.closed_from_ends.ensures.closed.1 (λ n high. record { fixed = λ e. steady_from d words v range is k n e }),
     )
+
+pub returns-clause-unmoved : goal.returns-clause-unmoved
+returns-clause-unmoved g c = let u = c.load_all.ensures.unmoved.count in let b = c.requires.before in let n = c.requires.unmoved in omega (arith, u, b, n)

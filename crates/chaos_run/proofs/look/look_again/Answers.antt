@@ -1,13 +1,12 @@
 use Rattle.std.proofs.Common.{◌≡◌, ◌<◌, refl, sym, ap, subst, ◌∙◌, List, length, arith}
 use Rattle.std.specs.Prelude.{Bool}
-use Rattle.xt_model.specs.declared.net.NetId.{NetId}
 use Rattle.xt_model.specs.declared.quad.Pair.{Pair}
 use Rattle.xt_model.specs.Parts.{Parts}
+use Rattle.xt_model.specs.Sound.{IsSound}
 use Rattle.xt_meaning.specs.Barrier.{IsFittingStart}
 use Rattle.xt_meaning.specs.Words.{numbers_of}
-use Rattle.net_eval.specs.ReadLists.{AreReadLists}
 use Rattle.net_eval.proofs.Steady.{steady_all}
-use Rattle.chaos_core.specs.Looks.{AreUnmoved, IsLook}
+use Rattle.chaos_core.specs.Looks.{AreDecided, IsLook}
 use Rattle.chaos_core.specs.Rounds.{HasCarried}
 use Rattle.chaos_core.proofs.LookLaws.{steady_kept}
 use Rattle.window_words.specs.Steps.{IsRested}
@@ -32,15 +31,13 @@ returns-clause-fits g c =
     let base = kept_fits v.setting v.seen c.load_all.new.windows c.load_all.ensures.kept c.load_all.ensures.numbers c.load_all.ensures.range in
     fits_under a v.setting c.args.design.now a.way c.load_all.new.windows c.requires.own.setting c.requires.design refl base
 
--- a net whose reads the round did not move is steady after it
-steady_after : (board : Setting) (v0 : View) (d : Parts) (lists : List (List NetId)) (before after : List Pair) (marks : List Bool) → v0.setting ≡ board → board.design ≡ d → AreReadLists d lists
-    → IsFittingStart board.way d before → IsFittingStart board.way d after → numbers_of after ≡ v0.seen → (IsRested v0 → HasCarried board (numbers_of before) v0.seen) → (0 < length d.nets → IsRested v0)
-    → AreUnmoved before after marks → IsLook d lists after marks
-steady_after board v0 d lists before after marks same own are fits later numbers carried rested unmoved = record {
+-- a net of which the round did not move what decides it is steady after it
+steady_after : (board : Setting) (v0 : View) (d : Parts) (before after : List Pair) (marks : List Bool) → v0.setting ≡ board → board.design ≡ d → IsFittingStart board.way d before → IsFittingStart board.way d after
+    → numbers_of after ≡ v0.seen → (IsRested v0 → HasCarried board (numbers_of before) v0.seen) → (0 < length d.nets → IsRested v0) → AreDecided d before after marks → IsLook d after marks
+steady_after board v0 d before after marks same own fits later numbers carried rested decided = record {
   windows = later.windows;
-  count = unmoved.count ∙ fits.windows.count;
-  steady = λ net there marked.
-      steady_kept board d board.way lists before after (numbers_of before) v0.seen own refl are fits later refl numbers (carried (rested (omega (arith, there)))) net there (λ m has e. unmoved.same m e (marked.reads m has));
+  count = decided.count;
+  steady = λ net there marked. steady_kept board d board.way before after (numbers_of before) v0.seen own refl fits later refl numbers (carried (rested (omega (arith, there)))) net (decided.alike net marked);
 }
 
 pub closed_from_ends-requires-clause-look : goal.closed_from_ends-requires-clause-look
@@ -51,19 +48,9 @@ closed_from_ends-requires-clause-look g c = λ _ _.
     let base = kept_fits v.setting v.seen c.load_all.new.windows c.load_all.ensures.kept c.load_all.ensures.numbers c.load_all.ensures.range in
     let later = fits_under a v.setting d a.way c.load_all.new.windows c.requires.own.setting c.requires.design refl base in
     let rested : 0 < length d.nets → IsRested v = λ some. c.load_all.ensures.rested (subst (λ (x : Parts). 0 < length x.nets) (sym (ap (λ (x : Setting). x.design) c.requires.own.setting ∙ c.requires.design)) some) in
-    steady_after a v d c.args.lists.now c.args.windows.now c.load_all.new.windows c.load_all.new.marks c.requires.own.setting c.requires.design c.requires.lists c.requires.before later c.load_all.ensures.numbers c.requires.carried
-    rested c.load_all.ensures.marks
-
-pub returns-clause-look : goal.returns-clause-look
-returns-clause-look g c =
-    let a = c.args.board.now.setting in
-    let v : View = c.args.first.now.view in
-    let d = c.args.design.now in
-    let base = kept_fits v.setting v.seen c.load_all.new.windows c.load_all.ensures.kept c.load_all.ensures.numbers c.load_all.ensures.range in
-    let later = fits_under a v.setting d a.way c.load_all.new.windows c.requires.own.setting c.requires.design refl base in
-    let rested : 0 < length d.nets → IsRested v = λ some. c.load_all.ensures.rested (subst (λ (x : Parts). 0 < length x.nets) (sym (ap (λ (x : Setting). x.design) c.requires.own.setting ∙ c.requires.design)) some) in
-    steady_after a v d c.args.lists.now c.args.windows.now c.load_all.new.windows c.load_all.new.marks c.requires.own.setting c.requires.design c.requires.lists c.requires.before later c.load_all.ensures.numbers c.requires.carried
-    rested c.load_all.ensures.marks
+    let P : List Pair → Type 0 = λ before. AreDecided d before c.load_all.new.windows c.mark_decided.new.marks in
+    steady_after a v d c.args.windows.now c.load_all.new.windows c.mark_decided.new.marks c.requires.own.setting c.requires.design c.requires.fits later c.load_all.ensures.numbers c.requires.carried rested
+    (subst P c.swap.ensures.x_after c.mark_decided.ensures.decided)
 
 pub returns-clause-kept : goal.returns-clause-kept
 returns-clause-kept g c = subst (λ (a : Setting). AreKept a c.args.first.now.view.seen) c.requires.own.setting c.load_all.ensures.kept
@@ -75,6 +62,46 @@ returns-clause-closed g c =
     let v = c.load_all.new.windows in
     let range = c.load_all.ensures.range in
     let is = c.load_all.ensures.numbers in (
-      λ t. closed_from d words v range is (steady_all d v (c.load_all.ensures.count ∙ c.requires.before.windows.count) (c.closed_from_ends.ensures.0 t)),
-      λ k. c.closed_from_ends.ensures.1 (λ n high. record { fixed = λ e. steady_from d words v range is k n e }),
+      λ t. closed_from d words v range is (steady_all d v (c.load_all.ensures.count ∙ (ap length c.swap.ensures.y_after ∙ c.requires.before)) (c.closed_from_ends.ensures.closed.0 t)),
+      λ k. c.closed_from_ends.ensures.closed.1 (λ n high. record { fixed = λ e. steady_from d words v range is k n e }),
     )
+
+pub load_all-requires-clause-count : goal.load_all-requires-clause-count
+load_all-requires-clause-count g c =
+    let a = ap length c.swap.ensures.y_after in
+    let b = c.requires.before in
+    let n = ap (λ (x : Setting). length x.design.nets) c.requires.own.setting in
+    let d = ap (λ (x : Parts). length x.nets) c.requires.design in
+    omega (arith, a, b, n, d)
+
+pub load_all-requires-clause-before : goal.load_all-requires-clause-before
+load_all-requires-clause-before g c =
+    let a = ap length c.swap.ensures.x_after in
+    let b = ap length c.swap.ensures.y_after in
+    let n = c.requires.before in
+    let m = c.requires.fits.windows.count in
+    omega (arith, a, b, n, m)
+
+pub load_all-requires-clause-unmoved : goal.load_all-requires-clause-unmoved
+load_all-requires-clause-unmoved g c = let a = ap length c.swap.ensures.y_after in let b = c.requires.before in let n = c.requires.unmoved in omega (arith, a, b, n)
+
+pub mark_decided-requires-clause-sound : goal.mark_decided-requires-clause-sound
+mark_decided-requires-clause-sound g c = subst IsSound (ap (λ (x : Setting). x.design) c.requires.own.setting ∙ c.requires.design) c.load_all.ensures.kept.seen.sound
+
+pub mark_decided-requires-clause-before : goal.mark_decided-requires-clause-before
+mark_decided-requires-clause-before g c = ap length c.swap.ensures.x_after ∙ c.requires.fits.windows.count
+
+pub mark_decided-requires-clause-after : goal.mark_decided-requires-clause-after
+mark_decided-requires-clause-after g c = c.load_all.ensures.count ∙ (ap length c.swap.ensures.y_after ∙ c.requires.before)
+
+pub returns-clause-before : goal.returns-clause-before
+returns-clause-before g c = let a = ap length c.swap.ensures.x_after in let m = c.requires.fits.windows.count in let n = c.requires.before in omega (arith, a, m, n)
+
+pub returns-clause-unmoved : goal.returns-clause-unmoved
+returns-clause-unmoved g c =
+    let a = ap length c.swap.ensures.x_after in
+    let m = c.requires.fits.windows.count in
+    let u = c.load_all.ensures.unmoved.count in
+    let k = c.mark_decided.ensures.unmoved in
+    let n = c.requires.unmoved in
+    omega (arith, a, m, u, k, n)

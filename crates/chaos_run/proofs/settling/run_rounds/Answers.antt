@@ -21,8 +21,8 @@ prove-unreachable-requires g c =
     (λ k. both_ways c.rounds.done c.rounds-test.true (inv.closed.1 k)) c.bound.ensures.value in
     omega (arith, few, c.if-prove.true)
 
-pub look_again-done-requires-clause-before : goal.look_again-done-requires-clause-before
-look_again-done-requires-clause-before g c = λ _ _. subst (λ (x : Direction). IsFittingStart x c.args.run.now.design.now c.rounds.windows) (sym c.requires.run.way) c.rounds.invariant.fits
+pub look_again-done-requires-clause-fits : goal.look_again-done-requires-clause-fits
+look_again-done-requires-clause-fits g c = λ _ _. subst (λ (x : Direction). IsFittingStart x c.args.run.now.design.now c.rounds.windows) (sym c.requires.run.way) c.rounds.invariant.fits
 
 pub look_again-done-requires-clause-carried : goal.look_again-done-requires-clause-carried
 look_again-done-requires-clause-carried g c = λ _ _ rest.
@@ -79,6 +79,8 @@ rounds-preserved g c =
       fits = subst (λ (x : Direction). IsFittingStart x d c.look_again-done.new.windows) run.way look.fits;
       numbers = look.numbers ∙ sym same;
       look = look.look;
+      before = look.before ∙ inv.before;
+      unmoved = look.unmoved ∙ inv.unmoved;
       kept = subst (AreKept a) (sym same) look.kept;
       closed = subst (λ (ws : List ℕ). IsTrue c.look_again-done.result ↔ AreClosed d ws) (sym same) look.closed;
       steps = subst (λ (ws : List ℕ). AreTurns a (c.rounds.rounds + 1) begin.seen ws) (sym same) (turn_more a d c.rounds.rounds begin.seen words later run.design inv.steps open_words carry);

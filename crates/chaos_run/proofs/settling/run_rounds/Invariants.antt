@@ -18,7 +18,9 @@ invariant-rounds g l = record {
   count : length l.workers.idle.items ≡ length l.fn.workers.idle.items;
   fits : IsFittingStart l.run.direction l.run.design.now l.windows;
   numbers : numbers_of l.windows ≡ l.first.view.seen;
-  look : IsLook l.run.design.now l.run.lists.now l.windows l.marks;
+  look : IsLook l.run.design.now l.windows l.marks;
+  before : length l.before ≡ length l.run.design.now.nets;
+  unmoved : length l.unmoved ≡ length l.run.design.now.nets;
   kept : AreKept l.run.board.now.setting l.first.view.seen;
   closed : IsTrue l.done ↔ AreClosed l.run.design.now l.first.view.seen;
   steps : AreTurns l.run.board.now.setting l.rounds l.fn.first.view.seen l.first.view.seen;

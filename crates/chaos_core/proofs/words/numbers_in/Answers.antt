@@ -2,7 +2,7 @@ use Rattle.std.proofs.Common.{◌≡◌, ℕ, zero, suc, ◌<◌, [], ◌∷◌,
 use Rattle.std.specs.Prelude.{slice_index}
 use Rattle.xt_meaning.specs.Words.{number_for}
 use Rattle.chaos_core.specs.Tasks.{bound_at}
-use Rattle.dirty_run.proofs.visit.numbers_in.Goals as goal
+use Rattle.chaos_core.proofs.words.numbers_in.Goals as goal
 
 eight : (f : ℕ → ℕ) (a b c d e g h k : ℕ) → a ≡ f 0 → b ≡ f 1 → c ≡ f 2 → d ≡ f 3 → e ≡ f 4 → g ≡ f 5 → h ≡ f 6 → k ≡ f 7 → (i : ℕ) → i < 8 → slice_index (a ∷ b ∷ c ∷ d ∷ e ∷ g ∷ h ∷ k ∷ []) i ≡ f i
 eight f a b c d e g h k p0 p1 p2 p3 p4 p5 p6 p7 zero lt = p0

@@ -2,7 +2,7 @@ use Rattle.std.proofs.Common.{◌≡◌, ℕ, ◌+◌, ◌*◌, ap, subst, arith
 use Rattle.std.specs.Prelude.{slice_index}
 use Rattle.net_eval.specs.ReadLists.{ids}
 use Rattle.chaos_core.proofs.Sparing.{still_windows}
-use Rattle.chaos_core.proofs.noted.TwoLoads.is_still.Goals as goal
+use Rattle.chaos_core.proofs.noted.TwoLoadsTwoTimes.is_still.Goals as goal
 
 pub returns : goal.returns
 returns c = λ t.
