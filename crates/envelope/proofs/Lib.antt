@@ -1,4 +1,5 @@
 mod Firsts
+mod Wider
 mod Agreement
 pub mod Turns
 pub mod Labels

@@ -1,0 +1,90 @@
+-- A window that lies within another one keeps the limits that this one keeps.
+use Rattle.std.proofs.Common.{◌≡◌, ℕ, zero, suc, ◌<◌, inl, inr, Bool, true, refl, sym, subst, ◌∙◌, [], ◌∷◌, length, map, ℤ, pos, neg_ℤ, ◌+ℤ◌, ◌≤ℤ◌, arith}
+use Rattle.std.specs.Prelude.{int_le, Option, Some, None, Ok, cond}
+use Rattle.std.proofs.lemmas.Bool.{cases_Bool}
+use Rattle.std.proofs.lemmas.Int.{ints, clamps}
+use Rattle.std.proofs.lemmas.List.Elements.{All-nil, All-cons}
+use Rattle.xt_model.specs.declared.quad.Quad.{Quad}
+use Rattle.xt_model.specs.declared.quad.Pair.{Pair}
+use Rattle.xt_model.specs.declared.net.Net.{Net}
+use Rattle.xt_model.specs.Quads.{is_live, IsLive, IsWithin, IsInRange, IsPairInRange, join_of}
+use Rattle.xt_model.specs.Limits.{most_time, most_slew}
+use Rattle.xt_model.specs.Miller.{MillerNumbers}
+use Rattle.xt_model.specs.Parts.{Parts}
+use Rattle.xt_model.specs.Sound.{IsSoundNet, IsTime}
+use Rattle.xt_meaning.specs.Wires.{slew_growth}
+use Rattle.xt_meaning.specs.Envelope.{Test, TimeAt, SlewAt, keeps, greatest_wire, sink_tests, all_sink_tests, quad_tests, first_over}
+use Rattle.xt_meaning.proofs.Order.{true_both, test_from_le, ordered_from_live, live_mono, join_left}
+use Rattle.xt_meaning.proofs.Room.{wire_delay_natural, IsAcceptedQuad, accepted_quad}
+use Rattle.envelope.specs.Firsts.{pair_tests}
+use Rattle.envelope.proofs.Firsts.{all_passed, none_over, over_on, pair_tested}
+
+abbrev Kept : Test → Type 0
+Kept t = keeps t ≡ true
+
+time_keeps : (n : ℕ) (t : ℤ) → IsTime t → Kept (TimeAt n t)
+time_keeps n t h = true_both (int_le (neg_ℤ most_time) t) (int_le t most_time) (test_from_le (neg_ℤ most_time) t h.least) (test_from_le t most_time h.most)
+
+slew_keeps : (n : ℕ) (s : ℤ) → s ≤ℤ most_slew → Kept (SlewAt n s)
+slew_keeps n s h = test_from_le s most_slew h
+
+-- what the sinks below a number keep, from the time and the slew at each
+sinks_keep : (m : MillerNumbers) (n : ℕ) (net : Net) (q : Quad) (sinks : ℕ)
+    → ((sink : ℕ) → sink < sinks → IsTime (q.thi +ℤ greatest_wire m net sink)) → ((sink : ℕ) → sink < sinks → (q.shi +ℤ slew_growth (greatest_wire m net sink)) ≤ℤ most_slew)
+    → None ≡ first_over (all_sink_tests m n net q sinks)
+sinks_keep m n net q zero times slews = refl
+sinks_keep m n net q (suc sinks) times slews =
+    let g = greatest_wire m net sinks in
+    let below = sinks_keep m n net q sinks (λ sink p. times sink (omega (arith, p))) (λ sink p. slews sink (omega (arith, p))) in
+    let time = time_keeps n (q.thi +ℤ g) (times sinks (omega arith)) in
+    let slew = slew_keeps n (q.shi +ℤ slew_growth g) (slews sinks (omega arith)) in
+    let here = none_over (sink_tests m n net q sinks)
+    (All-cons Kept (TimeAt n (q.thi +ℤ g)) (SlewAt n (q.shi +ℤ slew_growth g) ∷ []) time (All-cons Kept (SlewAt n (q.shi +ℤ slew_growth g)) [] slew (All-nil Kept))) in
+    here ∙ over_on (all_sink_tests m n net q sinks) (sink_tests m n net q sinks) below
+
+live_keeps : (d : Parts) (n own : ℕ) (net : Net) (q r : Quad) → IsSoundNet d own net → IsWithin q r → IsLive q → IsAcceptedQuad d.miller net r
+    → None ≡ first_over (TimeAt n q.tlo ∷ TimeAt n q.thi ∷ SlewAt n q.shi ∷ all_sink_tests d.miller n net q (length net.sinks))
+live_keeps d n own net q r s w live a =
+    let o = ordered_from_live q live in
+    let sinks = all_sink_tests d.miller n net q (length net.sinks) in
+    let natural : (sink : ℕ) → pos 0 ≤ℤ greatest_wire d.miller net sink = λ sink. wire_delay_natural d own net (map (λ k. d.miller.high) net.couplings) sink s in
+    let tlo = time_keeps n q.tlo (record { least = omega (arith, ints, w.tlo, a.tlo.least); most = omega (arith, ints, o.times, w.thi, a.thi.most) }) in
+    let thi = time_keeps n q.thi (record { least = omega (arith, ints, o.times, w.tlo, a.tlo.least); most = omega (arith, ints, w.thi, a.thi.most) }) in
+    let shi = slew_keeps n q.shi (omega (arith, ints, w.shi, a.shi)) in
+    let all = sinks_keep d.miller n net q (length net.sinks)
+    (λ sink p. record { least = omega (arith, ints, o.times, w.tlo, a.tlo.least, natural sink); most = omega (arith, ints, w.thi, a.pin_times sink p) })
+    (λ sink p. omega (arith, ints, w.shi, a.pin_slews sink p)) in
+    none_over (TimeAt n q.tlo ∷ TimeAt n q.thi ∷ SlewAt n q.shi ∷ sinks)
+    (All-cons Kept (TimeAt n q.tlo) (TimeAt n q.thi ∷ SlewAt n q.shi ∷ sinks) tlo
+    (All-cons Kept (TimeAt n q.thi) (SlewAt n q.shi ∷ sinks) thi
+    (All-cons Kept (SlewAt n q.shi) sinks shi (all_passed sinks all))))
+
+quad_keeps : (d : Parts) (n own : ℕ) (net : Net) (q r : Quad) → IsSoundNet d own net → IsWithin q r → None ≡ first_over (quad_tests d.miller n net r) → None ≡ first_over (quad_tests d.miller n net q)
+quad_keeps d n own net q r s w h =
+    let ts = TimeAt n q.tlo ∷ TimeAt n q.thi ∷ SlewAt n q.shi ∷ all_sink_tests d.miller n net q (length net.sinks) in
+    let P : Bool → Type 0 = λ b. None ≡ first_over (cond b ts []) in
+    elim (cases_Bool (is_live q)) [
+      | inl live ↦ subst P (sym live) (live_keeps d n own net q r s w live (accepted_quad d.miller n net r (live_mono q r w live) (all_passed (quad_tests d.miller n net r) h)))
+      | inr dead ↦ subst P (sym dead) refl
+    ]
+
+join_right : (p q : Quad) → IsWithin q (join_of p q)
+join_right p q = record { tlo = omega (arith, ints, clamps); thi = omega (arith, ints, clamps); slo = omega (arith, ints, clamps); shi = omega (arith, ints, clamps) }
+
+pub join_in_range : (p : Pair) → IsPairInRange p → IsInRange (join_of p.rise p.fall)
+join_in_range p h =
+    let a = h.rise in
+    let b = h.fall in
+    record {
+      tlo = record { low = omega (arith, ints, clamps, a.tlo.low, b.tlo.low); high = omega (arith, ints, clamps, a.tlo.high, b.tlo.high) };
+      thi = record { low = omega (arith, ints, clamps, a.thi.low, b.thi.low); high = omega (arith, ints, clamps, a.thi.high, b.thi.high) };
+      slo = record { low = omega (arith, ints, clamps, a.slo.low, b.slo.low); high = omega (arith, ints, clamps, a.slo.high, b.slo.high) };
+      shi = record { low = omega (arith, ints, clamps, a.shi.low, b.shi.low); high = omega (arith, ints, clamps, a.shi.high, b.shi.high) };
+    }
+
+-- where the least window that both of a net lie within keeps the limits, both do
+pub pair_keeps : (d : Parts) (n own : ℕ) (net : Net) (o : Option Net) (p : Pair) → o ≡ Some net → IsSoundNet d own net
+    → None ≡ first_over (quad_tests d.miller n net (join_of p.rise p.fall)) → None ≡ first_over (pair_tests d.miller n o p)
+pair_keeps d n own net o p there s h =
+    let both = join_of p.rise p.fall in
+    pair_tested d.miller n net o p (Ok tt) there (quad_keeps d n own net p.rise both s (join_left p.rise p.fall) h) (quad_keeps d n own net p.fall both s (join_right p.rise p.fall) h)
