@@ -12,6 +12,10 @@ use std::alloc::{AllocError, Global};
 use text_lines::{push_miller, push_number, push_word};
 use xt_model::{Design, Miller, NoMemory};
 
+/// The bytes for each net that a linked text has room for before it has to grow: those of blocks from `bench/block.py`
+/// have some 250.
+const NET_BYTES: usize = 256;
+
 /// Appends the name and the version of the format.
 #[tactic(auto, unfolding(text_lines::specs::Fields::field))]
 fn push_head(out: &mut Vec<u8>, miller: &Miller) -> Result<(), AllocError>
@@ -68,7 +72,7 @@ fn push_linked(out: &mut Vec<u8>, design: &Design) -> Result<(), AllocError>
 pub fn write_linked(alloc: Global, design: &Design) -> Result<Vec<u8>, NoMemory>
     ensures { IfOk result (λ text. text.items ≡ text_of (linked design.now)) }
 {
-    let mut out = Vec::new(alloc);
+    let mut out = Vec::with_capacity(alloc, NET_BYTES * design.nets().len())?;
     push_linked(&mut out, design)?;
     Ok(out)
 }
