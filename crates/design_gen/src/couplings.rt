@@ -5,16 +5,54 @@ ghost use Rattle.design_gen.specs.Couples.{Couple, Coupled, with_couple, pair_ne
 ghost use Rattle.design_gen.specs.Laws.{IsCount};
 ghost use Rattle.design_gen.specs.Rows.{HoldCouplings, IsCoupledAt};
 
-use crate::rows::{empty_rows, push_item};
+use crate::rows::{Items, empty_rows, push_item};
 use drawn_numbers::Source;
 use std::alloc::{AllocError, Global};
+use std::marker::Model;
 use xt_model::{Coupling, NetId};
 
 const MOST_COUPLINGS: usize = 16;
 
+/// A coupling as it is drawn, in 8 bytes. Contracts see the coupling.
+#[derive(Default, Drop)]
+pub(crate) struct DrawnCoupling {
+    to: u32,
+    cap: u32,
+}
+
+impl Model for DrawnCoupling {
+    ghost use Rattle.xt_model.specs.declared.net.Coupling.{Coupling};
+    ghost use Rattle.design_gen.specs.Couples.{coupling};
+
+    ghost Value = { Coupling };
+
+    ghost view = { λ c. coupling c.to c.cap };
+}
+
+impl DrawnCoupling {
+    ghost use Rattle.design_gen.specs.Couples.{coupling};
+
+    /// A coupling to a net by a capacitor, in aF.
+    fn new(to: u32, cap: u32) -> DrawnCoupling
+        ensures { result ≡ coupling to cap }
+    {
+        DrawnCoupling { to, cap }
+    }
+
+    /// The coupling of a net of a design.
+    pub(crate) fn coupling(&self) -> Coupling
+        ensures { result ≡ self.now }
+    {
+        Coupling {
+            to: NetId(self.to),
+            cap: i64::from(self.cap),
+        }
+    }
+}
+
 /// Makes a capacitor, in aF, a coupling of two nets, where both have room for it.
 fn couple(
-    rows: &mut Vec<Vec<Coupling>>,
+    rows: &mut Vec<Items<DrawnCoupling>>,
     first: u32,
     second: u32,
     cap: u32,
@@ -28,23 +66,8 @@ fn couple(
 {
     let (one, other) = (first as usize, second as usize);
     if rows[one].len() < MOST_COUPLINGS && rows[other].len() < MOST_COUPLINGS {
-        let cap = i64::from(cap);
-        push_item(
-            rows,
-            one,
-            Coupling {
-                to: NetId(second),
-                cap,
-            },
-        )?;
-        push_item(
-            rows,
-            other,
-            Coupling {
-                to: NetId(first),
-                cap,
-            },
-        )?;
+        push_item(rows, one, DrawnCoupling::new(second, cap))?;
+        push_item(rows, other, DrawnCoupling::new(first, cap))?;
     }
     Ok(())
 }
@@ -52,7 +75,7 @@ fn couple(
 /// Pairs a net with one that is drawn.
 fn pair_net(
     source: &mut Source,
-    rows: &mut Vec<Vec<Coupling>>,
+    rows: &mut Vec<Items<DrawnCoupling>>,
     nets: u32,
     net: u32,
 ) -> Result<(), AllocError>
@@ -75,7 +98,7 @@ pub(crate) fn draw_couplings(
     alloc: Global,
     source: &mut Source,
     nets: u32,
-) -> Result<Vec<Vec<Coupling>>, AllocError>
+) -> Result<Vec<Items<DrawnCoupling>>, AllocError>
     requires { IsCount nets }
     ensures rows { IfOk result (λ rows.
         HoldCouplings (map (λ r. r.items) rows.items) (coupled nets source.old.state nets).couples) }

@@ -9,7 +9,7 @@ ghost use Rattle.design_gen.specs.Generated.{generated, generated_net};
 use crate::arcs::arcs;
 use crate::drawn::Drawn;
 use crate::drivers::sources;
-use crate::nets::{net_name, sinks};
+use crate::nets::{couplings_of, net_name, sinks};
 use crate::tables::tables;
 use std::alloc::{AllocError, Global};
 use xt_model::{BuildFault, Design, GivenPair, Net, NoMemory, Row};
@@ -20,15 +20,17 @@ fn net(alloc: Global, drawn: &Drawn, number: u32) -> Result<Net, AllocError>
     ensures { IfOk result (λ n. n ≡ generated_net drawn.now.number drawn.now.nets number) }
 {
     let nets = drawn.nets();
-    let (couplings, pins) = (drawn.couplings(number), drawn.pins_on(number));
+    let pins = drawn.pins_on(number);
     let load = 2_000 + 1_000 * pins.len() as u32;
+    let couplings = couplings_of(alloc, drawn.couplings(number))?;
+    let sinks = sinks(alloc, nets, load, couplings.as_slice(), pins)?;
     Ok(Net {
         name: net_name(alloc, number)?,
         input: number < sources(nets),
         load: i64::from(load),
         given: GivenPair::new(alloc, drawn.given(number))?,
-        couplings: Row::from_vec(Vec::from_slice(alloc, couplings)?),
-        sinks: sinks(alloc, nets, load, couplings, pins)?,
+        couplings: Row::from_vec(couplings),
+        sinks,
         arcs: arcs(alloc, drawn, number)?,
     })
 }
@@ -39,7 +41,7 @@ fn all_nets(alloc: Global, number: u64, count: u32) -> Result<Vec<Net>, AllocErr
     ensures { IfOk result (λ nets. nets.items ≡ each_below (generated_net number count) count) }
 {
     let drawn = Drawn::new(alloc, number, count)?;
-    let mut nets = Vec::new(alloc);
+    let mut nets = Vec::with_capacity(alloc, count as usize)?;
     for i in 0..count {
         nets.push(net(alloc, &drawn, i)?)?;
     }

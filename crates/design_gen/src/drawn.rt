@@ -7,15 +7,16 @@ ghost use Rattle.design_gen.specs.Couples.{couplings_of};
 ghost use Rattle.design_gen.specs.Laws.{IsCount};
 ghost use Rattle.design_gen.specs.Taps.{driver_of, pins, pins_on, place_of};
 
-use crate::couplings::draw_couplings;
+use crate::couplings::{DrawnCoupling, draw_couplings};
 use crate::drivers::{draw_drivers, sources};
 use crate::given::draw_windows;
 use crate::nets::given;
+use crate::rows::Items;
 use crate::sinks::{Sinks, sinks_by_driver};
 use drawn_numbers::Source;
 use std::alloc::{AllocError, Global};
 use std::marker::Model;
-use xt_model::{Coupling, Pair, Quad};
+use xt_model::{Pair, Quad};
 
 /// What is drawn for the design of a number and a count of nets: the windows of its sources, the nets that its
 /// input pins are tied to, and the couplings of each net.
@@ -26,7 +27,7 @@ pub(crate) struct Drawn {
     windows: Vec<Quad>,
     drivers: Vec<u32>,
     sinks: Sinks,
-    couplings: Vec<Vec<Coupling>>,
+    couplings: Vec<Items<DrawnCoupling>>,
 }
 
 impl Model for Drawn {
@@ -104,7 +105,7 @@ impl Drawn {
     }
 
     /// The couplings of a net.
-    pub(crate) fn couplings(&self, net: u32) -> &[Coupling]
+    pub(crate) fn couplings(&self, net: u32) -> &[DrawnCoupling]
         requires { net < self.now.nets }
         ensures { result.now ≡ couplings_of net (couples_of self.now.number self.now.nets) }
     {

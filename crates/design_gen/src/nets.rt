@@ -7,6 +7,7 @@ ghost use Rattle.design_gen.specs.Laws.{IsCount};
 ghost use Rattle.design_gen.specs.Taps.{pins};
 ghost use Rattle.design_gen.specs.Generated.{net_name, pin_name, sink_of, both_edges};
 
+use crate::couplings::DrawnCoupling;
 use crate::drivers::sources;
 use itoa::Buffer;
 use smallvec::SmallVec;
@@ -41,6 +42,20 @@ fn pin_name(alloc: Global, nets: u32, pin: u32) -> Result<Name, AllocError>
     let mut bytes = name_bytes(alloc, sources(nets) + pin / 2)?;
     bytes.extend_from_slice(&[b'/', b'A' + (pin % 2) as u8])?;
     Name::from_slice(alloc, bytes.as_slice())
+}
+
+/// The couplings of a net, as they were drawn.
+pub(crate) fn couplings_of(
+    alloc: Global,
+    drawn: &[DrawnCoupling],
+) -> Result<Vec<Coupling>, AllocError>
+    ensures { IfOk result (λ couplings. couplings.items ≡ drawn.now) }
+{
+    let mut couplings = Vec::with_capacity(alloc, drawn.len())?;
+    for coupling in drawn {
+        couplings.push(coupling.coupling())?;
+    }
+    Ok(couplings)
 }
 
 /// The wire coefficients of a sink.

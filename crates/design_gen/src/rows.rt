@@ -1,13 +1,17 @@
-//! A row of items for each net.
+//! A row of items for each net. Most nets have few, which lie in the row itself.
 
 ghost use Rattle.std.specs.Prelude.{◌≡◌, ◌<◌, ◌++◌, [], ◌∷◌, length, map, set, get_or, IfOk, OnOk};
 ghost use Rattle.std.specs.List.{All};
 
+use smallvec::SmallVec;
 use std::alloc::{AllocError, Global};
 
+/// The items of a net, of which most nets have at most four.
+pub(crate) type Items<T> = SmallVec<T, 4>;
+
 /// Appends an item to the row of this number.
-pub(crate) fn push_item<T: Drop>(
-    rows: &mut Vec<Vec<T>>,
+pub(crate) fn push_item<T: Default + Drop>(
+    rows: &mut Vec<Items<T>>,
     at: usize,
     item: T,
 ) -> Result<(), AllocError>
@@ -20,13 +24,16 @@ pub(crate) fn push_item<T: Drop>(
 }
 
 /// An empty row for each net.
-pub(crate) fn empty_rows<T: Drop>(alloc: Global, nets: u32) -> Result<Vec<Vec<T>>, AllocError>
+pub(crate) fn empty_rows<T: Default + Drop>(
+    alloc: Global,
+    nets: u32,
+) -> Result<Vec<Items<T>>, AllocError>
     ensures count { IfOk result (λ rows. length rows.items ≡ nets) }
     ensures empty { IfOk result (λ rows. All (λ r. r.items ≡ []) rows.items) }
 {
     let mut rows = Vec::with_capacity(alloc, nets as usize)?;
     for i in 0..nets {
-        rows.push(Vec::new(alloc))?;
+        rows.push(SmallVec::new(alloc))?;
     }
     Ok(rows)
 }

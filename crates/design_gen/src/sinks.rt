@@ -6,13 +6,13 @@ ghost use Rattle.design_gen.specs.Lists.{each_below};
 ghost use Rattle.design_gen.specs.Taps.{place_of};
 ghost use Rattle.design_gen.specs.Rows.{HoldPins};
 
-use crate::rows::{empty_rows, push_item};
+use crate::rows::{Items, empty_rows, push_item};
 use std::alloc::{AllocError, Global};
 
 /// The input pins that are tied to each net, in order, and the place of each pin among those of its driver.
 #[derive(Drop)]
 pub(crate) struct Sinks {
-    pub(crate) rows: Vec<Vec<u32>>,
+    pub(crate) rows: Vec<Items<u32>>,
     pub(crate) places: Vec<u32>,
 }
 

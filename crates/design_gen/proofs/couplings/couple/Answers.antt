@@ -1,6 +1,5 @@
-use Rattle.std.proofs.Common.{rules, ◌≡◌, ◌<◌, ap, ◌∙◌, ◌++◌, ◌∷◌, length, map, set, get_or, [], pos, to_z, of_z, w64, arith}
+use Rattle.std.proofs.Common.{◌<◌, ap, ◌∙◌, ◌++◌, ◌∷◌, length, map, set, get_or, [], arith}
 use Rattle.std.proofs.lemmas.Bool.{and_from}
-use Rattle.std.proofs.lemmas.Int.{to_z-of_z}
 use Rattle.std.proofs.lemmas.List.{length-map}
 use Rattle.design_gen.specs.Couples.{has_room}
 use Rattle.design_gen.proofs.RowLaws.{couple_appended, room_by}
@@ -12,15 +11,14 @@ returns-in_ok-push_item-2-clause-couples c = λ cs h.
     let l = length-map c.args.rows.now.items (λ r. r.items) in
     let p : c.args.first < length (map (λ r. r.items) c.args.rows.now.items) = omega (arith, l, c.requires.first) in
     let q : c.args.second < length (map (λ r. r.items) c.args.rows.now.items) = omega (arith, l, c.requires.second) in
-    let z : to_z w64 (of_z w64 c.from-cap.result) ≡ pos c.args.cap = search (rules, to_z-of_z) in
     let one = room_by (λ r. r.items) c.args.rows.now.items cs c.args.first c.index.result.now c.len.result h c.requires.first c.if-len-lt-MOST_COUPLINGS.true
-    (omega (arith, c.len.ensures, c.index.result.now.ok.0)) c.index.ensures in
+    c.len.ensures.value c.index.ensures in
     let two = room_by (λ r. r.items) c.args.rows.now.items cs c.args.second c.index-then-len-lt-MOST_COUPLINGS.result.now c.len-then-len-lt-MOST_COUPLINGS.result h
-    c.requires.second c.if-len-lt-MOST_COUPLINGS-2.true (omega (arith, c.len-then-len-lt-MOST_COUPLINGS.ensures, c.index-then-len-lt-MOST_COUPLINGS.result.now.ok.0)) c.index-then-len-lt-MOST_COUPLINGS.ensures in
+    c.requires.second c.if-len-lt-MOST_COUPLINGS-2.true c.len-then-len-lt-MOST_COUPLINGS.ensures.value c.index-then-len-lt-MOST_COUPLINGS.ensures in
     couple_appended (map (λ r. r.items) c.args.rows.now.items) (map (λ r. r.items) c.push_item.new.rows.items)
     (map (λ r. r.items) c.push_item-then-len-lt-MOST_COUPLINGS-2.new.rows.items) cs c.args.first c.args.second c.args.cap p q c.requires.differ
     (and_from (has_room cs c.args.first) (has_room cs c.args.second) one two) h
     (c.in_ok-push_item.ensures
-    ∙ ap (λ k. set (map (λ r. r.items) c.args.rows.now.items) c.args.first (get_or (map (λ r. r.items) c.args.rows.now.items) c.args.first [] ++ (record { to = record { 0 = c.args.second }; cap = k }) ∷ [])) z)
+    ∙ ap (λ k. set (map (λ r. r.items) c.args.rows.now.items) c.args.first (get_or (map (λ r. r.items) c.args.rows.now.items) c.args.first [] ++ k ∷ [])) c.new.ensures)
     (c.in_ok-push_item-2.ensures
-    ∙ ap (λ k. set (map (λ r. r.items) c.push_item.new.rows.items) c.args.second (get_or (map (λ r. r.items) c.push_item.new.rows.items) c.args.second [] ++ (record { to = record { 0 = c.args.first }; cap = k }) ∷ [])) z)
+    ∙ ap (λ k. set (map (λ r. r.items) c.push_item.new.rows.items) c.args.second (get_or (map (λ r. r.items) c.push_item.new.rows.items) c.args.second [] ++ k ∷ [])) c.new-then-len-lt-MOST_COUPLINGS-2.ensures)

@@ -18,7 +18,7 @@ overflow_cast-len c =
     let a = c.requires.drivers c.loop-pin.pin 0 c.loop-pin-test.true in
     let p : get_or c.args.drivers.now c.loop-pin.pin 0 < length c.loop-pin.rows.items = omega (arith, a, c.loop-pin.invariant.count) in
     let e = place_is (λ r. r.items) c.loop-pin.rows.items (slice_index c.args.drivers.now) c.loop-pin.pin (get_or c.args.drivers.now c.loop-pin.pin 0) c.len.result
-    c.index.result.now refl p c.loop-pin.invariant.rows c.index.ensures (omega (arith, c.len.ensures, c.index.result.now.ok.0)) in
+    c.index.result.now refl p c.loop-pin.invariant.rows c.index.ensures c.len.ensures.value in
     let few = pins_on_few (slice_index c.args.drivers.now) (slice_index c.args.drivers.now c.loop-pin.pin) c.loop-pin.pin in
     omega (arith, e, few, c.loop-pin-test.true, c.requires.few)
 
@@ -27,7 +27,7 @@ loop-pin-preserved c =
     let a = c.requires.drivers c.loop-pin.pin 0 c.loop-pin-test.true in
     let p : get_or c.args.drivers.now c.loop-pin.pin 0 < length c.loop-pin.rows.items = omega (arith, a, c.loop-pin.invariant.count) in
     let e = place_is (λ r. r.items) c.loop-pin.rows.items (slice_index c.args.drivers.now) c.loop-pin.pin (get_or c.args.drivers.now c.loop-pin.pin 0) c.len.result
-    c.index.result.now refl p c.loop-pin.invariant.rows c.index.ensures (omega (arith, c.len.ensures, c.index.result.now.ok.0)) in
+    c.index.result.now refl p c.loop-pin.invariant.rows c.index.ensures c.len.ensures.value in
     let old = length-map c.loop-pin.rows.items (λ r. r.items) in
     let new = length-map c.push_item.new.rows.items (λ r. r.items) in
     let same = ap (λ xs. length xs) c.in_ok-push_item.ensures ∙ length-set (map (λ r. r.items) c.loop-pin.rows.items) (get_or c.args.drivers.now c.loop-pin.pin 0) _ in

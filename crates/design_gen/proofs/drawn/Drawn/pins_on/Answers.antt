@@ -13,7 +13,7 @@ are c =
     let h = subst P (sym c.self.view_is) c.requires in
     let l = c.self.invariant.sink_rows in
     let there : c.args.net < length (map (λ r. r.items) c.self.inside.sinks.rows.items) = omega (arith, h, l) in
-    let row = row_is (λ r. r.items) c.self.inside.sinks.rows.items c.args.net c.index.result.now c.as_slice.result.now there c.as_slice.ensures.value c.index.ensures in
+    let row = row_is (λ r. r.items) c.self.inside.sinks.rows.items c.args.net c.index.result.now c.as_slice.result.now there c.as_slice.ensures c.index.ensures in
     subst Q c.self.view_is (row ∙ c.self.invariant.are_sinks.each c.args.net there)
 
 pub returns-clause-value : goal.returns-clause-value
