@@ -5,7 +5,7 @@ ghost use Rattle.text_forms.specs.Tokens.{token_of};
 ghost use Rattle.verilog_net.specs.Forms.{role_of, first_form, start_forms, behind_module_forms};
 ghost use Rattle.verilog_net.specs.Forms.{module_name_forms, header_forms, listed_forms, body_forms};
 ghost use Rattle.verilog_net.specs.Forms.{left_bound_forms, right_bound_forms, declared_forms, opening_forms};
-ghost use Rattle.verilog_net.specs.Forms.{pins_forms, pin_forms, connection_forms, bit_given_forms};
+ghost use Rattle.verilog_net.specs.Forms.{pins_forms, connection_forms, quiet};
 ghost use Rattle.verilog_net.specs.Forms.{connected_forms, closed_forms, forms_in};
 ghost use Rattle.verilog_net.specs.Behind.{behind_one, behind_two};
 ghost use Rattle.verilog_net.specs.declared.sort.Sort.TheVariants.{Name, LeftBracket, RightParen, Comma};
@@ -230,12 +230,13 @@ fn pins<'a>(terms: &mut Terms<'a, Sort>) -> Result<FormRead<'a>, Refused>
     }
 }
 
-/// After the name of a pin.
-fn pin<'a>(terms: &mut Terms<'a, Sort>) -> Result<FormRead<'a>, Refused>
-    ensures { Reads (λ r. (whole_of r, terms.new)) result (first_form pin_forms terms.old) }
+/// A mark that alone may come next. It is inlined, so that the token is not written to memory.
+#[inline(always)]
+fn mark<'a>(sort: Sort, next: Context, terms: &mut Terms<'a, Sort>) -> Result<FormRead<'a>, Refused>
+    ensures { Reads (λ r. (whole_of r, terms.new)) result (first_form (quiet (sort ∷ []) next ∷ []) terms.old) }
 {
-    let paren = terms.expect(Sort::LeftParen)?;
-    Ok(done(Item::Nothing, paren.line, Context::Connection))
+    let mark = terms.expect(sort)?;
+    Ok(done(Item::Nothing, mark.line, next))
 }
 
 /// After the `[` of a bit to which a pin is connected.
@@ -292,14 +293,6 @@ fn connection<'a>(terms: &mut Terms<'a, Sort>) -> Result<FormRead<'a>, Refused>
     }
 }
 
-/// After the `]` of a bit.
-fn bit_given<'a>(terms: &mut Terms<'a, Sort>) -> Result<FormRead<'a>, Refused>
-    ensures { Reads (λ r. (whole_of r, terms.new)) result (first_form bit_given_forms terms.old) }
-{
-    let paren = terms.expect(Sort::RightParen)?;
-    Ok(done(Item::Nothing, paren.line, Context::Connected))
-}
-
 /// After the `,` of a pin.
 fn further_pin<'a>(
     comma: Term<'a, Sort>,
@@ -349,14 +342,6 @@ fn closed<'a>(terms: &mut Terms<'a, Sort>) -> Result<FormRead<'a>, Refused>
     }
 }
 
-/// After the end of the text.
-fn at_end<'a>(terms: &mut Terms<'a, Sort>) -> Result<FormRead<'a>, Refused>
-    ensures { Reads (λ r. (whole_of r, terms.new)) result (first_form [] terms.old) }
-{
-    let first = terms.any()?;
-    Err(first.refused())
-}
-
 /// The next form.
 pub fn read_form<'a>(context: Context, terms: &mut Terms<'a, Sort>) -> Result<FormRead<'a>, Refused>
     ensures { Reads (λ r. (whole_of r, terms.new)) result (first_form (forms_in context) terms.old) }
@@ -373,11 +358,11 @@ pub fn read_form<'a>(context: Context, terms: &mut Terms<'a, Sort>) -> Result<Fo
         Context::Declared => declared(terms),
         Context::Opening => opening(terms),
         Context::Pins => pins(terms),
-        Context::Pin => pin(terms),
+        Context::Pin => mark(Sort::LeftParen, Context::Connection, terms),
         Context::Connection => connection(terms),
-        Context::BitGiven => bit_given(terms),
+        Context::BitGiven => mark(Sort::RightParen, Context::Connected, terms),
         Context::Connected => connected(terms),
         Context::Closed => closed(terms),
-        Context::Done => at_end(terms),
+        Context::Done => Err(terms.any()?.refused()),
     }
 }

@@ -199,8 +199,7 @@ pub fn note_net<'a>(
     let Some((at, bit)) = bit_place(name) else {
         return Ok(());
     };
-    note_bit(alloc, bit_nets, &name[..at], bit)?;
-    Ok(())
+    note_bit(alloc, bit_nets, &name[..at], bit)
 }
 
 /// Whether a bus has one of these bits.

@@ -361,12 +361,12 @@ impl<'a> Progress<'a> {
     fn end_instance(&mut self, alloc: Global) -> Result<(), Stop>
         ensures { Changes result self.new (Ok (end_instance self.old)) }
     {
-        // Its bytes are kept once for all instances of a statement.
-        let cell = self.cell.shared()?;
-        let name = Name::copied(alloc, self.instance)?;
         // A list of just their number: to shrink the other one would leave a hole after each instance.
         let mut pins = Vec::with_capacity(alloc, self.pins.len())?;
         pins.append(&mut self.pins)?;
+        let name = Name::copied(alloc, self.instance)?;
+        // Its bytes are kept once for all instances of a statement.
+        let cell = self.cell.shared()?;
         self.instances.push(Instance {
             cell,
             name,
