@@ -10,15 +10,15 @@ ghost use Rattle.sdc_read.specs.Sound.{AreSoundConstraints};
 ghost use Rattle.spef_read.specs.Sound.{AreSoundParasitics};
 ghost use Rattle.liberty_cells.specs.Sound.{IsSoundLibrary};
 ghost use Rattle.verilog_net.specs.Sound.{IsSoundNetlist};
-ghost use Rattle.xt_io.specs.Outside.{AreOpened};
 ghost use Rattle.call_meaning.specs.Call.{Answers, IsStop};
 ghost use Rattle.call_meaning.specs.FailureWords.{most_bytes};
 ghost use Rattle.call_meaning.specs.Opened.{HasValue, OpensFirst, block_files};
 ghost use Rattle.call_meaning.specs.Linking;
-ghost use Rattle.call_meaning.specs.Linking.{BlockMeans, FileAndText, HoldsText, LinkingMeans, MakeDesign};
+ghost use Rattle.call_meaning.specs.Linking.{BlockMeans, LinkingMeans, MakeDesign};
 ghost use Rattle.call_meaning.specs.Linking.{FinishDesign, LastFilesMean, TextMeans};
 ghost use Rattle.call_meaning.specs.Linking.{ConstraintsIn, LibraryIn, NetlistIn, ParasiticsIn};
-ghost use Rattle.command_line.specs.Words.{Text};
+ghost use Rattle.call_files.specs.Texts;
+ghost use Rattle.call_files.specs.Texts.{ReadsText};
 ghost use Rattle.call_meaning.specs.declared.refusal.Stop.TheVariants.{Refused};
 ghost use Rattle.call_meaning.specs.declared.refusal.Refusal.TheVariants.{File};
 ghost use Rattle.call_meaning.specs.declared.refusal.FileRefusal.TheVariants.{Content};
@@ -54,6 +54,16 @@ fn stop_at(file: FileName, fault: TextFault) -> Stop
     }
 }
 
+// What the reading of a text comes to, where a file of this name holds it.
+fn in_file<V>(file: FileName, value: Result<V, TextFault>) -> Result<V, Stop>
+    ensures { result ≡ Texts.in_file file value }
+{
+    match value {
+        Ok(value) => Ok(value),
+        Err(fault) => Err(stop_at(file, fault)),
+    }
+}
+
 // A limit that the flat netlist of a file's modules passes. Its number is one more than may be, also where there are
 // more.
 fn beyond(file: FileName, what: LimitKind) -> Stop
@@ -75,19 +85,12 @@ fn beyond(file: FileName, what: LimitKind) -> Stop
 
 // The Liberty library whose text the file holds.
 fn library<F: Files>(alloc: Global, files: &mut F, file: FileName) -> Result<Library, Stop>
-    ensures answer { let Meant = FileAndText file (F.content files.old) LibraryIn (λ _. ⊥) in
-        let IsValue = HoldsText file (F.content files.old) LibraryIn in
-        Answers result IsValue Meant (F.faults files.old) (F.faults files.new) }
+    ensures read { ReadsText F.content F.faults F.opened file LibraryIn files.old files.new result }
     ensures sound { IfOk result IsSoundLibrary }
     ensures scales { IfOk result (λ v. IsScale v.time_scale × IsScale v.cap_scale) }
-    ensures content { (m : Text) → F.content files.new m ≡ F.content files.old m }
-    ensures opened { AreOpened (file ∷ []) (F.opened files.old) (F.opened files.new) }
 {
     let (file, bytes) = read_file(alloc, files, file)?;
-    match read_library(alloc, &bytes) {
-        Ok(value) => Ok(value),
-        Err(fault) => Err(stop_at(file, fault)),
-    }
+    in_file(file, read_library(alloc, &bytes))
 }
 
 // The flat netlist of the modules of a structural Verilog text, which a file of this name holds.
@@ -117,12 +120,8 @@ fn flat_netlist(alloc: Global, file: FileName, bytes: &[u8]) -> Result<Netlist, 
 
 // The structural Verilog netlist whose text the file holds.
 fn netlist<F: Files>(alloc: Global, files: &mut F, file: FileName) -> Result<Netlist, Stop>
-    ensures answer { let Meant = FileAndText file (F.content files.old) NetlistIn (λ _. ⊥) in
-        let IsValue = HoldsText file (F.content files.old) NetlistIn in
-        Answers result IsValue Meant (F.faults files.old) (F.faults files.new) }
+    ensures read { ReadsText F.content F.faults F.opened file NetlistIn files.old files.new result }
     ensures sound { IfOk result IsSoundNetlist }
-    ensures content { (m : Text) → F.content files.new m ≡ F.content files.old m }
-    ensures opened { AreOpened (file ∷ []) (F.opened files.old) (F.opened files.new) }
 {
     let (file, bytes) = read_file(alloc, files, file)?;
     flat_netlist(alloc, file, &bytes)
@@ -130,18 +129,11 @@ fn netlist<F: Files>(alloc: Global, files: &mut F, file: FileName) -> Result<Net
 
 // The SPEF parasitics whose text the file holds.
 fn parasitics<F: Files>(alloc: Global, files: &mut F, file: FileName) -> Result<Parasitics, Stop>
-    ensures answer { let Meant = FileAndText file (F.content files.old) ParasiticsIn (λ _. ⊥) in
-        let IsValue = HoldsText file (F.content files.old) ParasiticsIn in
-        Answers result IsValue Meant (F.faults files.old) (F.faults files.new) }
+    ensures read { ReadsText F.content F.faults F.opened file ParasiticsIn files.old files.new result }
     ensures sound { IfOk result AreSoundParasitics }
-    ensures content { (m : Text) → F.content files.new m ≡ F.content files.old m }
-    ensures opened { AreOpened (file ∷ []) (F.opened files.old) (F.opened files.new) }
 {
     let (file, bytes) = read_file(alloc, files, file)?;
-    match read_spef(alloc, &bytes) {
-        Ok(value) => Ok(value),
-        Err(fault) => Err(stop_at(file, fault)),
-    }
+    in_file(file, read_spef(alloc, &bytes))
 }
 
 // The constraints for the netlist whose SDC text the file holds, in the units of the library until it gives its own.
@@ -154,25 +146,14 @@ fn constraints<F: Files>(
 ) -> Result<Constraints, Stop>
     requires time { IsScale library.now.time_scale }
     requires cap { IsScale library.now.cap_scale }
-    ensures answer { let meant = ConstraintsIn library.now netlist.now in
-        let IsValue = HoldsText file (F.content files.old) meant in
-        let Meant = FileAndText file (F.content files.old) meant (λ _. ⊥) in
-        Answers result IsValue Meant (F.faults files.old) (F.faults files.new) }
+    ensures read { let meant = ConstraintsIn library.now netlist.now in
+        ReadsText F.content F.faults F.opened file meant files.old files.new result }
     ensures sound { IfOk result AreSoundConstraints }
-    ensures content { (m : Text) → F.content files.new m ≡ F.content files.old m }
-    ensures opened { AreOpened (file ∷ []) (F.opened files.old) (F.opened files.new) }
 {
     let (file, bytes) = read_file(alloc, files, file)?;
-    match read_sdc(
-        alloc,
-        &bytes,
-        netlist,
-        library.time_scale,
-        library.cap_scale,
-    ) {
-        Ok(value) => Ok(value),
-        Err(fault) => Err(stop_at(file, fault)),
-    }
+    let time = library.time_scale;
+    let cap = library.cap_scale;
+    in_file(file, read_sdc(alloc, &bytes, netlist, time, cap))
 }
 
 // The design that the values of the four files make.

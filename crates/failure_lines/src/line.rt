@@ -5,11 +5,10 @@ ghost use Rattle.std.specs.Fmt.{decimal};
 ghost use Rattle.std.specs.List.{flat_map};
 ghost use Rattle.call_meaning.specs.FailureWords.{line_of, status_of, WritesLine};
 ghost use Rattle.call_meaning.specs.FailureWords.{count_limit_words, first_name, kind_word, limit_words, link_words};
-ghost use Rattle.call_meaning.specs.FailureWords.{name_field, one_name, two_names, what_word, window_limit_words};
+ghost use Rattle.call_meaning.specs.FailureWords.{name_field, one_name, two_names, what_word};
 ghost use Rattle.call_meaning.specs.declared.refusal.Failure.TheVariants.{NoText};
 ghost use Rattle.call_meaning.specs.declared.refusal.Stop.TheVariants.{Refused};
 ghost use Rattle.call_meaning.specs.declared.refusal.Refusal.TheVariants.{File};
-ghost use Rattle.call_meaning.specs.declared.refusal.FileRefusal.TheVariants.{TooLong};
 
 use call_meaning::{
     DesignRefusal, Failure, FileRefusal, PassedLimit, Refusal, Stop, TextRefusal, Unlinked,
@@ -71,6 +70,7 @@ fn refusal_status(why: &Refusal) -> u8
     }
 }
 
+// The word for what is too great in an envelope.
 fn word_of_what(what: What) -> &'static [u8]
     ensures { result.now ≡ what_word what }
 {
@@ -115,7 +115,11 @@ fn write_refusal<E: Sink>(err: &mut E, why: &Refusal)
         Refusal::File { file, why } => write_file_refusal(err, file, why),
         Refusal::Linking(Unlinked::Refused(why)) => write_unlinked(err, why),
         Refusal::Linking(Unlinked::Beyond(limit)) => write_count_limit(err, limit),
-        Refusal::Design(DesignRefusal::Limit(limit)) => write_window_limit(err, limit),
+        Refusal::Design(DesignRefusal::Limit(limit)) => {
+            let mut buffer = Buffer::new();
+            let value = buffer.format(limit.value).as_bytes();
+            write_limit(err, word_of_what(limit.what), &limit.name, value)
+        }
     }
 }
 
@@ -125,7 +129,12 @@ fn write_file_refusal<E: Sink>(err: &mut E, file: &FileName, why: &FileRefusal)
         (line_of (NoText (Refused (File file.now why.now)))) }
 {
     match why {
-        FileRefusal::TooLong => write_length(err, file),
+        FileRefusal::TooLong => {
+            let mut buffer = Buffer::new();
+            let length = buffer.format(MOST_BYTES + 1).as_bytes();
+            let name = file.as_str().as_bytes();
+            write_pieces(err, &[b"limit: file ", name, b" ", length, b"\n"])
+        }
         FileRefusal::Content(TextRefusal::At { line, code }) => {
             write_place(err, file, *line, code.text().as_bytes())
         }
@@ -147,24 +156,6 @@ fn write_place<E: Sink>(err: &mut E, file: &FileName, line: u32, code: &[u8])
             buffer.format(line).as_bytes(),
             b": ",
             code,
-            b"\n",
-        ],
-    )
-}
-
-// Writes which file is too long.
-fn write_length<E: Sink>(err: &mut E, file: &FileName)
-    ensures { WritesLine (E.written err.old) (E.written err.new) (E.faults err.old) (E.faults err.new)
-        (line_of (NoText (Refused (File file.now TooLong)))) }
-{
-    let mut buffer = Buffer::new();
-    write_pieces(
-        err,
-        &[
-            b"limit: file ",
-            file.as_str().as_bytes(),
-            b" ",
-            buffer.format(MOST_BYTES + 1).as_bytes(),
             b"\n",
         ],
     )
@@ -257,26 +248,8 @@ fn write_count_limit<E: Sink>(err: &mut E, limit: &PassedLimit<LimitKind, u128>)
         (count_limit_words limit.now ++ 10 ∷ []) }
 {
     let mut buffer = Buffer::new();
-    write_limit(
-        err,
-        word_of_kind(limit.what),
-        &limit.name,
-        buffer.format(limit.value).as_bytes(),
-    )
-}
-
-// Writes which limit a window of an envelope passes.
-fn write_window_limit<E: Sink>(err: &mut E, limit: &PassedLimit<What, i128>)
-    ensures { WritesLine (E.written err.old) (E.written err.new) (E.faults err.old) (E.faults err.new)
-        (window_limit_words limit.now ++ 10 ∷ []) }
-{
-    let mut buffer = Buffer::new();
-    write_limit(
-        err,
-        word_of_what(limit.what),
-        &limit.name,
-        buffer.format(limit.value).as_bytes(),
-    )
+    let value = buffer.format(limit.value).as_bytes();
+    write_limit(err, word_of_kind(limit.what), &limit.name, value)
 }
 
 // A name and a space, or nothing twice.

@@ -15,7 +15,7 @@ returns-in_err-parasitics-clause-means g c =
     rw failed.1 (rw failed.2 (stops_first (FileAndText c.args.spef content ParasiticsIn (λ _. ⊥))
     (λ o. LastFilesMean c.args.spef c.args.sdc content c.args.library.now c.args.netlist.now (λ x. LinkingMeans x (λ _. ⊥) o) o)
     (λ o h. text_stops c.args.spef content ParasiticsIn _ o h)
-    (faults c.args.files.now) (faults c.parasitics.new.files) c.in_err-parasitics.field-0.0 c.in_err-parasitics.ensures.answer))
+    (faults c.args.files.now) (faults c.parasitics.new.files) c.in_err-parasitics.field-0.0 c.in_err-parasitics.ensures.read.answer))
 
 pub returns-in_err-constraints-clause-means : goal.returns-in_err-constraints-clause-means
 returns-in_err-constraints-clause-means g c =
@@ -26,10 +26,10 @@ returns-in_err-constraints-clause-means g c =
     let failed = err_from_is_err_and c.from_residual-in_err-constraints.result c.from_residual-in_err-constraints.ensures.1 in
     rw failed.1 (rw failed.2 (stops_later (FileAndText c.args.sdc first meant (λ _. ⊥))
     (λ o. LastFilesMean c.args.spef c.args.sdc content c.args.library.now c.args.netlist.now (λ x. LinkingMeans x (λ _. ⊥) o) o)
-    (λ o h. text_leads c.args.spef content ParasiticsIn _ o c.in_ok-parasitics.parasitics c.in_ok-parasitics.ensures.answer.0
-    (text_stops c.args.sdc content meant _ o (text_as c.args.sdc content first meant (λ _. ⊥) o (c.parasitics.ensures.content c.args.sdc) h)))
+    (λ o h. text_leads c.args.spef content ParasiticsIn _ o c.in_ok-parasitics.parasitics c.in_ok-parasitics.ensures.read.answer.0
+    (text_stops c.args.sdc content meant _ o (text_as c.args.sdc content first meant (λ _. ⊥) o (c.parasitics.ensures.read.kept c.args.sdc) h)))
     (faults c.args.files.now) (faults c.parasitics.new.files) (faults c.constraints.new.files) c.in_err-constraints.field-0.0
-    c.in_ok-parasitics.ensures.answer.1 c.in_err-constraints.ensures.answer))
+    c.in_ok-parasitics.ensures.read.answer.1 c.in_err-constraints.ensures.read.answer))
 
 pub returns-clause-means : goal.returns-clause-means
 returns-clause-means g c =
@@ -38,37 +38,37 @@ returns-clause-means g c =
     let first = g.F.Files.content c.parasitics.new.files in
     let meant = ConstraintsIn c.args.library.now c.args.netlist.now in
     let x : Inputs = record { library = c.args.library.now; netlist = c.args.netlist.now; parasitics = c.in_ok-parasitics.parasitics; constraints = c.in_ok-constraints.constraints } in
-    let held = holds_as c.args.sdc content first meant c.in_ok-constraints.constraints (c.parasitics.ensures.content c.args.sdc) c.in_ok-constraints.ensures.answer.0 in
+    let held = holds_as c.args.sdc content first meant c.in_ok-constraints.constraints (c.parasitics.ensures.read.kept c.args.sdc) c.in_ok-constraints.ensures.read.answer.0 in
     answers_unread (LinkingMeans x (λ _. ⊥)) (λ o. LastFilesMean c.args.spef c.args.sdc content c.args.library.now c.args.netlist.now (λ x. LinkingMeans x (λ _. ⊥) o) o)
-    (λ o m. text_leads c.args.spef content ParasiticsIn _ o c.in_ok-parasitics.parasitics c.in_ok-parasitics.ensures.answer.0
+    (λ o m. text_leads c.args.spef content ParasiticsIn _ o c.in_ok-parasitics.parasitics c.in_ok-parasitics.ensures.read.answer.0
     (text_leads c.args.sdc content meant _ o c.in_ok-constraints.constraints held m))
     _ (FinishDesign c.args.spef c.args.sdc content c.args.library.now c.args.netlist.now)
     (λ d h. record {
       parasitics = c.in_ok-parasitics.parasitics;
       constraints = c.in_ok-constraints.constraints;
-      spef_held = c.in_ok-parasitics.ensures.answer.0;
+      spef_held = c.in_ok-parasitics.ensures.read.answer.0;
       sdc_held = held;
       linked = h.0;
       sound = h.1;
     })
     (faults c.args.files.now) (faults c.constraints.new.files) c.linked-design.result
-    (kept_trans (faults c.args.files.now) (faults c.parasitics.new.files) (faults c.constraints.new.files) c.in_ok-parasitics.ensures.answer.1 c.in_ok-constraints.ensures.answer.1)
+    (kept_trans (faults c.args.files.now) (faults c.parasitics.new.files) (faults c.constraints.new.files) c.in_ok-parasitics.ensures.read.answer.1 c.in_ok-constraints.ensures.read.answer.1)
     c.linked-design.ensures.ok c.linked-design.ensures.stop
 
 pub returns-in_err-parasitics-clause-opened : goal.returns-in_err-parasitics-clause-opened
 returns-in_err-parasitics-clause-opened g c =
     let opened = g.F.Files.opened in
     let failed = err_from_is_err_and c.from_residual.result c.from_residual.ensures.1 in
-    rw failed.1 (opens_part (c.args.spef ∷ []) (c.args.sdc ∷ []) ⊥ (opened c.args.files.now) (opened c.parasitics.new.files) c.parasitics.ensures.opened (λ w. w))
+    rw failed.1 (opens_part (c.args.spef ∷ []) (c.args.sdc ∷ []) ⊥ (opened c.args.files.now) (opened c.parasitics.new.files) c.parasitics.ensures.read.once (λ w. w))
 
 pub returns-in_err-constraints-clause-opened : goal.returns-in_err-constraints-clause-opened
 returns-in_err-constraints-clause-opened g c =
     let opened = g.F.Files.opened in
     opens_all (c.args.spef ∷ c.args.sdc ∷ []) _ (opened c.args.files.now) (opened c.constraints.new.files)
-    (opened_then (c.args.spef ∷ []) (c.args.sdc ∷ []) (opened c.args.files.now) (opened c.parasitics.new.files) (opened c.constraints.new.files) c.parasitics.ensures.opened c.constraints.ensures.opened)
+    (opened_then (c.args.spef ∷ []) (c.args.sdc ∷ []) (opened c.args.files.now) (opened c.parasitics.new.files) (opened c.constraints.new.files) c.parasitics.ensures.read.once c.constraints.ensures.read.once)
 
 pub returns-clause-opened : goal.returns-clause-opened
 returns-clause-opened g c =
     let opened = g.F.Files.opened in
     opens_all (c.args.spef ∷ c.args.sdc ∷ []) _ (opened c.args.files.now) (opened c.constraints.new.files)
-    (opened_then (c.args.spef ∷ []) (c.args.sdc ∷ []) (opened c.args.files.now) (opened c.parasitics.new.files) (opened c.constraints.new.files) c.parasitics.ensures.opened c.constraints.ensures.opened)
+    (opened_then (c.args.spef ∷ []) (c.args.sdc ∷ []) (opened c.args.files.now) (opened c.parasitics.new.files) (opened c.constraints.new.files) c.parasitics.ensures.read.once c.constraints.ensures.read.once)

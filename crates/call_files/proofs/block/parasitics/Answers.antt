@@ -1,48 +1,29 @@
-use Rattle.std.proofs.Common.{ap}
 use Rattle.std.proofs.lemmas.Result.{err_from_is_err_and}
-use Rattle.call_meaning.specs.Outcome.{FileMeans}
-use Rattle.call_meaning.specs.Linking.{FileAndText, by_line, ParasiticsIn}
-use Rattle.call_meaning.proofs.Blocks.{text_at_fault}
-use Rattle.call_meaning.proofs.Lifts.{file_stops, stops_first}
+use Rattle.spef_read.specs.Reading.{parasitics_of}
+use Rattle.spef_read.specs.Sound.{AreSoundParasitics}
+use Rattle.call_meaning.specs.Linking.{ParasiticsIn}
+use Rattle.call_files.proofs.Texts.{by_place, unread, value_is}
 use Rattle.call_files.proofs.block.parasitics.Goals as goal
 
-pub returns-in-Ok-clause-answer : goal.returns-in-Ok-clause-answer
-returns-in-Ok-clause-answer g c = (
-  record {
-    bytes = c.in_ok-file.bytes.items;
-    held = c.in_ok-file.ensures.whole;
-    fits = c.in_ok-file.ensures.fits;
-    means = ap by_line (rw c.deref.ensures.value at c.in-Ok.ensures.value);
-  },
-  c.in_ok-file.ensures.answer.1,
-)
-
-pub returns-in-Err-clause-answer : goal.returns-in-Err-clause-answer
-returns-in-Err-clause-answer g c =
-    let faults = g.F.Files.faults in
-    rw c.stop_at.ensures (text_at_fault c.args.file c.in_ok-file.file (g.F.Files.content c.args.files.now) ParasiticsIn c.in_ok-file.bytes.items c.in-Err.fault
-    (faults c.args.files.now) (faults c.read_file.new.files) c.in_ok-file.ensures.answer.0 c.in_ok-file.ensures.whole c.in_ok-file.ensures.fits c.in_ok-file.ensures.answer.1
-    (λ line code is. ap by_line (rw (c.deref.ensures.value, is) at c.in-Err.ensures.value)))
-
-pub returns-in_err-file-clause-answer : goal.returns-in_err-file-clause-answer
-returns-in_err-file-clause-answer g c =
-    let content = g.F.Files.content c.args.files.now in
+pub returns-in_err-file-clause-read : goal.returns-in_err-file-clause-read
+returns-in_err-file-clause-read g c =
     let faults = g.F.Files.faults in
     let failed = err_from_is_err_and c.from_residual.result c.from_residual.ensures.1 in
-    rw failed.1 (rw failed.2 (stops_first (FileMeans c.args.file content (λ _. ⊥)) (FileAndText c.args.file content ParasiticsIn (λ _. ⊥)) (λ o h. file_stops c.args.file content _ o h)
-    (faults c.args.files.now) (faults c.read_file.new.files) c.in_err-file.field-0.0 c.in_err-file.ensures.answer))
+    record {
+      answer = rw failed.1 (rw failed.2 (unread c.args.file (g.F.Files.content c.args.files.now) ParasiticsIn (faults c.args.files.now) (faults c.read_file.new.files) c.in_err-file.field-0.0 c.in_err-file.ensures.answer));
+      kept = c.read_file.ensures.content;
+      once = c.read_file.ensures.opened;
+    }
 
-pub returns-in-Ok-clause-content : goal.returns-in-Ok-clause-content
-returns-in-Ok-clause-content g c = c.read_file.ensures.content
+pub returns-clause-read : goal.returns-clause-read
+returns-clause-read g c =
+    let faults = g.F.Files.faults in
+    record {
+      answer = rw c.in_file.ensures (by_place c.args.file c.in_ok-file.file (g.F.Files.content c.args.files.now) c.in_ok-file.bytes.items (faults c.args.files.now) (faults c.read_file.new.files)
+          c.in_ok-file.ensures.answer.0 c.in_ok-file.ensures.whole c.in_ok-file.ensures.fits c.in_ok-file.ensures.answer.1 parasitics_of c.read_spef.result (rw c.deref.ensures.value at c.read_spef.ensures.value));
+      kept = c.read_file.ensures.content;
+      once = c.read_file.ensures.opened;
+    }
 
-pub returns-in-Err-clause-content : goal.returns-in-Err-clause-content
-returns-in-Err-clause-content g c = c.read_file.ensures.content
-
-pub returns-in-Ok-clause-opened : goal.returns-in-Ok-clause-opened
-returns-in-Ok-clause-opened g c = c.read_file.ensures.opened
-
-pub returns-in-Err-clause-opened : goal.returns-in-Err-clause-opened
-returns-in-Err-clause-opened g c = c.read_file.ensures.opened
-
-pub returns-in_err-file-clause-opened : goal.returns-in_err-file-clause-opened
-returns-in_err-file-clause-opened g c = c.read_file.ensures.opened
+pub returns-clause-sound : goal.returns-clause-sound
+returns-clause-sound g c = rw c.in_file.ensures (value_is c.in_ok-file.file AreSoundParasitics c.read_spef.result c.read_spef.ensures.sound)

@@ -21,7 +21,7 @@ returns-in_err-library-clause-means g c =
     let failed = err_from_is_err_and c.from_residual.result c.from_residual.ensures.1 in
     rw failed.1 (rw failed.2 (stops_first (FileAndText c.args.block.lib content LibraryIn (λ _. ⊥)) (BlockMeans c.args.block content (λ _. ⊥))
     (λ o h. text_stops c.args.block.lib content LibraryIn _ o h)
-    (faults c.args.files.now) (faults c.library.new.files) c.in_err-library.field-0.0 c.in_err-library.ensures.answer))
+    (faults c.args.files.now) (faults c.library.new.files) c.in_err-library.field-0.0 c.in_err-library.ensures.read.answer))
 
 pub returns-in_err-netlist-clause-means : goal.returns-in_err-netlist-clause-means
 returns-in_err-netlist-clause-means g c =
@@ -30,10 +30,10 @@ returns-in_err-netlist-clause-means g c =
     let first = g.F.Files.content c.library.new.files in
     let failed = err_from_is_err_and c.from_residual-in_err-netlist.result c.from_residual-in_err-netlist.ensures.1 in
     rw failed.1 (rw failed.2 (stops_later (FileAndText c.args.block.netlist first NetlistIn (λ _. ⊥)) (BlockMeans c.args.block content (λ _. ⊥))
-    (λ o h. text_leads c.args.block.lib content LibraryIn _ o c.in_ok-library.library c.in_ok-library.ensures.answer.0
-    (text_stops c.args.block.netlist content NetlistIn _ o (text_as c.args.block.netlist content first NetlistIn (λ _. ⊥) o (c.library.ensures.content c.args.block.netlist) h)))
+    (λ o h. text_leads c.args.block.lib content LibraryIn _ o c.in_ok-library.library c.in_ok-library.ensures.read.answer.0
+    (text_stops c.args.block.netlist content NetlistIn _ o (text_as c.args.block.netlist content first NetlistIn (λ _. ⊥) o (c.library.ensures.read.kept c.args.block.netlist) h)))
     (faults c.args.files.now) (faults c.library.new.files) (faults c.netlist.new.files) c.in_err-netlist.field-0.0
-    c.in_ok-library.ensures.answer.1 c.in_err-netlist.ensures.answer))
+    c.in_ok-library.ensures.read.answer.1 c.in_err-netlist.ensures.read.answer))
 
 -- the library and the netlist of the first two files, and what the files hold
 module _ (files : BlockFiles) (content first second : Contents) (library : Library) (netlist : Netlist) (one : (f : Text) → first f ≡ content f) (two : (f : Text) → second f ≡ first f)
@@ -61,11 +61,11 @@ pub returns-clause-means : goal.returns-clause-means
 returns-clause-means g c =
     let content = g.F.Files.content in
     let faults = g.F.Files.faults in
-    let kept = kept_trans (faults c.args.files.now) (faults c.library.new.files) (faults c.netlist.new.files) c.in_ok-library.ensures.answer.1 c.in_ok-netlist.ensures.answer.1 in
+    let kept = kept_trans (faults c.args.files.now) (faults c.library.new.files) (faults c.netlist.new.files) c.in_ok-library.ensures.read.answer.1 c.in_ok-netlist.ensures.read.answer.1 in
     let stops = stopped c.args.block (content c.args.files.now) (content c.library.new.files) (content c.netlist.new.files) c.in_ok-library.library c.in_ok-netlist.netlist
-    c.library.ensures.content c.netlist.ensures.content c.in_ok-library.ensures.answer.0 c.in_ok-netlist.ensures.answer.0 in
+    c.library.ensures.read.kept c.netlist.ensures.read.kept c.in_ok-library.ensures.read.answer.0 c.in_ok-netlist.ensures.read.answer.0 in
     let makes = finished c.args.block (content c.args.files.now) (content c.library.new.files) (content c.netlist.new.files) c.in_ok-library.library c.in_ok-netlist.netlist
-    c.library.ensures.content c.netlist.ensures.content c.in_ok-library.ensures.answer.0 c.in_ok-netlist.ensures.answer.0 in
+    c.library.ensures.read.kept c.netlist.ensures.read.kept c.in_ok-library.ensures.read.answer.0 c.in_ok-netlist.ensures.read.answer.0 in
     answers_later _ (BlockMeans c.args.block (content c.args.files.now) (λ _. ⊥)) stops
     _ (MakeDesign c.args.block (content c.args.files.now)) makes
     (faults c.args.files.now) (faults c.netlist.new.files) (faults c.finish_block-design.new.files) c.finish_block-design.result kept c.finish_block-design.ensures.means
@@ -75,7 +75,7 @@ returns-in_err-library-clause-opened g c =
     let opened = g.F.Files.opened in
     let block = c.args.block in
     let failed = err_from_is_err_and c.from_residual.result c.from_residual.ensures.1 in
-    rw failed.1 (opens_part (block.lib ∷ []) (block.netlist ∷ block.spef ∷ block.sdc ∷ []) ⊥ (opened c.args.files.now) (opened c.library.new.files) c.library.ensures.opened (λ w. w))
+    rw failed.1 (opens_part (block.lib ∷ []) (block.netlist ∷ block.spef ∷ block.sdc ∷ []) ⊥ (opened c.args.files.now) (opened c.library.new.files) c.library.ensures.read.once (λ w. w))
 
 pub returns-in_err-netlist-clause-opened : goal.returns-in_err-netlist-clause-opened
 returns-in_err-netlist-clause-opened g c =
@@ -83,11 +83,11 @@ returns-in_err-netlist-clause-opened g c =
     let block = c.args.block in
     let failed = err_from_is_err_and c.from_residual-in_err-netlist.result c.from_residual-in_err-netlist.ensures.1 in
     rw failed.1 (opens_part (block.lib ∷ block.netlist ∷ []) (block.spef ∷ block.sdc ∷ []) ⊥ (opened c.args.files.now) (opened c.netlist.new.files)
-    (opened_then (block.lib ∷ []) (block.netlist ∷ []) (opened c.args.files.now) (opened c.library.new.files) (opened c.netlist.new.files) c.library.ensures.opened c.netlist.ensures.opened) (λ w. w))
+    (opened_then (block.lib ∷ []) (block.netlist ∷ []) (opened c.args.files.now) (opened c.library.new.files) (opened c.netlist.new.files) c.library.ensures.read.once c.netlist.ensures.read.once) (λ w. w))
 
 pub returns-clause-opened : goal.returns-clause-opened
 returns-clause-opened g c =
     let opened = g.F.Files.opened in
     let block = c.args.block in
     opens_more (block.lib ∷ block.netlist ∷ []) (block.spef ∷ block.sdc ∷ []) _ (opened c.args.files.now) (opened c.netlist.new.files) (opened c.finish_block-design.new.files)
-    (opened_then (block.lib ∷ []) (block.netlist ∷ []) (opened c.args.files.now) (opened c.library.new.files) (opened c.netlist.new.files) c.library.ensures.opened c.netlist.ensures.opened) c.finish_block-design.ensures.opened
+    (opened_then (block.lib ∷ []) (block.netlist ∷ []) (opened c.args.files.now) (opened c.library.new.files) (opened c.netlist.new.files) c.library.ensures.read.once c.netlist.ensures.read.once) c.finish_block-design.ensures.opened
