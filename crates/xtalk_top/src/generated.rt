@@ -10,7 +10,7 @@ ghost use Rattle.call_meaning.specs.Call.{IsStop};
 ghost use Rattle.call_meaning.specs.Gen.{GenMeans, SummaryMeans};
 
 use crate::runs::{Runs, Turns};
-use crate::solution::{envelope_of, solved_within};
+use crate::solution::{envelope_and_lists, solved_by};
 use call_meaning::Stop;
 use chaos_core::Gate;
 use command_line::GenJob;
@@ -35,8 +35,8 @@ fn summary<R: Threads + Sync, G: Gate>(
     ensures ok { IfOk result (λ text. SummaryMeans design.now (prints text.items)) }
     ensures stop { IfErr result (IsStop (SummaryMeans design.now) (λ _. ⊥)) }
 {
-    let top = envelope_of(alloc, design)?;
-    let Ok(found) = solved_within(rt, alloc, gate, design, &top, runs) else {
+    let (top, lists) = envelope_and_lists(rt, alloc, design, runs.workers)?;
+    let Ok(found) = solved_by(rt, alloc, gate, design, &lists, &top, runs) else {
         return Err(Stop::NoMemory);
     };
     match write_summary(alloc, design, &found.low, &found.high) {

@@ -1,6 +1,6 @@
 use Rattle.call_meaning.proofs.EditSteps.{both_ok}
 use Rattle.call_meaning.proofs.Within.{found_within, narrows_from}
-use Rattle.xtalk_top.proofs.solution.solved_within.Goals as goal
+use Rattle.xtalk_top.proofs.solution.solved_by.Goals as goal
 
 pub both_from-requires-clause-low : goal.both_from-requires-clause-low
 both_from-requires-clause-low g c =
