@@ -1,7 +1,7 @@
 mod Attained
 mod Backs
 pub mod OnePath
-mod Picked
+pub mod Picked
 mod Spending
 mod Spent
 mod There

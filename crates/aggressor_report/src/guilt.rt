@@ -57,6 +57,7 @@ fn mark(
 
 impl Guilt {
     /// The entry of an edge of the victim and its coupling of this number.
+    #[inline(always)]
     pub(crate) fn new(
         design: &Design,
         low: &Windows,
@@ -82,6 +83,7 @@ impl Guilt {
     }
 
     /// Whether the aggressor can do something to the edge.
+    #[inline(always)]
     pub(crate) fn is_guilty(&self) -> bool
         ensures { result ≡ is_guilty self.now }
     {

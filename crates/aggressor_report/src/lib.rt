@@ -2,6 +2,7 @@
 //! earliest time. Times are in fs.
 #![tactic(auto)]
 
+mod count;
 mod entries;
 mod guilt;
 mod laws;
@@ -12,6 +13,7 @@ mod step;
 mod walk;
 mod window;
 
+pub use count::guilty_count;
 pub use entries::guilty;
 pub use guilt::Guilt;
 pub use laws::a_path_is_unique;

@@ -1,9 +1,7 @@
-use Rattle.std.proofs.Common.{ℕ, ◌<◌, List, length, get_or, pos, Option, IfSome, sym, ap, subst, arith}
+use Rattle.std.proofs.Common.{get_or, pos}
 use Rattle.std.proofs.lemmas.Option.{slice_get-get_or}
 use Rattle.xt_model.specs.declared.net.Coupling.{Coupling}
-use Rattle.xt_model.specs.declared.net.Net.{Net}
-use Rattle.xt_model.specs.Sound.{IsSoundNet}
-use Rattle.aggressor_report.proofs.Turns.{net_there, number_fits}
+use Rattle.aggressor_report.proofs.Turns.{net_there, number_fits, aggressor_there}
 use Rattle.aggressor_report.proofs.Picked.{entry_turn, entries_end}
 use Rattle.aggressor_report.proofs.entries.push_edge.Goals as goal
 
@@ -22,9 +20,7 @@ new-requires-clause-aggressor c =
     let number = c.loop-number.number in
     let net = c.index-nets-victim.result in
     let there = net_there d.nets c.nets.result.now c.args.victim.0 net c.nets.ensures.value c.requires.victim c.index-nets-victim.is in
-    let sound : IsSoundNet d c.args.victim.0 net = subst (λ (o : Option Net). IfSome o (IsSoundNet d c.args.victim.0)) there (c.nets.ensures.sound.nets c.args.victim.0) in
-    let within : number < length net.couplings = omega (arith, ap length c.as_slice-couplings.ensures, c.loop-number-test.true) in
-    subst (λ (ks : List Coupling). (get_or ks number none).to.0 < length d.nets) (sym c.as_slice-couplings.ensures) (sound.couplings number none within).there
+    aggressor_there d c.args.victim.0 net c.as_slice-couplings.result.now number none c.nets.ensures.sound there c.as_slice-couplings.ensures c.loop-number-test.true
 
 pub loop-number-preserved : goal.loop-number-preserved
 loop-number-preserved c =
