@@ -14,6 +14,7 @@ mod report;
 mod sections;
 mod size;
 mod summary;
+mod tally;
 mod unconstrained;
 mod windows;
 mod worst;
@@ -23,4 +24,4 @@ pub use laws::{
 };
 pub use report::write_report;
 pub use report_kind::ReportKind;
-pub use summary::write_summary;
+pub use summary::{write_summary, write_summary_by};

@@ -1,15 +1,17 @@
 //! The summary of a design and its two windows.
 
-ghost use Rattle.std.specs.Prelude.{◌≡◌, ◌++◌, ◌≤◌, ◌^◌, ℕ, [], ◌∷◌, codes, length, OnOk, IfOk};
+ghost use Rattle.std.specs.Prelude.{◌≡◌, ◌++◌, ℕ, List, [], ◌∷◌, codes, length, OnOk, IfOk};
 ghost use Rattle.xt_model.specs.Levels.{IsDepth, IsPairCount};
 ghost use Rattle.text_lines.specs.Lines.{line_text, text_of};
+ghost use Rattle.report_text.specs.declared.edge_windows.EdgeWindows.{EdgeWindows};
 ghost use Rattle.report_text.specs.Summary.{count_line, summary, summary_by};
+ghost use Rattle.report_text.specs.Pieces.{IsTally};
 ghost use Rattle.xt_number.specs.Thousandths.{thousandths};
 
-use crate::edge_windows::{EdgeWindows, live_windows, total_widths, wider_count};
 use crate::size::push_size;
-use aggressor_report::guilty;
+use crate::tally::{Tally, tally_by, tally_of};
 use std::alloc::{AllocError, Global};
+use std::thread::Threads;
 use text_lines::{push_number, push_word};
 use xt_model::{Design, NoMemory, Windows};
 use xt_number::time_text;
@@ -27,15 +29,16 @@ fn push_title(out: &mut Vec<u8>) -> Result<(), AllocError>
 }
 
 /// Appends the line of counts.
-fn push_counts(out: &mut Vec<u8>, edges: &[EdgeWindows], guilty: usize) -> Result<(), AllocError>
-    ensures { OnOk result (out.new.items ≡ out.old.items ++ line_text (count_line edges.now guilty)) }
+fn push_counts(out: &mut Vec<u8>, tally: &Tally) -> Result<(), AllocError>
+    ensures { (edges : List EdgeWindows) (guilty : ℕ) → IsTally edges guilty tally.now
+        → OnOk result (out.new.items ≡ out.old.items ++ line_text (count_line edges guilty)) }
 {
     push_word(out, b"live", b' ')?;
-    push_number(out, edges.len(), b' ')?;
+    push_number(out, tally.live, b' ')?;
     push_word(out, b"wider", b' ')?;
-    push_number(out, wider_count(edges), b' ')?;
+    push_number(out, tally.wider, b' ')?;
     push_word(out, b"guilty", b' ')?;
-    push_number(out, guilty, b'\n')?;
+    push_number(out, tally.guilty, b'\n')?;
     Ok(())
 }
 
@@ -55,27 +58,38 @@ fn push_summary(
     design: &Design,
     pairs: u64,
     levels: u32,
-    edges: &[EdgeWindows],
-    guilty: usize,
+    tally: &Tally,
 ) -> Result<(), AllocError>
     requires pairs { IsPairCount design.now.nets pairs }
     requires levels { IsDepth design.now.nets levels }
-    requires few { length edges.now ≤ 2 ^ 32 }
-    ensures { OnOk result (out.new.items
-        ≡ out.old.items ++ text_of (summary_by design.now pairs levels edges.now guilty)) }
+    ensures { (edges : List EdgeWindows) (guilty : ℕ) → IsTally edges guilty tally.now
+        → OnOk result (out.new.items
+        ≡ out.old.items ++ text_of (summary_by design.now pairs levels edges guilty)) }
 {
-    let widths = total_widths(edges);
     push_title(out)?;
     push_size(out, design, pairs, levels)?;
-    push_counts(out, edges, guilty)?;
-    push_total(out, b"least", widths.least)?;
-    push_total(out, b"greatest", widths.greatest)?;
+    push_counts(out, tally)?;
+    push_total(out, b"least", tally.least)?;
+    push_total(out, b"greatest", tally.greatest)?;
     push_word(out, b"end", b'\n')?;
     Ok(())
 }
 
-/// The summary of a design and of its least and greatest windows, one pair a net, as text in lines. Takes time and
-/// memory in proportion to the nets and the couplings.
+/// The summary of a design, by what is counted of its nets.
+fn summary_of(alloc: Global, design: &Design, tally: &Tally) -> Result<Vec<u8>, NoMemory>
+    ensures { (edges : List EdgeWindows) (guilty : ℕ) → IsTally edges guilty tally.now
+        → IfOk result (λ text. (pairs : ℕ) × (depth : ℕ)
+        × IsPairCount design.now.nets pairs × IsDepth design.now.nets depth
+        × (text.items ≡ text_of (summary_by design.now pairs depth edges guilty))) }
+{
+    let mut out = Vec::new(alloc);
+    let (pairs, levels) = (design.pairs(), design.levels());
+    push_summary(&mut out, design, pairs, levels, tally)?;
+    Ok(out)
+}
+
+/// The summary of a design and of its least and greatest windows, one pair a net, as text in lines. Takes time in
+/// proportion to the nets and the couplings, and memory for the text.
 pub fn write_summary(
     alloc: Global,
     design: &Design,
@@ -88,10 +102,27 @@ pub fn write_summary(
         × IsPairCount design.now.nets pairs × IsDepth design.now.nets depth
         × (text.items ≡ text_of (summary design.now pairs depth low.now high.now))) }
 {
-    let edges = live_windows(alloc, design, low, high)?;
-    let entries = guilty(alloc, design, low, high)?;
-    let mut out = Vec::new(alloc);
-    let (pairs, levels) = (design.pairs(), design.levels());
-    push_summary(&mut out, design, pairs, levels, &edges, entries.len())?;
-    Ok(out)
+    let nets = design.nets().len() as u32;
+    let tally = tally_of(design, low, high, 0, nets);
+    summary_of(alloc, design, &tally)
+}
+
+/// As [`write_summary`], by this many threads, each of which counts a share of the nets.
+pub fn write_summary_by<R: Threads + Sync>(
+    rt: &R,
+    alloc: Global,
+    design: &Design,
+    low: &Windows,
+    high: &Windows,
+    threads: u32,
+) -> Result<Vec<u8>, NoMemory>
+    requires low { length low.now ≡ length design.now.nets }
+    requires high { length high.now ≡ length design.now.nets }
+    ensures { IfOk result (λ text. (pairs : ℕ) × (depth : ℕ)
+        × IsPairCount design.now.nets pairs × IsDepth design.now.nets depth
+        × (text.items ≡ text_of (summary design.now pairs depth low.now high.now))) }
+{
+    let nets = design.nets().len() as u32;
+    let tally = tally_by(rt, design, low, high, 0, nets, threads);
+    summary_of(alloc, design, &tally)
 }

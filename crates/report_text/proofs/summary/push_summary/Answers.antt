@@ -7,9 +7,9 @@ use Rattle.report_text.proofs.Widths.{summary_pieces}
 use Rattle.report_text.proofs.summary.push_summary.Goals as goal
 
 pub returns : goal.returns
-returns c =
-    let least : to_z w128 (of_z w128 c.total_widths-widths.result.least) ≡ c.total_widths-widths.result.least = search (rules, to_z-of_z) in
-    let greatest : to_z w128 (of_z w128 c.total_widths-widths.result.greatest) ≡ c.total_widths-widths.result.greatest = search (rules, to_z-of_z) in
-    summary_pieces _ _ _ _ _ _ _ (codes "xtalk" ∷ codes "gen" ∷ codes "1" ∷ []) (size_line c.args.design.now c.args.pairs c.args.levels) (count_line c.args.edges.now c.args.guilty)
-    _ _ _ _ c.in_ok-push_title.ensures c.in_ok-push_size.ensures c.in_ok-push_counts.ensures
-    c.in_ok-push_total.ensures (least ∙ c.total_widths-widths.ensures.least) c.in_ok-push_total-2.ensures (greatest ∙ c.total_widths-widths.ensures.greatest) c.in_ok-push_word.ensures
+returns c = λ edges guilty is.
+    let least : to_z w128 (of_z w128 c.args.tally.now.least) ≡ c.args.tally.now.least = search (rules, to_z-of_z) in
+    let greatest : to_z w128 (of_z w128 c.args.tally.now.greatest) ≡ c.args.tally.now.greatest = search (rules, to_z-of_z) in
+    summary_pieces _ _ _ _ _ _ _ (codes "xtalk" ∷ codes "gen" ∷ codes "1" ∷ []) (size_line c.args.design.now c.args.pairs c.args.levels) (count_line edges guilty)
+    _ _ _ _ c.in_ok-push_title.ensures c.in_ok-push_size.ensures (c.in_ok-push_counts.ensures edges guilty is)
+    c.in_ok-push_total.ensures (least ∙ is.least) c.in_ok-push_total-2.ensures (greatest ∙ is.greatest) c.in_ok-push_word.ensures
