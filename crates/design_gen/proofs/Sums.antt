@@ -1,9 +1,9 @@
 -- Sums over the nets below a number, and lists of them.
-use Rattle.std.proofs.Common.{◌≡◌, ℕ, zero, suc, ◌+◌, ◌*◌, ◌<◌, ◌≤◌, ◌⊎◌, inl, inr, refl, ◌∙◌, subst, Bool, true, false, List, [], ◌∷◌, ◌++◌, length, get_or, arith}
+use Rattle.std.proofs.Common.{◌≡◌, ℕ, zero, suc, ◌+◌, ◌*◌, ◌<◌, ◌≤◌, ◌⊎◌, inl, inr, refl, ◌∙◌, subst, Bool, true, false, List, [], ◌∷◌, ◌++◌, length, get_or, drop, ap, sym, arith}
 use Rattle.std.specs.Prelude.{◌≢◌, ◌==◌, if◌then◌else◌, Some}
 use Rattle.std.specs.List.{slice_get, sum_by}
 use Rattle.std.proofs.lemmas.Bool.{cases_lt, eqb-true, eq-eqb}
-use Rattle.std.proofs.lemmas.List.{length_push}
+use Rattle.std.proofs.lemmas.List.{append-nil, append_assoc, drop_all, drop-append-le, length_push}
 use Rattle.std.proofs.lemmas.Option.{get_or_from_slice_get}
 use Rattle.std.proofs.lemmas.List.Sums.{sum_by_push}
 use Rattle.xt_model.specs.declared.net.Net.{Net}
@@ -111,6 +111,37 @@ each_there f (suc n) i h = elim (cases_lt i n) [
 
 pub each_at : {X : Type 0} (f : ℕ → X) (n i : ℕ) (d : X) → i < n → get_or (each_below f n) i d ≡ f i
 each_at f n i d h = get_or_from_slice_get (each_below f n) i (f i) d (each_there f n i h)
+
+-- the list from a number on
+pub each_from_itself : {X : Type 0} (f : ℕ → X) (from : ℕ) → drop from (each_below f from) ≡ []
+each_from_itself f from = let l = length-each_below f from in drop_all from (each_below f from) (omega (arith, l))
+
+pub each_from_push : {X : Type 0} (f : ℕ → X) (from n : ℕ) → from ≤ n → drop from (each_below f (n + 1)) ≡ drop from (each_below f n) ++ f n ∷ []
+each_from_push f from n h =
+    let l = length-each_below f n in
+    let k : suc n ≡ n + 1 = omega arith in
+    let P : ℕ → Type 0 = λ m. drop from (each_below f m) ≡ drop from (each_below f n) ++ f n ∷ [] in
+    subst P k (drop-append-le from (each_below f n) (f n ∷ []) (omega (arith, l)))
+
+-- and what is before and from a number between is all of it
+pub each_from_append : {X : Type 0} (f : ℕ → X) (from middle to : ℕ) → from ≤ middle → middle ≤ to → drop from (each_below f middle) ++ drop middle (each_below f to) ≡ drop from (each_below f to)
+each_from_append f from middle zero h k =
+    let e : zero ≡ middle = omega arith in
+    let P : ℕ → Type 0 = λ m. drop from (each_below f m) ++ drop m (each_below f zero) ≡ drop from (each_below f zero) in
+    subst P e (append-nil (drop from (each_below f zero)))
+each_from_append f from middle (suc n) h k = elim (cases_lt n middle) [
+  | inl p ↦
+      let e : suc n ≡ middle = omega arith in
+      let P : ℕ → Type 0 = λ m. drop from (each_below f m) ++ drop m (each_below f (suc n)) ≡ drop from (each_below f (suc n)) in
+      subst P e (ap (λ xs. drop from (each_below f (suc n)) ++ xs) (each_from_itself f (suc n)) ∙ append-nil (drop from (each_below f (suc n))))
+  | inr p ↦
+      let l = length-each_below f n in
+      let late = drop-append-le middle (each_below f n) (f n ∷ []) (omega (arith, l)) in
+      let early = drop-append-le from (each_below f n) (f n ∷ []) (omega (arith, l)) in
+      ap (λ xs. drop from (each_below f middle) ++ xs) late
+      ∙ (sym (append_assoc (drop from (each_below f middle)) (drop middle (each_below f n)) (f n ∷ []))
+      ∙ (ap (λ xs. xs ++ f n ∷ []) (each_from_append f from middle n h p) ∙ sym early))
+]
 
 pub sum_by_nets : (f : Net → ℕ) (net : ℕ → Net) (n : ℕ) → sum_by f (each_below net n) ≡ sum_to (λ i. f (net i)) n
 unfolding sum_to

@@ -1,17 +1,22 @@
 //! The generated design of a number and a count of nets.
 
-ghost use Rattle.std.specs.Prelude.{◌≡◌, ◌<◌, IfOk};
+ghost use Rattle.std.specs.Prelude.{◌≡◌, ℕ, ◌<◌, ◌≤◌, None, List, [], ◌∷◌, drop, IfOk};
+ghost use Rattle.std.specs.Thread.{IsSync};
+ghost use Rattle.xt_model.specs.Parts.{classical_parts};
 ghost use Rattle.xt_model.specs.Sound.{IsSound};
+ghost use Rattle.xt_model.specs.Levels.{IsLoop};
 ghost use Rattle.design_gen.specs.Laws.{IsCount};
 ghost use Rattle.design_gen.specs.Lists.{each_below};
-ghost use Rattle.design_gen.specs.Generated.{generated, generated_net};
+ghost use Rattle.design_gen.specs.Generated.{delays, slews, generated, generated_net};
 
 use crate::arcs::arcs;
 use crate::drawn::Drawn;
 use crate::drivers::sources;
 use crate::nets::{couplings_of, net_name, sinks};
+use crate::shares::{joined, part};
 use crate::tables::tables;
 use std::alloc::{AllocError, Global};
+use std::thread::{Threads, join};
 use xt_model::{BuildFault, Design, GivenPair, Net, NoMemory, Row};
 
 /// The net of this number.
@@ -35,17 +40,93 @@ fn net(alloc: Global, drawn: &Drawn, number: u32) -> Result<Net, AllocError>
     })
 }
 
+/// The nets from number `from` to before number `to`.
+fn nets_within(alloc: Global, drawn: &Drawn, from: u32, to: u32) -> Result<Vec<Net>, AllocError>
+    requires order { from ≤ to }
+    requires end { to ≤ drawn.now.nets }
+    ensures { IfOk result (λ nets.
+        nets.items ≡ drop from (each_below (generated_net drawn.now.number drawn.now.nets) to)) }
+{
+    let mut nets = Vec::with_capacity(alloc, (to - from) as usize)?;
+    for i in from..to {
+        nets.push(net(alloc, drawn, i)?)?;
+    }
+    Ok(nets)
+}
+
+/// The nets from number `from` to before number `to`, a share of them made by each of this many threads.
+fn nets_by<R: Threads + Sync>(
+    rt: &R,
+    alloc: Global,
+    drawn: &Drawn,
+    from: u32,
+    to: u32,
+    shares: u32,
+) -> Result<Vec<Net>, AllocError>
+    requires order { from ≤ to }
+    requires end { to ≤ drawn.now.nets }
+    ensures { IfOk result (λ nets.
+        nets.items ≡ drop from (each_below (generated_net drawn.now.number drawn.now.nets) to)) }
+{
+    if shares <= 1 {
+        return nets_within(alloc, drawn, from, to);
+    }
+    let some = shares / 2;
+    let rest = shares - some;
+    let middle = from + part(to - from, some, shares);
+    let (left, right) = join(
+        rt,
+        move || -> Result<Vec<Net>, AllocError>
+            requires { IsSync R.row × (from ≤ middle) × (middle ≤ drawn.now.nets) }
+            ensures { IfOk result (λ nets. nets.items
+                ≡ drop from (each_below (generated_net drawn.entry.now.number drawn.entry.now.nets) middle)) }
+        { nets_by(rt, alloc, drawn, from, middle, some) },
+        move || -> Result<Vec<Net>, AllocError>
+            requires { IsSync R.row × (middle ≤ to) × (to ≤ drawn.now.nets) }
+            ensures { IfOk result (λ nets. nets.items
+                ≡ drop middle (each_below (generated_net drawn.entry.now.number drawn.entry.now.nets) to)) }
+        { nets_by(rt, alloc, drawn, middle, to, rest) },
+    );
+    joined(left, right)
+}
+
+/// The design of these nets, with the tables that every generated design has.
+fn with_nets(alloc: Global, nets: Vec<Net>) -> Result<Design, NoMemory>
+    requires sound { IsSound (classical_parts None (delays ∷ slews ∷ []) nets.items []) }
+    requires acyclic { (path : List ℕ) → IsLoop nets.items path → ⊥ }
+    ensures design { IfOk result (λ d. d ≡ classical_parts None (delays ∷ slews ∷ []) nets.items []) }
+    ensures sound { IfOk result IsSound }
+{
+    let tables = tables(alloc)?;
+    match Design::new(alloc, None, tables, nets, Vec::new(alloc)) {
+        Ok(design) => Ok(design),
+        Err(BuildFault::NoMemory) => Err(NoMemory),
+        Err(BuildFault::Loop(_)) => unreachable!(),
+    }
+}
+
 /// All nets of the design.
 fn all_nets(alloc: Global, number: u64, count: u32) -> Result<Vec<Net>, AllocError>
     requires { IsCount count }
     ensures { IfOk result (λ nets. nets.items ≡ each_below (generated_net number count) count) }
 {
     let drawn = Drawn::new(alloc, number, count)?;
-    let mut nets = Vec::with_capacity(alloc, count as usize)?;
-    for i in 0..count {
-        nets.push(net(alloc, &drawn, i)?)?;
-    }
-    Ok(nets)
+    nets_within(alloc, &drawn, 0, count)
+}
+
+/// All nets of the design, a share of them by each of this many threads.
+fn all_nets_by<R: Threads + Sync>(
+    rt: &R,
+    alloc: Global,
+    number: u64,
+    count: u32,
+    shares: u32,
+) -> Result<Vec<Net>, AllocError>
+    requires { IsCount count }
+    ensures { IfOk result (λ nets. nets.items ≡ each_below (generated_net number count) count) }
+{
+    let drawn = Drawn::new(alloc, number, count)?;
+    nets_by(rt, alloc, &drawn, 0, count, shares)
 }
 
 /// The design of this number and of 1 to 100,000 nets: a tenth of them sources with drawn windows, the others
@@ -56,11 +137,22 @@ pub fn generate(alloc: Global, number: u64, nets: u32) -> Result<Design, NoMemor
     ensures design { IfOk result (λ d. d ≡ generated number nets) }
     ensures sound { IfOk result IsSound }
 {
-    let tables = tables(alloc)?;
     let nets = all_nets(alloc, number, nets)?;
-    match Design::new(alloc, None, tables, nets, Vec::new(alloc)) {
-        Ok(design) => Ok(design),
-        Err(BuildFault::NoMemory) => Err(NoMemory),
-        Err(BuildFault::Loop(_)) => unreachable!(),
-    }
+    with_nets(alloc, nets)
+}
+
+/// The design that [`generate`] gives, with its nets made by this many threads, each a share of them.
+pub fn generate_by<R: Threads + Sync>(
+    rt: &R,
+    alloc: Global,
+    number: u64,
+    nets: u32,
+    workers: u32,
+) -> Result<Design, NoMemory>
+    requires { IsCount nets }
+    ensures design { IfOk result (λ d. d ≡ generated number nets) }
+    ensures sound { IfOk result IsSound }
+{
+    let nets = all_nets_by(rt, alloc, number, nets, workers)?;
+    with_nets(alloc, nets)
 }

@@ -10,8 +10,10 @@ mod given;
 mod laws;
 mod nets;
 mod rows;
+mod shares;
 mod sinks;
 mod tables;
 
-pub use design::generate;
+pub use design::{generate, generate_by};
 pub use laws::{generated_is_sound, generated_makes_no_loop};
+pub use shares::drop_design;
