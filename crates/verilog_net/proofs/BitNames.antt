@@ -1,15 +1,15 @@
 -- The names of bits: bit k of a bus `a` has the name `a[k]`, in which its bus and its number are found.
-use Rattle.std.specs.Prelude.{◌≡◌, refl, ℕ, suc, ◌+◌, ◌-◌, ◌*◌, ◌/◌, ◌%◌, ◌<◌, ◌≤◌, ◌^◌, nat_le, ◌==◌, Bool, true, false, [], ◌∷◌, ◌++◌, length, decimal}
-use Rattle.std.specs.Prelude.{Option, Some, None, if◌then◌else◌}
+use Rattle.std.specs.Prelude.{◌≡◌, refl, ℕ, suc, ◌+◌, ◌-◌, ◌*◌, ◌/◌, ◌%◌, ◌<◌, ◌≤◌, ◌^◌, nat_le, ◌==◌, true, [], ◌∷◌, ◌++◌, length, decimal}
+use Rattle.std.specs.Prelude.{Option, Some, None}
 use Rattle.std.specs.List.{AllByRecursion}
 use Rattle.std.specs.Str.{bytes_eq}
 use Rattle.std.proofs.Common.{arith, sym, ap, ◌∙◌, append_assoc}
-use Rattle.std.proofs.lemmas.Bool.{le-leb, leb-true}
+use Rattle.std.proofs.lemmas.Bool.{cond_both, le-leb, leb-true}
 use Rattle.std.proofs.lemmas.Fmt.{decimal_by_steps}
 use Rattle.std.proofs.lemmas.List.{length_push, get_or_push, take_at, append_cancel_right}
 use Rattle.std.proofs.lemmas.Slice.Eq.{bytes_eq-Decides}
 use Rattle.name_numbers.specs.Names.{Text}
-use Rattle.verilog_net.specs.Nets.{most_bit, value_after, number_of, written, closed_number, bit_here, bit_from}
+use Rattle.verilog_net.specs.Nets.{most_bit, value_after, number_of, written, closed_number, bit_from}
 
 -- what is after the name of the bus
 abbrev pub tail : ℕ → Text
@@ -55,45 +55,35 @@ closed_is xs =
 number_is : (k : ℕ) → k ≤ most_bit → number_of (decimal k) ≡ Some k
 number_is k h = rw (value_is k h, le-leb k most_bit h) refl
 
-written_is : (k : ℕ) → k ≤ most_bit → written (decimal k) (number_of (decimal k)) ≡ Some k
-written_is k h = rw (number_is k h, (bytes_eq-Decides (decimal k) (decimal k)).1 refl) refl
-
-pub closed_some : (k : ℕ) → k ≤ most_bit → closed_number (decimal k ++ 93 ∷ []) ≡ Some k
-closed_some k h = closed_is (decimal k) ∙ written_is k h
+closed_some : (k : ℕ) → k ≤ most_bit → closed_number (decimal k ++ 93 ∷ []) ≡ Some k
+closed_some k h = closed_is (decimal k) ∙ rw (number_is k h, (bytes_eq-Decides (decimal k) (decimal k)).1 refl) refl
 
 module _ (pre post : Text) where
   abbrev cut : Text
   cut = pre ++ 91 ∷ post
 
-  digits_by : (v : ℕ) (b : Bool) → v ≤ most_bit → bytes_eq (decimal v) cut ≡ b → (if b then Some v else None) ≡ None
-  digits_by v false le e = refl
-  digits_by v true le e =
-      let same : decimal v ≡ cut = (bytes_eq-Decides (decimal v) cut).0 e in
-      absurd (bracket_within pre post (rw same at (digits_plain v le)))
-
-  number_by : (b : Bool) → nat_le (value_after 0 cut) most_bit ≡ b → written cut (if b then Some (value_after 0 cut) else None) ≡ None
-  number_by false e = refl
-  number_by true e = digits_by (value_after 0 cut) (bytes_eq (decimal (value_after 0 cut)) cut) (leb-true (value_after 0 cut) most_bit e) refl
+  -- no number is written so
+  other_digits : (v : ℕ) → v ≤ most_bit → bytes_eq (decimal v) cut ≡ true → ⊥
+  other_digits v le e = bracket_within pre post (rw ((bytes_eq-Decides (decimal v) cut).0 e) at (digits_plain v le))
 
   written_none : written cut (number_of cut) ≡ None
-  written_none = number_by (nat_le (value_after 0 cut) most_bit) refl
+  written_none =
+      let v = value_after 0 cut in
+      cond_both (nat_le v most_bit) (Some v) None (λ o. written cut o ≡ None) (λ le.
+      cond_both (bytes_eq (decimal v) cut) (Some v) None (λ o. o ≡ None)
+      (λ e. absurd (other_digits v (leb-true v most_bit le) e)) (λ e. refl)) (λ e. refl)
 
 closed_none : (pre : Text) (k : ℕ) → closed_number (pre ++ tail k) ≡ None
 closed_none pre k =
     ap closed_number (sym (append_assoc pre (91 ∷ decimal k) (93 ∷ []))) ∙ (closed_is (pre ++ 91 ∷ decimal k) ∙ written_none pre (decimal k))
 
 -- ---- the bus and the bit of a name
-here_by : (at b k : ℕ) (name : Text) (is : Bool)
-    → bit_from (at + 1) (name ++ tail k) ≡ Some (at + suc (length name), k)
-    → (if is then bit_here at (closed_number (name ++ tail k)) (bit_from (at + 1) (name ++ tail k)) else bit_from (at + 1) (name ++ tail k))
-    ≡ Some (at + suc (length name), k)
-here_by at b k name false h = h
-here_by at b k name true h = rw (closed_none name k) h
-
-pub bit_from_name : (at k : ℕ) (name : Text) → k ≤ most_bit → bit_from at (name ++ tail k) ≡ Some (at + length name, k)
+bit_from_name : (at k : ℕ) (name : Text) → k ≤ most_bit → bit_from at (name ++ tail k) ≡ Some (at + length name, k)
 bit_from_name at k [] h = rw (closed_some k h) (ap (λ p. Some (p, k)) (omega arith))
 bit_from_name at k (b ∷ name) h =
-    here_by at b k name (b == 91) (bit_from_name (at + 1) k name h ∙ ap (λ p. Some (p, k)) (omega arith))
+    let further : bit_from (at + 1) (name ++ tail k) ≡ Some (at + suc (length name), k) =
+    bit_from_name (at + 1) k name h ∙ ap (λ p. Some (p, k)) (omega arith) in
+    cond_both (b == 91) _ _ (λ o. o ≡ Some (at + suc (length name), k)) (λ e. rw (closed_none name k) further) (λ e. further)
 
 pub found_bit : (k : ℕ) (name : Text) → k ≤ most_bit → bit_from 0 (name ++ tail k) ≡ Some (length name, k)
 found_bit k name h = bit_from_name 0 k name h ∙ ap (λ p. Some (p, k)) (omega arith)
@@ -110,8 +100,3 @@ pub same_bus : (a b : Text) (j k : ℕ) → j ≤ most_bit → k ≤ most_bit �
 same_bus a b j k hj hk e =
     let number : j ≡ k = pair_of (length a) j (length b) k (sym (found_bit j a hj) ∙ (ap (bit_from 0) e ∙ found_bit k b hk)) in
     append_cancel_right a b (tail k) (ap (λ m. a ++ tail m) (sym number) ∙ e)
-
--- a bit has another name than its bus
-pub longer : (name : Text) (k : ℕ) → name ≡ name ++ tail k → ⊥
-longer [] k e = absurd (cc)
-longer (b ∷ name) k e = longer name k (cc)

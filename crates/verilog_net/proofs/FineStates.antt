@@ -1,17 +1,16 @@
 -- What each form of a netlist leaves true of the state.
-use Rattle.std.specs.Prelude.{◌≡◌, refl, ℕ, ◌≤◌, nat_le, Bool, true, false, List, [], ◌∷◌, ◌++◌, length}
-use Rattle.std.specs.Prelude.{Option, Some, None, Result, Ok, Err, if◌then◌else◌}
-use Rattle.std.specs.List.{AllByRecursion}
+use Rattle.std.specs.Prelude.{◌≡◌, refl, ℕ, ◌≤◌, nat_le, ◌==◌, ◌&&◌, not, Bool, true, false, List, [], length}
+use Rattle.std.specs.Prelude.{Option, Some, None, IfSome, Ok, Err, IfOk}
+use Rattle.std.specs.List.{AllByRecursion, list_all}
 use Rattle.std.proofs.Common.{arith, subst}
-use Rattle.std.proofs.lemmas.Bool.{leb-true}
+use Rattle.std.proofs.lemmas.Bool.{cond_both, leb-true}
 use Rattle.std.proofs.lemmas.List.Elements.{All-from_recursion}
-use Rattle.name_numbers.specs.Names.{Text, found}
-use Rattle.xt_model.specs.declared.code.Code.{Code}
-use Rattle.xt_model.specs.declared.code.Code.TheVariants.{V3, V4}
+use Rattle.name_numbers.specs.Names.{Text, found, has_name}
+use Rattle.xt_model.specs.declared.code.Code.TheVariants.{V3, V4, V5, V6}
 use Rattle.text_forms.specs.Names.{is_name, IsShortName}
 use Rattle.text_forms.proofs.Bytes.{each_push, each-weaker}
 use Rattle.text_forms.proofs.NameLaws.{short_name}
-use Rattle.text_forms.proofs.Kept.{kept, kept_if, kept_unless}
+use Rattle.text_forms.proofs.Kept.{passed_if, passed_unless}
 use Rattle.verilog_net.specs.declared.netlist.Net.{Net}
 use Rattle.verilog_net.specs.declared.netlist.Netlist.{Netlist}
 use Rattle.verilog_net.specs.declared.netlist.Instance.{Instance}
@@ -19,7 +18,7 @@ use Rattle.verilog_net.specs.declared.netlist.Wire.{Wire}
 use Rattle.verilog_net.specs.declared.netlist.Wire.TheVariants as wires
 use Rattle.verilog_net.specs.declared.netlist.PortRole.{PortRole}
 use Rattle.verilog_net.specs.declared.netlist.PortRole.TheVariants as roles
-use Rattle.verilog_net.specs.Nets.{Nets, NetBit, most_bit, value_after, number_of, named_bit, joined_role, BitNets, has_bit_net}
+use Rattle.verilog_net.specs.Nets.{Nets, NetBit, most_bit, value_after, number_of, has_bit, named_bit, same_range, joined_role, is_port, BitNets, has_bit_net}
 use Rattle.verilog_net.specs.Meaning.{State, nothing, begin_module, name_module, netlist_of, end_module, with_further, declare_again, declare_new}
 use Rattle.verilog_net.specs.Meaning.{declare_as, declare, left_as, left_bound, right_as, right_bound, begin_further, begin_pin, connect}
 use Rattle.verilog_net.specs.Meaning.{connect_new, connect_found, connect_as, connect_name, connect_within, connect_bit_as, connect_bit, instance_of, end_instance}
@@ -58,19 +57,19 @@ IsFine s = AreFineParts s.ended s.nets s.bit_nets s.instances s.left s.range s.p
 -- ---- what is true in some contexts
 
 -- no module is being read
-abbrev pub IsOutsideModule : State → Type 0
-IsOutsideModule s = s.nets ≡ []
+abbrev pub Outside : State → Type 0
+Outside s = IsFine s × (s.nets ≡ [])
 
 -- an instance is being read
 abbrev pub IsInInstance : State → Type 0
 IsInInstance s = IsNamed s.cell × IsNamed s.instance
 
--- a pin of an instance is being read
-abbrev pub IsInPin : State → Type 0
-IsInPin s = IsNamed s.cell × IsNamed s.instance × IsNamed s.pin
-
 abbrev pub Instanced : State → Type 0
 Instanced s = IsFine s × IsInInstance s
+
+-- a pin of an instance is being read
+abbrev pub InPin : State → Type 0
+InPin s = Instanced s × IsNamed s.pin
 
 no_range : IsBounded None
 no_range r e = absurd (cc)
@@ -79,164 +78,143 @@ pub nothing_fine : (single : Bool) → IsFine (nothing single)
 nothing_fine single = record { ended = tt; nets = none_fine []; instances = tt; left = omega arith; range = no_range; pins = tt }
 
 -- ---- modules
-module _ (s s' : State) (h : IsFine s) where
-  pub begin_module_fine : begin_module s ≡ Ok s' → IsOutsideModule s → IsFine s' × IsOutsideModule s'
+module _ (s : State) (h : IsFine s) where
+  pub begin_module_fine : s.nets ≡ [] → IfOk (begin_module s) Outside
   unfolding begin_module
-  begin_module_fine e none = kept_unless (λ x. IsFine x × IsOutsideModule x) _ _ e (h, none)
+  begin_module_fine none = passed_unless Outside (s.single && not (length s.ended == 0)) V3 (h, none)
 
-  pub name_module_fine : (name : Text) → IsOutsideModule s → name_module name s ≡ Ok s' → IsFine s'
+  pub name_module_fine : (name : Text) → s.nets ≡ [] → IfOk (name_module name s) IsFine
   unfolding name_module
-  name_module_fine name none e =
-      kept_unless IsFine _ _ e (fine_of h.ended (rw none (none_fine [])) h.instances h.left h.range h.pins)
+  name_module_fine name none =
+      passed_unless IsFine (has_name name s.modules) V5 (fine_of h.ended (rw none (none_fine [])) h.instances h.left h.range h.pins)
 
-  abbrev closed : State
-  closed = record s { ended = s.ended ++ netlist_of s ∷ []; nets = []; instances = [] }
-
-  pub end_module_fine : end_module s ≡ Ok s' → IsFine s' × IsOutsideModule s'
+  pub end_module_fine : IfOk (end_module s) Outside
   unfolding end_module
-  end_module_fine e =
+  end_module_fine =
       let whole : IsFineModule (netlist_of s) = record { nets = (s.bit_nets, h.nets); instances = h.instances } in
       let ended = each_push IsFineModule s.ended (netlist_of s) h.ended whole in
-      let fine : IsFine closed = fine_of ended (none_fine s.bit_nets) tt h.left h.range h.pins in
-      kept_if (λ x. IsFine x × IsOutsideModule x) _ _ e (fine, refl)
+      passed_if Outside (list_all (λ name. is_port name s.nets) s.header) V4 (fine_of ended (none_fine s.bit_nets) tt h.left h.range h.pins, refl)
 
--- ---- declarations
-module _ (s : State) (h : IsFine s) (s' : State) where
+  -- ---- declarations
+
   -- other nets
   netted : {nets : Nets} {named : BitNets} → AreFine (shapes nets) named → IsFine (record s { nets = nets; bit_nets = named })
   netted nets = fine_of h.ended nets h.instances h.left h.range h.pins
 
   declared_again : (name : Text) (net : ℕ × Net) (role : Option PortRole) → found name s.nets ≡ Some net
-      → declare_again name s net.1 role ≡ Ok s' → IsFine s'
-  declared_again name net None at e = absurd (cc)
-  declared_again name net (Some role) at e =
+      → IfOk (declare_again name s net.1 role) IsFine
+  declared_again name net None at = tt
+  declared_again name net (Some role) at =
       let v : Net = record { range = net.1.range; role = role; declared = true } in
-      kept_if IsFine _ _ e (netted (again_fine name v s.nets s.bit_nets h.nets net at refl))
-
-  new_by : (name : Text) (b : Bool) → IsNamed name → found name s.nets ≡ None → named_bit name s.nets ≡ None
-      → has_bit_net name s.range s.bit_nets ≡ b
-      → (if b then Err V3 else Ok (with_further name (record { range = s.range; role = s.role; declared = true }) s)) ≡ Ok s' → IsFine s'
-  new_by name true is at none free e = absurd (cc)
-  new_by name false is at none free e =
-      let v : Net = record { range = s.range; role = s.role; declared = true } in
-      kept IsFine e (netted (further_fine name v s.nets s.bit_nets h.nets is h.range at none free))
+      passed_if IsFine (same_range net.1.range s.range) V3 (netted (again_fine name v s.nets s.bit_nets h.nets net at refl))
 
   declared_new : (name : Text) (o : Option NetBit) → IsNamed name → found name s.nets ≡ None → named_bit name s.nets ≡ o
-      → declare_new name s o ≡ Ok s' → IsFine s'
-  declared_new name (Some bit) is at none e = absurd (cc)
-  declared_new name None is at none e = new_by name (has_bit_net name s.range s.bit_nets) is at none refl e
+      → IfOk (declare_new name s o) IsFine
+  declared_new name (Some bit) is at none = tt
+  declared_new name None is at none =
+      let v : Net = record { range = s.range; role = s.role; declared = true } in
+      cond_both (has_bit_net name s.range s.bit_nets) (Err V3) (Ok (with_further name v s)) (λ r. IfOk r IsFine) (λ e. tt)
+      (λ free. netted (further_fine name v s.nets s.bit_nets h.nets is h.range at none free))
 
-  declared_by : (name : Text) (o : Option (ℕ × Net)) → IsNamed name → found name s.nets ≡ o → declare_as name s o ≡ Ok s' → IsFine s'
-  declared_by name (Some net) is at e = declared_again name net (joined_role net.1.role s.role) at e
-  declared_by name None is at e = declared_new name (named_bit name s.nets) is at refl e
+  declared_by : (name : Text) (o : Option (ℕ × Net)) → IsNamed name → found name s.nets ≡ o → IfOk (declare_as name s o) IsFine
+  declared_by name (Some net) is at = declared_again name net (joined_role net.1.role s.role) at
+  declared_by name None is at = declared_new name (named_bit name s.nets) is at refl
 
-  pub declare_fine : (name : Text) → IsNamed name → declare name s ≡ Ok s' → IsFine s'
+  pub declare_fine : (name : Text) → IsNamed name → IfOk (declare name s) IsFine
   unfolding declare
-  declare_fine name is e = declared_by name (found name s.nets) is refl e
+  declare_fine name is = declared_by name (found name s.nets) is refl
 
   -- ---- bounds
-  bit_most : (n : ℕ) (b : Bool) (m : ℕ) → nat_le n most_bit ≡ b → (if b then Some n else None) ≡ Some m → m ≤ most_bit
-  bit_most n false m le e = absurd (cc)
-  bit_most n true m le e = let same : n ≡ m = cc in rw same at (leb-true n most_bit le)
+  number_most : (digits : Text) → IfSome (number_of digits) (λ m. m ≤ most_bit)
+  number_most digits =
+      let v = value_after 0 digits in
+      cond_both (nat_le v most_bit) (Some v) None (λ o. IfSome o (λ m. m ≤ most_bit)) (λ e. leb-true v most_bit e) (λ e. tt)
 
-  number_most : (digits : Text) (m : ℕ) → number_of digits ≡ Some m → m ≤ most_bit
-  number_most digits m e = bit_most (value_after 0 digits) (nat_le (value_after 0 digits) most_bit) m refl e
-
-  left_by : (role : PortRole) (o : Option ℕ) → ((m : ℕ) → o ≡ Some m → m ≤ most_bit) → left_as role s o ≡ Ok s' → IsFine s'
-  left_by role None most e = absurd (cc)
-  left_by role (Some left) most e = kept IsFine e (fine_of h.ended h.nets h.instances (most left refl) h.range h.pins)
-
-  pub left_bound_fine : (role : PortRole) (digits : Text) → left_bound role digits s ≡ Ok s' → IsFine s'
+  pub left_bound_fine : (role : PortRole) (digits : Text) → IfOk (left_bound role digits s) IsFine
   unfolding left_bound
-  left_bound_fine role digits e = left_by role (number_of digits) (number_most digits) e
+  left_bound_fine role digits =
+      (elim (number_of digits) as (λ o. IfSome o (λ m. m ≤ most_bit) → IfOk (left_as role s o) IsFine)
+      [ None ↦ λ most. tt | Some left ↦ λ most. fine_of h.ended h.nets h.instances most h.range h.pins ]) (number_most digits)
 
   bounds : (left right : ℕ) → left ≤ most_bit → right ≤ most_bit → IsBounded (Some (left, right))
   bounds left right l m r e =
       let same : ◌≡◌ {A = ℕ × ℕ} (left, right) r = cc in subst (λ x. (x.0 ≤ most_bit) × (x.1 ≤ most_bit)) same (l, m)
 
-  right_by : (o : Option ℕ) → ((m : ℕ) → o ≡ Some m → m ≤ most_bit) → right_as s o ≡ Ok s' → IsFine s'
-  right_by None most e = absurd (cc)
-  right_by (Some right) most e =
-      kept IsFine e (fine_of h.ended h.nets h.instances h.left (bounds s.left right h.left (most right refl)) h.pins)
-
-  pub right_bound_fine : (digits : Text) → right_bound digits s ≡ Ok s' → IsFine s'
+  pub right_bound_fine : (digits : Text) → IfOk (right_bound digits s) IsFine
   unfolding right_bound
-  right_bound_fine digits e = right_by (number_of digits) (number_most digits) e
+  right_bound_fine digits =
+      (elim (number_of digits) as (λ o. IfSome o (λ m. m ≤ most_bit) → IfOk (right_as s o) IsFine)
+      [ None ↦ λ most. tt | Some right ↦ λ most. fine_of h.ended h.nets h.instances h.left (bounds s.left right h.left most) h.pins ]) (number_most digits)
 
 -- a name that is declared without a range
 pub scalar_fine : (s : State) → IsFine s → (role : PortRole) → IsFine (record s { role = role; range = None })
 scalar_fine s h role = fine_of h.ended h.nets h.instances h.left no_range h.pins
 
 -- ---- instances
-module _ (s : State) (h : IsFine s) (s' : State) where
-  pub further_instance : (name : Text) (line : ℕ) → IsNamed s.cell → IsNamed name → begin_further name line s ≡ Ok s' → Instanced s'
-  unfolding begin_further
-  further_instance name line cell is e = kept_unless Instanced _ _ e (h, (cell, is))
+pub further_instance : (s : State) → IsFine s → (name : Text) (line : ℕ) → IsNamed s.cell → IsNamed name → IfOk (begin_further name line s) Instanced
+unfolding begin_further
+further_instance s h name line cell is = passed_unless Instanced (has_name name s.instance_names) V5 (h, (cell, is))
 
-  pub begin_pin_fine : (name : Text) → IsInInstance s → IsNamed name → begin_pin name s ≡ Ok s' → IsFine s' × IsInPin s'
-  unfolding begin_pin
-  begin_pin_fine name i is e = kept_unless (λ x. IsFine x × IsInPin x) _ _ e (h, (i.0, i.1, is))
+pub begin_pin_fine : (s : State) → Instanced s → (name : Text) → IsNamed name → IfOk (begin_pin name s) InPin
+unfolding begin_pin
+begin_pin_fine s h name is = passed_unless InPin (has_name name s.pin_names) V5 (h, is)
 
-  -- ---- what a pin is connected to
-  connected : (wire : Wire) → IsInPin s → Instanced (connect wire s)
-  connected wire i =
-      let pins = each_push (λ p. IsNamed p.0) s.pins (s.pin, wire) h.pins i.2 in
-      (fine_of h.ended h.nets h.instances h.left h.range pins, (i.0, i.1))
+-- what a pin is connected to
+module _ (s : State) (h : InPin s) where
+  pub connected : (wire : Wire) → Instanced (connect wire s)
+  connected wire =
+      let fine = h.0.0 in
+      let pins = each_push (λ p. IsNamed p.0) s.pins (s.pin, wire) fine.pins h.1 in
+      (fine_of fine.ended fine.nets fine.instances fine.left fine.range pins, h.0.1)
 
-  pub connect_fine : (wire : Wire) → IsInPin s → ◌≡◌ {A = Result State Code} (Ok (connect wire s)) (Ok s') → Instanced s'
-  connect_fine wire i e = kept Instanced e (connected wire i)
+  connected_within : (decl : ℕ) (range : Option (ℕ × ℕ)) (bit : Option ℕ) → IfOk (connect_within decl s range bit) Instanced
+  connected_within decl (Some range) (Some bit) = passed_if Instanced (has_bit range bit) V6 (connected (wires.Bit decl bit))
+  connected_within decl _ _ = tt
 
-  connected_within : (decl : ℕ) (range : Option (ℕ × ℕ)) (bit : Option ℕ) → IsInPin s → connect_within decl s range bit ≡ Ok s' → Instanced s'
-  connected_within decl (Some range) (Some bit) i e = kept_if Instanced _ _ e (connected (wires.Bit decl bit) i)
-  connected_within decl (Some range) None i e = absurd (cc)
-  connected_within decl None bit i e = absurd (cc)
+  bit_found : (digits : Text) (o : Option (ℕ × Net)) → IfOk (connect_bit_as digits s o) Instanced
+  bit_found digits None = tt
+  bit_found digits (Some net) =
+      cond_both net.1.declared (connect_within net.0 s net.1.range (number_of digits)) (Err V4) (λ r. IfOk r Instanced)
+      (λ e. connected_within net.0 net.1.range (number_of digits)) (λ e. tt)
 
-  bit_by : (digits : Text) (net : ℕ × Net) (b : Bool) → IsInPin s
-      → (if b then connect_within net.0 s net.1.range (number_of digits) else Err V4) ≡ Ok s' → Instanced s'
-  bit_by digits net false i e = absurd (cc)
-  bit_by digits net true i e = connected_within net.0 net.1.range (number_of digits) i e
-
-  bit_found : (digits : Text) (o : Option (ℕ × Net)) → IsInPin s → connect_bit_as digits s o ≡ Ok s' → Instanced s'
-  bit_found digits None i e = absurd (cc)
-  bit_found digits (Some net) i e = bit_by digits net net.1.declared i e
-
-  pub connect_bit_fine : (name digits : Text) → IsInPin s → connect_bit name digits s ≡ Ok s' → Instanced s'
+  pub connect_bit_fine : (name digits : Text) → IfOk (connect_bit name digits s) Instanced
   unfolding connect_bit
-  connect_bit_fine name digits i e = bit_found digits (found name s.nets) i e
+  connect_bit_fine name digits = bit_found digits (found name s.nets)
 
-  found_by : (decl : ℕ) (range : Option (ℕ × ℕ)) → IsInPin s → connect_found decl s range ≡ Ok s' → Instanced s'
-  found_by decl None i e = connect_fine (wires.Bit decl 0) i e
-  found_by decl (Some range) i e = kept_unless Instanced _ _ e (connected (wires.Whole decl) i)
+  found_by : (decl : ℕ) (range : Option (ℕ × ℕ)) → IfOk (connect_found decl s range) Instanced
+  found_by decl None = connected (wires.Bit decl 0)
+  found_by decl (Some range) = passed_unless Instanced s.single V3 (connected (wires.Whole decl))
 
--- a pin on a net that has not been named before
-module _ (s : State) (h : IsFine s) (s' : State) where
-  no_bits : (name : Text) → has_bit_net name None s.bit_nets ≡ false
+-- a pin on a net that may not have been named before
+module _ (s : State) (h : InPin s) (name : Text) (is : IsNamed name) where
+  no_bits : has_bit_net name None s.bit_nets ≡ false
   unfolding has_bit_net
-  no_bits name = refl
+  no_bits = refl
 
-  used_by : (name : Text) (o : Option NetBit) → IsNamed name → IsInPin s → found name s.nets ≡ None → named_bit name s.nets ≡ o
-      → ◌≡◌ {A = Result State Code} (Ok (connect_new name s o)) (Ok s') → Instanced s'
-  used_by name (Some bit) is i at none e = connect_fine s h s' (wires.Bit bit.0 bit.1) i e
-  used_by name None is i at none e =
+  used_by : (o : Option NetBit) → found name s.nets ≡ None → named_bit name s.nets ≡ o → Instanced (connect_new name s o)
+  used_by (Some bit) at none = connected s h (wires.Bit bit.0 bit.1)
+  used_by None at none =
+      let fine = h.0.0 in
       let v : Net = record { range = None; role = roles.Inner; declared = false } in
-      let nets = further_fine name v s.nets s.bit_nets h.nets is no_range at none (no_bits name) in
-      let used : IsFine (with_further name v s) = fine_of h.ended nets h.instances h.left h.range h.pins in
-      connect_fine (with_further name v s) used s' (wires.Bit (length s.nets) 0) i e
+      let nets = further_fine name v s.nets s.bit_nets fine.nets is no_range at none no_bits in
+      let used : IsFine (with_further name v s) = fine_of fine.ended nets fine.instances fine.left fine.range fine.pins in
+      connected (with_further name v s) ((used, h.0.1), h.1) (wires.Bit (length s.nets) 0)
 
-  name_by : (name : Text) (o : Option (ℕ × Net)) → IsNamed name → IsInPin s → found name s.nets ≡ o → connect_as name s o ≡ Ok s' → Instanced s'
-  name_by name (Some net) is i at e = found_by s h s' net.0 net.1.range i e
-  name_by name None is i at e = used_by name (named_bit name s.nets) is i at refl e
+  name_by : (o : Option (ℕ × Net)) → found name s.nets ≡ o → IfOk (connect_as name s o) Instanced
+  name_by (Some net) at = found_by s h net.0 net.1.range
+  name_by None at = used_by (named_bit name s.nets) at refl
 
-  pub connect_name_fine : (name : Text) → IsNamed name → IsInPin s → connect_name name s ≡ Ok s' → Instanced s'
+  pub connect_name_fine : IfOk (connect_name name s) Instanced
   unfolding connect_name
-  connect_name_fine name is i e = name_by name (found name s.nets) is i refl e
+  connect_name_fine = name_by (found name s.nets) refl
 
-  pub end_instance_fine : IsInInstance s → ◌≡◌ {A = Result State Code} (Ok (end_instance s)) (Ok s') → Instanced s'
-  end_instance_fine i e =
-      let whole : IsSoundInstance (instance_of s) = record {
-        cell = short_name s.cell i.0;
-        name = short_name s.instance i.1;
-        pins = All-from_recursion (λ p. IsShortName p.0) s.pins (each-weaker (λ p. IsNamed p.0) (λ p. IsShortName p.0) (λ p n. short_name p.0 n) s.pins h.pins);
-      } in
-      let instances = each_push IsSoundInstance s.instances (instance_of s) h.instances whole in
-      kept Instanced e (fine_of h.ended h.nets instances h.left h.range tt, i)
+pub end_instance_fine : (s : State) → Instanced s → Instanced (end_instance s)
+end_instance_fine s h =
+    let fine = h.0 in
+    let whole : IsSoundInstance (instance_of s) = record {
+      cell = short_name s.cell h.1.0;
+      name = short_name s.instance h.1.1;
+      pins = All-from_recursion (λ p. IsShortName p.0) s.pins (each-weaker (λ p. IsNamed p.0) (λ p. IsShortName p.0) (λ p n. short_name p.0 n) s.pins fine.pins);
+    } in
+    let instances = each_push IsSoundInstance s.instances (instance_of s) fine.instances whole in
+    (fine_of fine.ended fine.nets instances fine.left fine.range tt, h.1)

@@ -1,8 +1,9 @@
 -- Names that end with no `]`.
-use Rattle.std.specs.Prelude.{◌≡◌, refl, ℕ, suc, ◌+◌, ◌-◌, ◌==◌, Bool, true, false, [], ◌∷◌, length, slice_index, Option, None, if◌then◌else◌}
+use Rattle.std.specs.Prelude.{◌≡◌, refl, ℕ, suc, ◌+◌, ◌-◌, ◌==◌, false, [], ◌∷◌, length, slice_index, None}
 use Rattle.std.proofs.Common.{ap, sym, ◌∙◌, arith}
+use Rattle.std.proofs.lemmas.Bool.{cond_both}
 use Rattle.name_numbers.specs.Names.{Text}
-use Rattle.verilog_net.specs.Nets.{bit_from, bit_here, closed_number}
+use Rattle.verilog_net.specs.Nets.{bit_from, closed_number}
 
 -- the last of two bytes and more is that of all but the first
 last_of_rest : (b c : ℕ) (rest : Text)
@@ -15,15 +16,11 @@ last_of_rest b c rest =
 not_closed : (bytes : Text) → (slice_index bytes (length bytes - 1) == 93) ≡ false → closed_number bytes ≡ None
 not_closed bytes h = rw h refl
 
-none_of_two : (bracket : Bool) (at : ℕ) (here : Option ℕ) (further : Option (ℕ × ℕ)) → here ≡ None → further ≡ None
-    → (if bracket then bit_here at here further else further) ≡ None
-none_of_two true at here further h k = rw (h, k) refl
-none_of_two false at here further h k = k
-
 -- where the last byte is no `]` there is no bit's name
 pub no_bit : (at : ℕ) (name : Text) → (slice_index name (length name - 1) == 93) ≡ false → bit_from at name ≡ None
 no_bit at [] h = refl
-no_bit at (b ∷ []) h = none_of_two (b == 91) at (closed_number []) None refl refl
+no_bit at (b ∷ []) h = cond_both (b == 91) _ _ (λ o. o ≡ None) (λ e. refl) (λ e. refl)
 no_bit at (b ∷ c ∷ rest) h =
     let k : (slice_index (c ∷ rest) (length (c ∷ rest) - 1) == 93) ≡ false = ap (λ n. n == 93) (sym (last_of_rest b c rest)) ∙ h in
-    none_of_two (b == 91) at (closed_number (c ∷ rest)) (bit_from (at + 1) (c ∷ rest)) (not_closed (c ∷ rest) k) (no_bit (at + 1) (c ∷ rest) k)
+    let further = no_bit (at + 1) (c ∷ rest) k in
+    cond_both (b == 91) _ _ (λ o. o ≡ None) (λ e. rw (not_closed (c ∷ rest) k) further) (λ e. further)

@@ -1,5 +1,5 @@
 -- The names of a netlist's tokens are short names.
-use Rattle.std.specs.Prelude.{◌≡◌, refl, ℕ, Bool, true, false, List, [], ◌∷◌, drop, codes, if◌then◌else◌}
+use Rattle.std.specs.Prelude.{◌≡◌, refl, ℕ, true, false, List, [], ◌∷◌, drop, codes}
 use Rattle.std.specs.Char.{is_ascii_digit}
 use Rattle.std.specs.List.{AllByRecursion}
 use Rattle.std.specs.Str.{bytes_eq}
@@ -30,31 +30,15 @@ module _ (text : List ℕ) where
   abbrev As : Sort → Type 0
   As sort = IsNameAs text sort
 
-  pub name_as : As (name_sort text)
-  name_as = cond_both_eq (is_name text) refl
-    where
-      cond_both_eq : (b : Bool) → is_name text ≡ b → As (if b then sorts.Name else sorts.Other)
-      cond_both_eq true e h = e
-      cond_both_eq false e h = absurd (false≢true h)
-
-  abbrev from_unsupported : Sort
-  from_unsupported = if is_unsupported text then sorts.Unsupported else name_sort text
-
-  abbrev from_type : Sort
-  from_type = if is_net_type text then sorts.NetType else from_unsupported
-
-  abbrev from_direction : Sort
-  from_direction = if is_direction text then sorts.Direction else from_type
-
-  abbrev from_end : Sort
-  from_end = if bytes_eq text (codes "endmodule") then sorts.Endmodule else from_direction
+  name_as : As (name_sort text)
+  name_as = cond_both (is_name text) sorts.Name sorts.Other As (λ e h. e) (λ e h. absurd (false≢true h))
 
   letters_as : As (letters_sort text)
   letters_as =
-      cond_both (bytes_eq text (codes "module")) sorts.Module from_end As (λ e h. absurd (false≢true h)) (λ e.
-      cond_both (bytes_eq text (codes "endmodule")) sorts.Endmodule from_direction As (λ e h. absurd (false≢true h)) (λ e.
-      cond_both (is_direction text) sorts.Direction from_type As (λ e h. absurd (false≢true h)) (λ e.
-      cond_both (is_net_type text) sorts.NetType from_unsupported As (λ e h. absurd (false≢true h)) (λ e.
+      cond_both (bytes_eq text (codes "module")) _ _ As (λ e h. absurd (false≢true h)) (λ e.
+      cond_both (bytes_eq text (codes "endmodule")) _ _ As (λ e h. absurd (false≢true h)) (λ e.
+      cond_both (is_direction text) _ _ As (λ e h. absurd (false≢true h)) (λ e.
+      cond_both (is_net_type text) _ _ As (λ e h. absurd (false≢true h)) (λ e.
       cond_both (is_unsupported text) sorts.Unsupported (name_sort text) As (λ e h. absurd (false≢true h)) (λ e. name_as)))))
 
   digits_as : (more : List ℕ) → As (digits_sort more)

@@ -1,17 +1,18 @@
 -- No two nets of a netlist, and no two bits, have the same name.
-use Rattle.std.specs.Prelude.{◌≡◌, refl, ℕ, suc, ◌+◌, ◌≤◌, nat_le, nat_lt, ◌&&◌, ◌||◌, Bool, true, false, not, List, [], ◌∷◌, ◌++◌, length, take, map}
+use Rattle.std.specs.Prelude.{◌≡◌, refl, ℕ, suc, ◌+◌, ◌≤◌, nat_le, nat_lt, ◌&&◌, Bool, true, false, not, List, [], ◌∷◌, ◌++◌, length, take, map}
 use Rattle.std.specs.Prelude.{Option, Some, None, if◌then◌else◌}
 use Rattle.std.specs.List.{AllByRecursion, slice_get, position_or_len, list_any}
 use Rattle.std.specs.Str.{bytes_eq}
 use Rattle.std.proofs.Common.{arith, sym, ap, ◌∙◌, cond, ◌⊎◌, inl, inr}
 use Rattle.std.proofs.Math.Numerals.{one-add}
-use Rattle.std.proofs.lemmas.Bool.{lt-ltb, le-ltb, false≢true, false_from_ne_true, and_parts, or_cases, leb-true, cases_lt}
+use Rattle.std.proofs.lemmas.Bool.{cond_both, lt-ltb, le-ltb, cases_lt, false≢true, false_from_ne_true, and_parts, or_left, or_right, or_cases, leb-true}
 use Rattle.std.proofs.lemmas.List.{take_at}
 use Rattle.std.proofs.lemmas.Slice.Eq.{bytes_eq-Decides}
 use Rattle.xt_model.specs.Options.{◌>>=◌}
 use Rattle.name_numbers.specs.Names.{Text, found, value_of, with_value}
 use Rattle.verilog_net.specs.declared.netlist.Net.{Net}
 use Rattle.text_forms.specs.Names.{is_name}
+use Rattle.text_forms.proofs.Bytes.{each_push, each-weaker}
 use Rattle.verilog_net.specs.Nets.{Nets, most_bit, has_bit, named_bit, bit_from, BitNets, bit_nets_of, with_bit_net, with_net_at, with_net, has_bit_net}
 use Rattle.name_numbers.proofs.FoundLaws.{entry, entry_at}
 use Rattle.verilog_net.proofs.BitNames.{tail, found_bit}
@@ -40,14 +41,10 @@ module _ {X : Type 0} where
   has_last [] y = inl refl
   has_last (z ∷ xs) y = inr (has_last xs y)
 
-  any_by : (p : X → Bool) (b c : Bool) → (b || c) ≡ false → (b ≡ true → ⊥) × (c ≡ false)
-  any_by p true c e = absurd (false≢true (sym e))
-  any_by p false c e = ((λ h. false≢true h), e)
-
-  pub none_of : (p : X → Bool) (xs : List X) (x : X) → list_any p xs ≡ false → Has x xs → p x ≡ true → ⊥
-  none_of p [] x e h t = h
-  none_of p (y ∷ ys) x e (inl same) t = (any_by p (p y) (list_any p ys) e).0 (ap p same ∙ t)
-  none_of p (y ∷ ys) x e (inr h) t = none_of p ys x (any_by p (p y) (list_any p ys) e).1 h t
+  some_of : (p : X → Bool) (xs : List X) (x : X) → Has x xs → p x ≡ true → list_any p xs ≡ true
+  some_of p [] x h t = absurd h
+  some_of p (y ∷ ys) x (inl same) t = or_left (p y) (list_any p ys) (ap p same ∙ t)
+  some_of p (y ∷ ys) x (inr h) t = or_right (p y) (list_any p ys) (some_of p ys x h t)
 
 same_text : (a b : Text) → bytes_eq a b ≡ true → a ≡ b
 same_text a b e = (bytes_eq-Decides a b).0 e
@@ -69,12 +66,10 @@ module _ {V : Type 0} where
     later_at : (n : ℕ) → (slice_get (e ∷ more) (1 + n) >>= entry (1 + n)) ≡ later (slice_get more n >>= entry n)
     later_at n = ap (λ i. slice_get (e ∷ more) i >>= entry (1 + n)) (one-add n) ∙ later_got n (slice_get more n)
 
-    less_by_one : (n : ℕ) (b c : Bool) → b ≡ c
-        → ((if b then Some (1 + n) else None) >>= entry_at (e ∷ more)) ≡ later ((if c then Some n else None) >>= entry_at more)
-    less_by_one n true true h = later_at n
-    less_by_one n false false h = refl
-    less_by_one n true false h = absurd (false≢true (sym h))
-    less_by_one n false true h = absurd (false≢true h)
+    later_if : (n : ℕ) (b : Bool)
+        → ((if b then Some (1 + n) else None) >>= entry_at (e ∷ more)) ≡ later ((if b then Some n else None) >>= entry_at more)
+    later_if n true = later_at n
+    later_if n false = refl
 
     less_by : (n m : ℕ) → nat_lt (1 + n) (suc m) ≡ nat_lt n m
     less_by n m = elim (cases_lt n m) [
@@ -86,7 +81,7 @@ module _ {V : Type 0} where
         → ((if nat_lt (cond (not b) (1 + n) 0) (suc m) then Some (cond (not b) (1 + n) 0) else None) >>= entry_at (e ∷ more))
         ≡ (if b then Some (0, e.1) else later ((if nat_lt n m then Some n else None) >>= entry_at more))
     found_by n m true = rw (lt-ltb 0 (suc m) (omega arith)) refl
-    found_by n m false = less_by_one n (nat_lt (1 + n) (suc m)) (nat_lt n m) (less_by n m)
+    found_by n m false = rw (less_by n m) (later_if n (nat_lt n m))
 
     -- the first entry, where it has the name, or else what is found after it
     pub found_cons : (name : Text) → found name (e ∷ more) ≡ (if bytes_eq name e.0 then Some (0, e.1) else later (found name more))
@@ -118,36 +113,21 @@ module _ {V : Type 0} where
   with_push name v [] h = refl
   with_push name v (e ∷ more) h = rw (other_text name e.0 h.0) (ap (λ es. e ∷ es) (with_push name v more h.1))
 
-  -- what a name has once another one has its value
-  pub value_with : (other name : Text) (v : V) (named : List (Text × V))
-      → value_of other (with_value name v named) ≡ (if bytes_eq other name then Some v else value_of other named)
-  value_with other name v [] = refl
-  value_with other name v (e ∷ more) = by (bytes_eq name e.0) refl (value_with other name v more)
-    where
-      turn : (b c : Bool) (u w : V) (o : Option V) → (b ≡ true → c ≡ true → ⊥)
-          → (if c then Some w else (if b then Some u else o)) ≡ (if b then Some u else (if c then Some w else o))
-      turn true true u w o h = absurd (h refl refl)
-      turn true false u w o h = refl
-      turn false true u w o h = refl
-      turn false false u w o h = refl
+  -- what a name has once it has its value, and once another one has
+  value_same : (name : Text) (v : V) (named : List (Text × V)) → value_of name (with_value name v named) ≡ Some v
+  value_same name v [] = rw ((bytes_eq-Decides name name).1 refl) refl
+  value_same name v (e ∷ more) =
+      cond_both (bytes_eq name e.0) ((e.0, v) ∷ more) (e ∷ with_value name v more) (λ es. value_of name es ≡ Some v)
+      (λ h. rw h refl) (λ h. rw h (value_same name v more))
 
-      joined : (b c : Bool) (u w : V) (o : Option V) → b ≡ c
-          → (if c then Some w else o) ≡ (if b then Some w else (if c then Some u else o))
-      joined true true u w o h = refl
-      joined false false u w o h = refl
-      joined true false u w o h = absurd (false≢true (sym h))
-      joined false true u w o h = absurd (false≢true h)
-
-      by : (b : Bool) → bytes_eq name e.0 ≡ b
-          → value_of other (with_value name v more) ≡ (if bytes_eq other name then Some v else value_of other more)
-          → value_of other (if b then (e.0, v) ∷ more else e ∷ with_value name v more)
-          ≡ (if bytes_eq other name then Some v else (if bytes_eq other e.0 then Some e.1 else value_of other more))
-      by true same rest =
-          joined (bytes_eq other name) (bytes_eq other e.0) e.1 v (value_of other more) (ap (bytes_eq other) (same_text name e.0 same))
-      by false apart rest =
-          ap (λ o. if bytes_eq other e.0 then Some e.1 else o) rest
-          ∙ turn (bytes_eq other name) (bytes_eq other e.0) v e.1 (value_of other more)
-          (λ a b. false≢true (sym apart ∙ (bytes_eq-Decides name e.0).1 (sym (same_text other name a) ∙ same_text other e.0 b)))
+  value_other : (other name : Text) (v : V) (named : List (Text × V)) → bytes_eq other name ≡ false
+      → value_of other (with_value name v named) ≡ value_of other named
+  value_other other name v [] h = rw h refl
+  value_other other name v (e ∷ more) h =
+      cond_both (bytes_eq name e.0) ((e.0, v) ∷ more) (e ∷ with_value name v more)
+      (λ es. value_of other es ≡ (if bytes_eq other e.0 then Some e.1 else value_of other more))
+      (λ same. rw (ap (bytes_eq other) (sym (same_text name e.0 same)) ∙ h) refl)
+      (λ apart. ap (λ o. if bytes_eq other e.0 then Some e.1 else o) (value_other other name v more h))
 
 -- ---- a net by its name and its range
 abbrev pub Shape : Type 0
@@ -178,13 +158,9 @@ abbrev pub AreNamedApart : List Shape → Type 0
 AreNamedApart [] = Unit {0}
 AreNamedApart (s ∷ more) = AllByRecursion (λ t. s.0 ≡ t.0 → ⊥) more × AreNamedApart more
 
-others_named : (s : Shape) (more : List Shape) → AllByRecursion (IsClear s) more → AllByRecursion (λ t. s.0 ≡ t.0 → ⊥) more
-others_named s [] h = tt
-others_named s (t ∷ more) h = (h.0.differ, others_named s more h.1)
-
 pub named_apart : (ss : List Shape) → AreClear ss → AreNamedApart ss
 named_apart [] h = tt
-named_apart (s ∷ more) h = (others_named s more h.0, named_apart more h.1)
+named_apart (s ∷ more) h = (each-weaker (IsClear s) (λ t. s.0 ≡ t.0 → ⊥) (λ t c. c.differ) more h.0, named_apart more h.1)
 
 -- two nets, no bits of which have one name
 pub record IsDistinct (s t : Shape) : Type 0 where
@@ -196,13 +172,12 @@ abbrev pub AreDistinct : List Shape → Type 0
 AreDistinct [] = Unit {0}
 AreDistinct (s ∷ more) = AllByRecursion (IsDistinct s) more × AreDistinct more
 
-others_distinct : (s : Shape) (more : List Shape) → AllByRecursion (IsClear s) more → AllByRecursion (IsDistinct s) more
-others_distinct s [] h = tt
-others_distinct s (t ∷ more) h = (record { differ = h.0.differ; first = λ e. h.0.first; second = λ e. h.0.second }, others_distinct s more h.1)
+is_distinct : (s t : Shape) → IsClear s t → IsDistinct s t
+is_distinct s t c = record { differ = c.differ; first = λ e. c.first; second = λ e. c.second }
 
 pub clear_distinct : (ss : List Shape) → AreClear ss → AreDistinct ss
 clear_distinct [] h = tt
-clear_distinct (s ∷ more) h = (others_distinct s more h.0, clear_distinct more h.1)
+clear_distinct (s ∷ more) h = (each-weaker (IsClear s) (IsDistinct s) (is_distinct s) more h.0, clear_distinct more h.1)
 
 -- numbers of bits that are not too great
 abbrev pub IsBounded : Option (ℕ × ℕ) → Type 0
@@ -232,15 +207,7 @@ bit_bounded o r k h e t =
 -- ---- a further net
 clear_push : (s : Shape) (ss : List Shape) → AreClear ss → AllByRecursion (λ t. IsClear t s) ss → AreClear (ss ++ s ∷ [])
 clear_push s [] c e = (tt, tt)
-clear_push s (t ∷ ss) c e = (push t ss c.0 e.0, clear_push s ss c.1 e.1)
-  where
-    push : (t : Shape) (us : List Shape) → AllByRecursion (IsClear t) us → IsClear t s → AllByRecursion (IsClear t) (us ++ s ∷ [])
-    push t [] a x = (x, tt)
-    push t (u ∷ us) a x = (a.0, push t us a.1 x)
-
-all_push : (P : Shape → Type 0) (ss : List Shape) (s : Shape) → AllByRecursion P ss → P s → AllByRecursion P (ss ++ s ∷ [])
-all_push P [] s a p = (p, tt)
-all_push P (t ∷ ss) s a p = (a.0, all_push P ss s a.1 p)
+clear_push s (t ∷ ss) c e = (each_push (IsClear t) ss s c.0 e.0, clear_push s ss c.1 e.1)
 
 -- the first net of a name, where names differ
 range_found : (name : Text) (o : Option (ℕ × ℕ)) (nets : Nets) → AreNamedApart (shapes nets) → Has (name, o) (shapes nets)
@@ -277,11 +244,10 @@ module _ (name : Text) (named : BitNets) where
     where
       grown : (b : Bool) → bytes_eq bus (take place.0 name) ≡ b → Has k (bit_nets_of bus (with_bit_net (take place.0 name) place.1 named))
       grown true e =
-          let value = value_with bus (take place.0 name) (bit_nets_of (take place.0 name) named ++ place.1 ∷ []) named in
-          rw (value, e) (has_push k (bit_nets_of (take place.0 name) named) place.1 (rw (same_text bus (take place.0 name) e) at h))
-      grown false e =
-          let value = value_with bus (take place.0 name) (bit_nets_of (take place.0 name) named ++ place.1 ∷ []) named in
-          rw (value, e) h
+          let same = same_text bus (take place.0 name) e in
+          rw (same, value_same (take place.0 name) (bit_nets_of (take place.0 name) named ++ place.1 ∷ []) named)
+          (has_push k (bit_nets_of (take place.0 name) named) place.1 (rw same at h))
+      grown false e = rw (value_other bus (take place.0 name) (bit_nets_of (take place.0 name) named ++ place.1 ∷ []) named e) h
 
   -- what was noted stays so
   still_noted : (other : Text) → IsNoted named other → IsNoted (with_net name named) other
@@ -292,9 +258,7 @@ module _ (name : Text) (named : BitNets) where
   pub now_noted : IsNoted (with_net name named) name
   unfolding with_net
   now_noted place k at =
-      let value = value_with (take place name) (take place name) (bit_nets_of (take place name) named ++ k ∷ []) named in
-      let is = (bytes_eq-Decides (take place name) (take place name)).1 refl in
-      rw (at, value, is) (has_last (bit_nets_of (take place name) named) k)
+      rw (at, value_same (take place name) (bit_nets_of (take place name) named ++ k ∷ []) named) (has_last (bit_nets_of (take place name) named) k)
 
 -- no bit of the bus has the name of a net
 bit_free : (name : Text) (o : Option (ℕ × ℕ)) (named : BitNets) (other : Text) → IsBounded o → IsNoted named other
@@ -307,7 +271,7 @@ bit_free name (Some q) named other bounds noted free r k range bit same =
     let bus : take (length name) other ≡ name = ap (take (length name)) same ∙ take_at name (tail k) (length name) refl in
     let there : Has k (bit_nets_of (take (length name) other) named) = noted (length name) k at in
     let eq : q ≡ r = cc in
-    none_of (has_bit q) (bit_nets_of name named) k free (rw bus at there) (ap (λ p. has_bit p k) eq ∙ bit)
+    false≢true (sym free ∙ some_of (has_bit q) (bit_nets_of name named) k (rw bus at there) (ap (λ p. has_bit p k) eq ∙ bit))
 
 module _ (name : Text) (v : Net) where
   pub shapes_push : (nets' : Nets) → map shape (nets' ++ (name, v) ∷ []) ≡ map shape nets' ++ (name, v.range) ∷ []
@@ -344,14 +308,14 @@ module _ (name : Text) (v : Net) (nets : Nets) (named : BitNets) (fine : AreFine
       let away = absent name nets new in
       let apart = unmapped nets away in
       rw (with_push name v nets away, shapes_push name v nets) (record {
-        names = all_push (λ s. is_name s.0 ≡ true) (shapes nets) (name, v.range) fine.names is;
-        bounded = all_push (λ s. IsBounded s.1) (shapes nets) (name, v.range) fine.bounded bounds;
+        names = each_push (λ s. is_name s.0 ≡ true) (shapes nets) (name, v.range) fine.names is;
+        bounded = each_push (λ s. IsBounded s.1) (shapes nets) (name, v.range) fine.bounded bounds;
         clear = clear_push (name, v.range) (shapes nets) fine.clear (all_by (λ t. IsClear t (name, v.range)) (shapes nets) (λ t h. record {
           differ = λ e. each_of (λ s. name ≡ s.0 → ⊥) (shapes nets) t apart h (sym e);
           first = bit_unknown name nets t (named_apart (shapes nets) fine.clear) h (each_of (λ s. IsBounded s.1) (shapes nets) t fine.bounded h) unknown;
           second = bit_free name v.range named t.0 bounds (each_of (λ s. IsNoted named s.0) (shapes nets) t fine.noted h) free;
         }));
-        noted = all_push (λ s. IsNoted (with_net name named) s.0) (shapes nets) (name, v.range)
+        noted = each_push (λ s. IsNoted (with_net name named) s.0) (shapes nets) (name, v.range)
             (all_by (λ s. IsNoted (with_net name named) s.0) (shapes nets) (λ t h. still_noted name named t.0 (each_of (λ s. IsNoted named s.0) (shapes nets) t fine.noted h)))
             (now_noted name named);
       })

@@ -1,10 +1,11 @@
 -- A module that is fine is sound to be linked.
-use Rattle.std.specs.Prelude.{◌≡◌, ◌≢◌, refl, ℕ, zero, suc, ◌+◌, ◌-◌, ◌<◌, ◌≤◌, nat_le, ◌&&◌, true, false, List, [], ◌∷◌, ◌++◌, map, decimal}
+use Rattle.std.specs.Prelude.{◌≡◌, ◌≢◌, refl, ℕ, zero, suc, ◌+◌, ◌-◌, ◌<◌, ◌≤◌, true, false, List, [], ◌∷◌, ◌++◌, map, decimal}
 use Rattle.std.specs.Prelude.{Option, Some, None, IfSome, Ok}
 use Rattle.std.specs.List.{All, AllByRecursion, slice_get}
 use Rattle.std.proofs.Common.{arith, sym, ap, ◌∙◌, append_assoc, inl, inr}
 use Rattle.std.proofs.lemmas.Bool.{or_left, or_right, and_from, le-leb, lt-leb, cases_lt}
 use Rattle.std.proofs.lemmas.List.Elements.{All-from_recursion}
+use Rattle.std.proofs.lemmas.Result.{IfOk-at_ok}
 use Rattle.name_numbers.specs.Names.{Text}
 use Rattle.verilog_net.specs.declared.netlist.Netlist.{Netlist}
 use Rattle.verilog_net.specs.Reading.{text_state, modules_in}
@@ -58,14 +59,10 @@ record AreNumbers (r : ℕ × ℕ) (ks : List ℕ) : Type 0 where
   apart : AreApart ks
 
 up_bit : (r : ℕ × ℕ) (k : ℕ) → (r.0 ≤ k) × (k ≤ r.1) → has_bit r k ≡ true
-up_bit r k h =
-    or_left (nat_le r.0 k && nat_le k r.1) (nat_le r.1 k && nat_le k r.0)
-    (and_from (nat_le r.0 k) (nat_le k r.1) (le-leb r.0 k h.0) (le-leb k r.1 h.1))
+up_bit r k h = or_left _ _ (and_from _ _ (le-leb r.0 k h.0) (le-leb k r.1 h.1))
 
 down_bit : (r : ℕ × ℕ) (k : ℕ) → (r.1 ≤ k) × (k ≤ r.0) → has_bit r k ≡ true
-down_bit r k h =
-    or_right (nat_le r.0 k && nat_le k r.1) (nat_le r.1 k && nat_le k r.0)
-    (and_from (nat_le r.1 k) (nat_le k r.0) (le-leb r.1 k h.0) (le-leb k r.0 h.1))
+down_bit r k h = or_right _ _ (and_from _ _ (le-leb r.1 k h.0) (le-leb k r.0 h.1))
 
 numbers_are : (r : ℕ × ℕ) → AreNumbers r (numbers_of r)
 numbers_are r = elim (cases_lt r.1 r.0) [
@@ -104,11 +101,10 @@ differ-append (x ∷ xs) ys a b c = (each-append (Differ x) xs ys a.0 c.0, diffe
 
 differ_at : (xs : List Bit) (i j : ℕ) (a b : Bit) → AllDiffer xs → i < j → slice_get xs i ≡ Some a → slice_get xs j ≡ Some b → a.name ≢ b.name
 differ_at [] i j a b d lt x y = absurd (cc)
-differ_at (z ∷ xs) zero zero a b d lt x y = absurd (omega (arith, lt))
 differ_at (z ∷ xs) zero (suc j) a b d lt x y =
     let same : z ≡ a = cc in
     λ e. each_at (Differ z) xs j b d.0 y (ap (λ t. t.name) same ∙ e)
-differ_at (z ∷ xs) (suc i) zero a b d lt x y = absurd (omega (arith, lt))
+differ_at (z ∷ xs) i zero a b d lt x y = absurd (omega (arith, lt))
 differ_at (z ∷ xs) (suc i) (suc j) a b d lt x y = differ_at xs i j a b d.1 (omega (arith, lt)) x y
 
 -- the one bit of a net without a range has the name of the net, a bit of a bus that of its number
@@ -202,7 +198,7 @@ module_sound m h = record {
 -- ---- the modules of a text
 module _ (bytes : List ℕ) (ms : List Netlist) where
   pub all_modules : modules_in (text_state false bytes) ≡ Ok ms → All IsSoundModule ms
-  all_modules e = All-from_recursion IsSoundModule ms (each-weaker IsFineModule IsSoundModule module_sound ms (modules_fine false bytes ms e))
+  all_modules e = All-from_recursion IsSoundModule ms (each-weaker IsFineModule IsSoundModule module_sound ms (IfOk-at_ok (AllByRecursion IsFineModule) e (modules_fine false bytes)))
 
   pub all_netlists : modules_in (text_state true bytes) ≡ Ok ms → All IsSoundNetlist ms
-  all_netlists e = All-from_recursion IsSoundNetlist ms (each-weaker IsFineModule IsSoundNetlist netlist_sound ms (modules_fine true bytes ms e))
+  all_netlists e = All-from_recursion IsSoundNetlist ms (each-weaker IsFineModule IsSoundNetlist netlist_sound ms (IfOk-at_ok (AllByRecursion IsFineModule) e (modules_fine true bytes)))

@@ -1,19 +1,17 @@
 -- A fact of states that the items of a netlist's text keep is kept by the whole text.
-use Rattle.std.specs.Prelude.{◌≡◌, refl, ℕ, zero, suc, true, List, [], ◌∷◌, Some, None, Result, Ok}
-use Rattle.std.specs.List.{AllByRecursion, slice_get}
-use Rattle.text_forms.specs.Forms.{text_at, line_at}
+use Rattle.std.specs.Prelude.{◌≡◌, ℕ, true, List, [], Result, Ok, IfOk}
+use Rattle.std.specs.List.{AllByRecursion}
+use Rattle.std.proofs.lemmas.Result.{IfOk-at_ok}
 use Rattle.text_forms.specs.Names.{is_name}
 use Rattle.xt_model.specs.declared.code.Code.{Code}
-use Rattle.verilog_net.specs.declared.sort.Sort.{Sort}
-use Rattle.verilog_net.specs.declared.sort.Sort.TheVariants as sorts
 use Rattle.verilog_net.specs.declared.context.Context.{Context}
 use Rattle.verilog_net.specs.declared.context.Context.TheVariants as contexts
 use Rattle.verilog_net.specs.declared.netlist.PortRole.{PortRole}
 use Rattle.verilog_net.specs.Sorts.{same_sort, netlist_tokens}
-use Rattle.verilog_net.specs.Forms.{Text, Item, Tokens, NetlistForm, misfits, is_done, forms, forms_in}
+use Rattle.verilog_net.specs.Forms.{Text, Item, NetlistForm, misfits, is_done, forms, forms_in}
 use Rattle.verilog_net.specs.Forms as grammar
 use Rattle.text_forms.specs.Meaning.{text_means}
-use Rattle.text_forms.proofs.Kept.{Fit, FormKeeps, rest_keeps}
+use Rattle.text_forms.proofs.Kept.{if_ok, FormKeeps, HoldsAtEnd, rest_keeps}
 use Rattle.verilog_net.proofs.NameTokens as tokens
 use Rattle.verilog_net.proofs.NameTokens.{names_named}
 
@@ -40,16 +38,6 @@ stage_of contexts.Connected = in_instance
 stage_of contexts.BitGiven = in_instance
 stage_of contexts.Closed = between
 stage_of _ = in_module
-
--- a token where a form has a name is one
-named_at : (n : ℕ) (slots : List Sort) (ts : Tokens) → Fit same_sort tokens.IsNamed slots ts → slice_get slots n ≡ Some sorts.Name → is_name (text_at n ts) ≡ true
-named_at n [] ts fit e = absurd (cc)
-named_at n (slot ∷ slots) [] fit e = absurd fit
-named_at zero (slot ∷ slots) (t ∷ ts) fit e = let same : slot ≡ sorts.Name = cc in fit.1 (rw same at fit.0)
-named_at (suc n) (slot ∷ slots) (t ∷ ts) fit e = named_at n slots ts fit.2 e
-
-second : (first : Sort) (ts : Tokens) → Fit same_sort tokens.IsNamed (first ∷ sorts.Name ∷ []) ts → is_name (text_at 1 ts) ≡ true
-second first ts fit = named_at 1 (first ∷ sorts.Name ∷ []) ts fit refl
 
 module _ {S : Type 0} (step : Item → S → Result S Code) (Holds : Stage → S → Type 0) where
   -- an item leaves in one stage what is to hold in the next
@@ -83,73 +71,75 @@ module _ {S : Type 0} (step : Item → S → Result S Code) (Holds : Stage → S
     In context s = Holds (stage_of context) s
 
     abbrev FormIs : Context → NetlistForm → Type 0
-    FormIs context f = FormKeeps same_sort misfits forms step tokens.IsNamed In context [] f
+    FormIs context f = FormKeeps same_sort misfits is_done forms_in step tokens.IsNamed In context [] f
 
-    stop : (a b : Stage) (code : Code) → Keeps a b (grammar.Refused code)
-    stop a b code s s' h e = absurd (k.refused code s s' e)
+    by : (a b : Stage) (item : Item) → Keeps a b item → (s : S) → Holds a s → IfOk (step item s) (Holds b)
+    by a b item keep s h = if_ok (Holds b) (step item s) (λ s' e. keep s s' h e)
+
+    stop : (a b : Stage) (code : Code) → (s : S) → Holds a s → IfOk (step (grammar.Refused code) s) (Holds b)
+    stop a b code = by a b (grammar.Refused code) (λ s s' h e. absurd (k.refused code s s' e))
 
     -- the items of each context's forms
     forms_keep : (context : Context) → AllByRecursion (FormIs context) (forms_in context)
-    forms_keep contexts.Start = (λ ts f. k.first, (λ ts f. stop _ _ _, tt))
-    forms_keep contexts.BehindModule = (λ ts f. k.again, (λ ts f. k.quiet after, (λ ts f. stop _ _ _, tt)))
-    forms_keep contexts.ModuleName = (λ ts f. k.named (text_at 0 ts), tt)
-    forms_keep contexts.Header = (λ ts f. k.quiet in_module, (λ ts f. k.listed (text_at 1 ts), (λ ts f. stop _ _ _, (λ ts f. stop _ _ _, tt))))
+    forms_keep contexts.Start = (λ a p. by _ _ _ k.first, (λ a p. stop _ _ _, tt))
+    forms_keep contexts.BehindModule = (λ a p. by _ _ _ k.again, (λ a p. by _ _ _ (k.quiet after), (λ a p. stop _ _ _, tt)))
+    forms_keep contexts.ModuleName = (λ a p. by _ _ _ (k.named a.text), tt)
+    forms_keep contexts.Header = (
+      λ a p. by _ _ _ (k.quiet in_module),
+      (λ a p b q. by _ _ _ (k.listed b.text), (λ a p. stop _ _ _, (λ a p b q. stop _ _ _, tt))),
+    )
     forms_keep contexts.Listed = (
-      λ ts f. k.listed (text_at 1 ts),
-      (λ ts f. k.quiet in_module, (λ ts f. stop _ _ _, (λ ts f. stop _ _ _, (λ ts f. stop _ _ _, tt)))),
+      λ a p b q. by _ _ _ (k.listed b.text),
+      (λ a p b q. by _ _ _ (k.quiet in_module), (λ a p. stop _ _ _, (λ a p b q. stop _ _ _, (λ a p b q. stop _ _ _, tt)))),
     )
     forms_keep contexts.Body = (
-      λ ts f. k.scalar _ (text_at 1 ts) (second sorts.Direction ts f),
+      λ a p b q. by _ _ _ (k.scalar _ b.text (q.1 q.0)),
       (
-        λ ts f. k.left _ (text_at 2 ts),
+        λ a p b q c r. by _ _ _ (k.left _ c.text),
         (
-          λ ts f. k.scalar _ (text_at 1 ts) (second sorts.NetType ts f),
+          λ a p b q. by _ _ _ (k.scalar _ b.text (q.1 q.0)),
           (
-            λ ts f. k.left _ (text_at 2 ts),
-            (
-              λ ts f. k.instance (text_at 0 ts) (text_at 1 ts) (line_at 1 ts) (named_at 0 (sorts.Name ∷ sorts.Name ∷ []) ts f refl) (second sorts.Name ts f),
-              (λ ts f. k.end, tt),
-            ),
+            λ a p b q c r. by _ _ _ (k.left _ c.text),
+            (λ a p b q. by _ _ _ (k.instance a.text b.text b.line (p.1 p.0) (q.1 q.0)), (λ a p. by _ _ _ k.end, tt)),
           ),
         ),
       ),
     )
-    forms_keep contexts.LeftBound = (λ ts f. k.right (text_at 1 ts), tt)
-    forms_keep contexts.RightBound = (λ ts f. k.further (text_at 1 ts) (second sorts.RightBracket ts f), tt)
-    forms_keep contexts.Declared = (λ ts f. k.further (text_at 1 ts) (second sorts.Comma ts f), (λ ts f. k.quiet in_module, tt))
-    forms_keep contexts.Opening = (λ ts f. k.quiet in_instance, (λ ts f. stop _ _ _, tt))
+    forms_keep contexts.LeftBound = (λ a p b q. by _ _ _ (k.right b.text), tt)
+    forms_keep contexts.RightBound = (λ a p b q. by _ _ _ (k.further b.text (q.1 q.0)), tt)
+    forms_keep contexts.Declared = (λ a p b q. by _ _ _ (k.further b.text (q.1 q.0)), (λ a p. by _ _ _ (k.quiet in_module), tt))
+    forms_keep contexts.Opening = (λ a p. by _ _ _ (k.quiet in_instance), (λ a p. stop _ _ _, tt))
     forms_keep contexts.Pins = (
-      λ ts f. k.closed,
-      (λ ts f. k.pin (text_at 1 ts) (second sorts.Dot ts f), (λ ts f. stop _ _ _, (λ ts f. stop _ _ _, (λ ts f. stop _ _ _, tt)))),
+      λ a p. by _ _ _ k.closed,
+      (λ a p b q. by _ _ _ (k.pin b.text (q.1 q.0)), (λ a p. stop _ _ _, (λ a p. stop _ _ _, (λ a p. stop _ _ _, tt)))),
     )
-    forms_keep contexts.Pin = (λ ts f. k.quiet in_pin, tt)
+    forms_keep contexts.Pin = (λ a p. by _ _ _ (k.quiet in_pin), tt)
     forms_keep contexts.Connection = (
-      λ ts f. k.unconnected,
+      λ a p. by _ _ _ k.unconnected,
       (
-        λ ts f. k.constant,
+        λ a p b q. by _ _ _ k.constant,
         (
-          λ ts f. k.net (text_at 0 ts) (named_at 0 (sorts.Name ∷ sorts.RightParen ∷ []) ts f refl),
-          (λ ts f. k.bit (text_at 0 ts) (text_at 2 ts), (λ ts f. stop _ _ _, (λ ts f. stop _ _ _, tt))),
+          λ a p b q. by _ _ _ (k.net a.text (p.1 p.0)),
+          (λ a p b q c r d t. by _ _ _ (k.bit a.text c.text), (λ a p b q c r d t. stop _ _ _, (λ a p. stop _ _ _, tt))),
         ),
       ),
     )
-    forms_keep contexts.BitGiven = (λ ts f. k.quiet in_instance, tt)
+    forms_keep contexts.BitGiven = (λ a p. by _ _ _ (k.quiet in_instance), tt)
     forms_keep contexts.Connected = (
-      λ ts f. k.closed,
-      (λ ts f. k.pin (text_at 2 ts) (named_at 2 (sorts.Comma ∷ sorts.Dot ∷ sorts.Name ∷ []) ts f refl), (λ ts f. stop _ _ _, (λ ts f. stop _ _ _, (λ ts f. stop _ _ _, tt)))),
+      λ a p. by _ _ _ k.closed,
+      (λ a p b q c r. by _ _ _ (k.pin c.text (r.1 r.0)), (λ a p b q. stop _ _ _, (λ a p b q. stop _ _ _, (λ a p b q. stop _ _ _, tt)))),
     )
-    forms_keep contexts.Closed = (
-      λ ts f. k.further_instance (text_at 1 ts) (line_at 1 ts) (second sorts.Comma ts f),
-      (λ ts f. k.statement, tt),
-    )
+    forms_keep contexts.Closed =
+        (λ a p b q. by _ _ _ (k.further_instance b.text b.line (q.1 q.0)), (λ a p. by _ _ _ k.statement, tt))
     forms_keep contexts.Done = tt
 
-    at_end : (context : Context) (s : S) → forms context ≡ None → In context s → Holds after s
+    at_end : (context : Context) (s : S) → is_done context ≡ true → In context s → Holds after s
     at_end contexts.Done s e h = h
     at_end _ s e h = absurd (cc)
 
     pub text_kept : (bytes : List ℕ) (s s' : S) → Holds before s
         → text_means same_sort misfits forms step contexts.Start (netlist_tokens bytes) s ≡ Ok s' → Holds after s'
     text_kept bytes s s' h e =
-        let end = rest_keeps same_sort misfits is_done forms_in step tokens.IsNamed In forms_keep contexts.Start (netlist_tokens bytes) s s' (names_named bytes) h e in
+        let keep = rest_keeps same_sort misfits is_done forms_in step tokens.IsNamed In forms_keep contexts.Start (netlist_tokens bytes) s (names_named bytes) h in
+        let end = IfOk-at_ok (HoldsAtEnd same_sort misfits is_done forms_in step tokens.IsNamed In) e keep in
         at_end end.0 s' end.1 end.2

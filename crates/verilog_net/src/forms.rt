@@ -9,14 +9,13 @@ ghost use Rattle.verilog_net.specs.Forms.{pins_forms, connection_forms, quiet};
 ghost use Rattle.verilog_net.specs.Forms.{connected_forms, closed_forms, forms_in};
 ghost use Rattle.verilog_net.specs.Behind.{behind_one, behind_two};
 ghost use Rattle.verilog_net.specs.declared.sort.Sort.TheVariants.{Name, LeftBracket, RightParen, Comma};
-ghost use Rattle.text_forms.specs.Stops.{Reads};
-ghost use Rattle.verilog_net.specs.View.{item_text, whole_of};
+ghost use Rattle.verilog_net.specs.View.{item_text, whole_of, ReadsAs};
 
 use crate::context::Context;
-use crate::item::{FormRead, Item};
+use crate::item::{FormRead, FormResult, Item};
 use crate::netlist::PortRole;
 use crate::sort::Sort;
-use text_forms::{Refused, Term, Terms};
+use text_forms::{Term, Terms};
 use xt_model::Code;
 
 /// A form that was read, whose last token is in this line.
@@ -41,8 +40,8 @@ fn role_of(word: &[u8]) -> PortRole
 }
 
 /// At the start of a text.
-fn at_start<'a>(terms: &mut Terms<'a, Sort>) -> Result<FormRead<'a>, Refused>
-    ensures { Reads (λ r. (whole_of r, terms.new)) result (first_form start_forms terms.old) }
+fn at_start<'a>(terms: &mut Terms<'a, Sort>) -> FormResult<'a>
+    ensures { ReadsAs result (first_form start_forms terms.old) terms.new }
 {
     let first = terms.any()?;
     match first.sort {
@@ -53,8 +52,8 @@ fn at_start<'a>(terms: &mut Terms<'a, Sort>) -> Result<FormRead<'a>, Refused>
 }
 
 /// After `endmodule`.
-fn behind_module<'a>(terms: &mut Terms<'a, Sort>) -> Result<FormRead<'a>, Refused>
-    ensures { Reads (λ r. (whole_of r, terms.new)) result (first_form behind_module_forms terms.old) }
+fn behind_module<'a>(terms: &mut Terms<'a, Sort>) -> FormResult<'a>
+    ensures { ReadsAs result (first_form behind_module_forms terms.old) terms.new }
 {
     let first = terms.any()?;
     match first.sort {
@@ -66,20 +65,16 @@ fn behind_module<'a>(terms: &mut Terms<'a, Sort>) -> Result<FormRead<'a>, Refuse
 }
 
 /// The name of a module.
-fn module_name<'a>(terms: &mut Terms<'a, Sort>) -> Result<FormRead<'a>, Refused>
-    ensures { Reads (λ r. (whole_of r, terms.new)) result (first_form module_name_forms terms.old) }
+fn module_name<'a>(terms: &mut Terms<'a, Sort>) -> FormResult<'a>
+    ensures { ReadsAs result (first_form module_name_forms terms.old) terms.new }
 {
     let name = terms.expect(Sort::Name)?;
     Ok(done(Item::ModuleName(name.text), name.line, Context::Header))
 }
 
 /// A name of the header, after the `(` or the `,` before it.
-fn header_name<'a>(
-    mark: Term<'a, Sort>,
-    terms: &mut Terms<'a, Sort>,
-) -> Result<FormRead<'a>, Refused>
-    ensures { Reads (λ r. (whole_of r, terms.new)) result
-        (behind_one Comma listed_forms (token_of mark.entry) terms.old) }
+fn header_name<'a>(mark: Term<'a, Sort>, terms: &mut Terms<'a, Sort>) -> FormResult<'a>
+    ensures { ReadsAs result (behind_one Comma listed_forms (token_of mark.entry) terms.old) terms.new }
 {
     let name = terms.any()?;
     match name.sort {
@@ -90,12 +85,8 @@ fn header_name<'a>(
 }
 
 /// After the `)` of the header.
-fn header_end<'a>(
-    paren: Term<'a, Sort>,
-    terms: &mut Terms<'a, Sort>,
-) -> Result<FormRead<'a>, Refused>
-    ensures { Reads (λ r. (whole_of r, terms.new)) result
-        (behind_one RightParen listed_forms (token_of paren.entry) terms.old) }
+fn header_end<'a>(paren: Term<'a, Sort>, terms: &mut Terms<'a, Sort>) -> FormResult<'a>
+    ensures { ReadsAs result (behind_one RightParen listed_forms (token_of paren.entry) terms.old) terms.new }
 {
     let second = terms.any()?;
     match second.sort {
@@ -106,8 +97,8 @@ fn header_end<'a>(
 }
 
 /// After the name of a module.
-fn header<'a>(terms: &mut Terms<'a, Sort>) -> Result<FormRead<'a>, Refused>
-    ensures { Reads (λ r. (whole_of r, terms.new)) result (first_form header_forms terms.old) }
+fn header<'a>(terms: &mut Terms<'a, Sort>) -> FormResult<'a>
+    ensures { ReadsAs result (first_form header_forms terms.old) terms.new }
 {
     let first = terms.any()?;
     match first.sort {
@@ -119,8 +110,8 @@ fn header<'a>(terms: &mut Terms<'a, Sort>) -> Result<FormRead<'a>, Refused>
 }
 
 /// After a name of the header.
-fn listed<'a>(terms: &mut Terms<'a, Sort>) -> Result<FormRead<'a>, Refused>
-    ensures { Reads (λ r. (whole_of r, terms.new)) result (first_form listed_forms terms.old) }
+fn listed<'a>(terms: &mut Terms<'a, Sort>) -> FormResult<'a>
+    ensures { ReadsAs result (first_form listed_forms terms.old) terms.new }
 {
     let first = terms.any()?;
     match first.sort {
@@ -132,8 +123,8 @@ fn listed<'a>(terms: &mut Terms<'a, Sort>) -> Result<FormRead<'a>, Refused>
 }
 
 /// A statement, or the end of the module.
-fn in_body<'a>(terms: &mut Terms<'a, Sort>) -> Result<FormRead<'a>, Refused>
-    ensures { Reads (λ r. (whole_of r, terms.new)) result (first_form body_forms terms.old) }
+fn in_body<'a>(terms: &mut Terms<'a, Sort>) -> FormResult<'a>
+    ensures { ReadsAs result (first_form body_forms terms.old) terms.new }
 {
     let first = terms.any()?;
     match first.sort {
@@ -168,8 +159,8 @@ fn in_body<'a>(terms: &mut Terms<'a, Sort>) -> Result<FormRead<'a>, Refused>
 }
 
 /// After the left bound of a range.
-fn left_bound<'a>(terms: &mut Terms<'a, Sort>) -> Result<FormRead<'a>, Refused>
-    ensures { Reads (λ r. (whole_of r, terms.new)) result (first_form left_bound_forms terms.old) }
+fn left_bound<'a>(terms: &mut Terms<'a, Sort>) -> FormResult<'a>
+    ensures { ReadsAs result (first_form left_bound_forms terms.old) terms.new }
 {
     terms.expect(Sort::Colon)?;
     let number = terms.expect(Sort::Number)?;
@@ -177,8 +168,8 @@ fn left_bound<'a>(terms: &mut Terms<'a, Sort>) -> Result<FormRead<'a>, Refused>
 }
 
 /// After the right bound of a range.
-fn right_bound<'a>(terms: &mut Terms<'a, Sort>) -> Result<FormRead<'a>, Refused>
-    ensures { Reads (λ r. (whole_of r, terms.new)) result (first_form right_bound_forms terms.old) }
+fn right_bound<'a>(terms: &mut Terms<'a, Sort>) -> FormResult<'a>
+    ensures { ReadsAs result (first_form right_bound_forms terms.old) terms.new }
 {
     terms.expect(Sort::RightBracket)?;
     let name = terms.expect(Sort::Name)?;
@@ -186,8 +177,8 @@ fn right_bound<'a>(terms: &mut Terms<'a, Sort>) -> Result<FormRead<'a>, Refused>
 }
 
 /// After a declared name.
-fn declared<'a>(terms: &mut Terms<'a, Sort>) -> Result<FormRead<'a>, Refused>
-    ensures { Reads (λ r. (whole_of r, terms.new)) result (first_form declared_forms terms.old) }
+fn declared<'a>(terms: &mut Terms<'a, Sort>) -> FormResult<'a>
+    ensures { ReadsAs result (first_form declared_forms terms.old) terms.new }
 {
     let first = terms.any()?;
     match first.sort {
@@ -201,8 +192,8 @@ fn declared<'a>(terms: &mut Terms<'a, Sort>) -> Result<FormRead<'a>, Refused>
 }
 
 /// After the name of an instance.
-fn opening<'a>(terms: &mut Terms<'a, Sort>) -> Result<FormRead<'a>, Refused>
-    ensures { Reads (λ r. (whole_of r, terms.new)) result (first_form opening_forms terms.old) }
+fn opening<'a>(terms: &mut Terms<'a, Sort>) -> FormResult<'a>
+    ensures { ReadsAs result (first_form opening_forms terms.old) terms.new }
 {
     let first = terms.any()?;
     match first.sort {
@@ -213,8 +204,8 @@ fn opening<'a>(terms: &mut Terms<'a, Sort>) -> Result<FormRead<'a>, Refused>
 }
 
 /// After the `(` of an instance.
-fn pins<'a>(terms: &mut Terms<'a, Sort>) -> Result<FormRead<'a>, Refused>
-    ensures { Reads (λ r. (whole_of r, terms.new)) result (first_form pins_forms terms.old) }
+fn pins<'a>(terms: &mut Terms<'a, Sort>) -> FormResult<'a>
+    ensures { ReadsAs result (first_form pins_forms terms.old) terms.new }
 {
     let first = terms.any()?;
     match first.sort {
@@ -232,8 +223,8 @@ fn pins<'a>(terms: &mut Terms<'a, Sort>) -> Result<FormRead<'a>, Refused>
 
 /// A mark that alone may come next. It is inlined, so that the token is not written to memory.
 #[inline(always)]
-fn mark<'a>(sort: Sort, next: Context, terms: &mut Terms<'a, Sort>) -> Result<FormRead<'a>, Refused>
-    ensures { Reads (λ r. (whole_of r, terms.new)) result (first_form (quiet (sort ∷ []) next ∷ []) terms.old) }
+fn mark<'a>(sort: Sort, next: Context, terms: &mut Terms<'a, Sort>) -> FormResult<'a>
+    ensures { ReadsAs result (first_form (quiet (sort ∷ []) next ∷ []) terms.old) terms.new }
 {
     let mark = terms.expect(sort)?;
     Ok(done(Item::Nothing, mark.line, next))
@@ -244,9 +235,9 @@ fn bit<'a>(
     bus: Term<'a, Sort>,
     bracket: Term<'a, Sort>,
     terms: &mut Terms<'a, Sort>,
-) -> Result<FormRead<'a>, Refused>
-    ensures { Reads (λ r. (whole_of r, terms.new)) result
-        (behind_two Name LeftBracket connection_forms (token_of bus.entry) (token_of bracket.entry) terms.old) }
+) -> FormResult<'a>
+    ensures { ReadsAs result
+        (behind_two Name LeftBracket connection_forms (token_of bus.entry) (token_of bracket.entry) terms.old) terms.new }
 {
     let number = terms.expect(Sort::Number)?;
     let last = terms.any()?;
@@ -261,12 +252,8 @@ fn bit<'a>(
 }
 
 /// After a name to which a pin is connected.
-fn net_or_bit<'a>(
-    name: Term<'a, Sort>,
-    terms: &mut Terms<'a, Sort>,
-) -> Result<FormRead<'a>, Refused>
-    ensures { Reads (λ r. (whole_of r, terms.new)) result
-        (behind_one Name connection_forms (token_of name.entry) terms.old) }
+fn net_or_bit<'a>(name: Term<'a, Sort>, terms: &mut Terms<'a, Sort>) -> FormResult<'a>
+    ensures { ReadsAs result (behind_one Name connection_forms (token_of name.entry) terms.old) terms.new }
 {
     let second = terms.any()?;
     match second.sort {
@@ -277,8 +264,8 @@ fn net_or_bit<'a>(
 }
 
 /// After the `(` of a pin.
-fn connection<'a>(terms: &mut Terms<'a, Sort>) -> Result<FormRead<'a>, Refused>
-    ensures { Reads (λ r. (whole_of r, terms.new)) result (first_form connection_forms terms.old) }
+fn connection<'a>(terms: &mut Terms<'a, Sort>) -> FormResult<'a>
+    ensures { ReadsAs result (first_form connection_forms terms.old) terms.new }
 {
     let first = terms.any()?;
     match first.sort {
@@ -294,12 +281,8 @@ fn connection<'a>(terms: &mut Terms<'a, Sort>) -> Result<FormRead<'a>, Refused>
 }
 
 /// After the `,` of a pin.
-fn further_pin<'a>(
-    comma: Term<'a, Sort>,
-    terms: &mut Terms<'a, Sort>,
-) -> Result<FormRead<'a>, Refused>
-    ensures { Reads (λ r. (whole_of r, terms.new)) result
-        (behind_one Comma connected_forms (token_of comma.entry) terms.old) }
+fn further_pin<'a>(comma: Term<'a, Sort>, terms: &mut Terms<'a, Sort>) -> FormResult<'a>
+    ensures { ReadsAs result (behind_one Comma connected_forms (token_of comma.entry) terms.old) terms.new }
 {
     let second = terms.any()?;
     match second.sort {
@@ -315,8 +298,8 @@ fn further_pin<'a>(
 }
 
 /// After the `)` of a pin.
-fn connected<'a>(terms: &mut Terms<'a, Sort>) -> Result<FormRead<'a>, Refused>
-    ensures { Reads (λ r. (whole_of r, terms.new)) result (first_form connected_forms terms.old) }
+fn connected<'a>(terms: &mut Terms<'a, Sort>) -> FormResult<'a>
+    ensures { ReadsAs result (first_form connected_forms terms.old) terms.new }
 {
     let first = terms.any()?;
     match first.sort {
@@ -327,8 +310,8 @@ fn connected<'a>(terms: &mut Terms<'a, Sort>) -> Result<FormRead<'a>, Refused>
 }
 
 /// After the `)` of an instance.
-fn closed<'a>(terms: &mut Terms<'a, Sort>) -> Result<FormRead<'a>, Refused>
-    ensures { Reads (λ r. (whole_of r, terms.new)) result (first_form closed_forms terms.old) }
+fn closed<'a>(terms: &mut Terms<'a, Sort>) -> FormResult<'a>
+    ensures { ReadsAs result (first_form closed_forms terms.old) terms.new }
 {
     let first = terms.any()?;
     match first.sort {
@@ -343,8 +326,8 @@ fn closed<'a>(terms: &mut Terms<'a, Sort>) -> Result<FormRead<'a>, Refused>
 }
 
 /// The next form.
-pub fn read_form<'a>(context: Context, terms: &mut Terms<'a, Sort>) -> Result<FormRead<'a>, Refused>
-    ensures { Reads (λ r. (whole_of r, terms.new)) result (first_form (forms_in context) terms.old) }
+pub fn read_form<'a>(context: Context, terms: &mut Terms<'a, Sort>) -> FormResult<'a>
+    ensures { ReadsAs result (first_form (forms_in context) terms.old) terms.new }
 {
     match context {
         Context::Start => at_start(terms),

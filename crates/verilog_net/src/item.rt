@@ -2,6 +2,7 @@
 
 use crate::context::Context;
 use crate::netlist::PortRole;
+use text_forms::Refused;
 use xt_model::Code;
 
 /// The item that a form gives; names, numbers and constants by their bytes.
@@ -38,3 +39,6 @@ pub enum Item<'a> {
 
 /// A form that was read.
 pub type FormRead<'a> = text_forms::FormRead<Item<'a>, Context>;
+
+/// A form, or the refusal of the first token that fits none.
+pub type FormResult<'a> = Result<FormRead<'a>, Refused>;

@@ -136,10 +136,7 @@ impl PortRole {
     pub fn is_directed(self) -> bool
         ensures { result ≡ is_directed self }
     {
-        match self {
-            PortRole::Inner => false,
-            _ => true,
-        }
+        !matches!(self, PortRole::Inner)
     }
 }
 

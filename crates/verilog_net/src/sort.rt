@@ -171,8 +171,7 @@ impl TokenSort for Sort {
             Kind::Word => word_sort(text),
             Kind::Mark => mark_sort(text),
             Kind::Escaped => name_sort(text),
-            Kind::Text => Sort::Other,
-            Kind::Break => Sort::Other,
+            Kind::Text | Kind::Break => Sort::Other,
         }
     }
 

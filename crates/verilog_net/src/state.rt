@@ -427,10 +427,7 @@ impl<'a> FormReader for Progress<'a> {
     fn is_done(context: Context) -> bool
         ensures { result ≡ is_done context }
     {
-        match context {
-            Context::Done => true,
-            _ => false,
-        }
+        matches!(context, Context::Done)
     }
 
     fn read_form(context: Context, terms: &mut Terms<'a, Sort>) -> Result<FormRead<'a>, Refused>
