@@ -1,8 +1,7 @@
 -- The words of a SPEF text have printable bytes alone.
-use Rattle.std.specs.Prelude.{◌≡◌, ℕ, zero, suc, ◌+◌, Bool, true, not, ◌&&◌, ◌==◌, List, [], ◌∷◌, length, take, Option, Some, None}
-use Rattle.std.specs.Prelude.{if◌then◌else◌}
+use Rattle.std.specs.Prelude.{◌≡◌, ℕ, zero, suc, ◌+◌, Bool, true, not, ◌&&◌, ◌==◌, List, [], ◌∷◌, take, Option, Some, None}
 use Rattle.std.specs.Char.{is_ascii_graphic}
-use Rattle.std.specs.List.{AllByRecursion, prefix_len}
+use Rattle.std.specs.List.{AllByRecursion}
 use Rattle.std.proofs.lemmas.Bool.{cond_both, not-false, false≢true}
 use Rattle.text_forms.specs.Forms.{Token}
 use Rattle.text_forms.specs.Tokens.{token_by}
@@ -13,8 +12,7 @@ use Rattle.xt_lex.specs.declared.token.Kind.{Kind}
 use Rattle.xt_lex.specs.declared.token.Kind.TheVariants as kinds
 use Rattle.xt_lex.specs.declared.rules.Rules.TheVariants.{Spef}
 use Rattle.xt_lex.specs.Bytes.{is_white, begins, opens_comment, last_line, line_after}
-use Rattle.xt_lex.specs.Runs.{past_byte}
-use Rattle.xt_lex.specs.Fronts.{piece, enclosed, block_comment, to_line_end}
+use Rattle.xt_lex.specs.Fronts.{enclosed, block_comment}
 use Rattle.xt_lex.specs.Spef.{spef_front}
 use Rattle.xt_lex.specs.Pieces.{PieceText, front_of, pieces_from}
 use Rattle.xt_lex.specs.Tokens.{TokenText, kind_of, with_kind, tokens_among, token_texts}
@@ -42,32 +40,14 @@ module _ (b : ℕ) (more : List ℕ) where
   comment_fine None rest = tt
   comment_fine (Some n) rest = tt
 
-  abbrev word_front : Front
-  word_front = piece classes.Word (prefix_len is_ascii_graphic more)
-
-  abbrev string_front : Front
-  string_front = enclosed classes.Text classes.Unclosed 0 (past_byte 34 more) (length more)
-
-  abbrev quoted : Front
-  quoted = if b == 34 then string_front else word_front
-
-  abbrev commented : Front
-  commented = if opens_comment b more then block_comment more else quoted
-
-  abbrev lined : Front
-  lined = if b == 47 && begins 47 more then piece classes.Comment (to_line_end more) else commented
-
-  abbrev graphic : Front
-  graphic = if not (is_ascii_graphic b) then piece classes.Foreign 0 else lined
-
   front_fine : FineFront (spef_front b more)
   unfolding spef_front
   front_fine =
-      cond_both (is_white b) (piece classes.Blank (prefix_len is_white more)) graphic FineFront (λ e. tt) (λ e.
-      cond_both (not (is_ascii_graphic b)) (piece classes.Foreign 0) lined FineFront (λ e. tt) (λ no.
-      cond_both (b == 47 && begins 47 more) (piece classes.Comment (to_line_end more)) commented FineFront (λ e. tt) (λ e.
-      cond_both (opens_comment b more) (block_comment more) quoted FineFront (λ e. comment_fine _ _) (λ e.
-      cond_both (b == 34) string_front word_front FineFront (λ e. string_fine _ _)
+      cond_both (is_white b) _ _ FineFront (λ e. tt) (λ e.
+      cond_both (not (is_ascii_graphic b)) _ _ FineFront (λ e. tt) (λ no.
+      cond_both (b == 47 && begins 47 more) _ _ FineFront (λ e. tt) (λ e.
+      cond_both (opens_comment b more) (block_comment more) _ FineFront (λ e. comment_fine _ _) (λ e.
+      cond_both (b == 34) _ _ FineFront (λ e. string_fine _ _)
       (λ e. (not-false (is_ascii_graphic b) no, front_passes is_ascii_graphic more))))))
 
 abbrev FinePiece : PieceText → Type 0

@@ -1,10 +1,13 @@
 -- What the values of the code stand for.
+use Rattle.std.specs.Prelude.{List, Result}
+use Rattle.text_forms.specs.Stops.{Reads}
 use Rattle.text_forms.specs.declared.form_read.FormRead.{FormRead}
+use Rattle.text_forms.specs.declared.refused.Refused.{Refused}
 use Rattle.text_forms.specs.Reader.{whole_of as form_whole}
 use Rattle.spef_read.specs.declared.item.Item.{Item}
 use Rattle.spef_read.specs.declared.item.Item.TheVariants as items
 use Rattle.spef_read.specs.declared.context.Context.{Context}
-use Rattle.spef_read.specs.Forms.{WholeForm}
+use Rattle.spef_read.specs.Forms.{SpefForm, Tokens, WholeForm, first_form}
 use Rattle.spef_read.specs.Forms as grammar
 
 -- an item as the grammar has it
@@ -32,3 +35,7 @@ item_text items.TextEnds = grammar.TextEnds
 -- a form that was read
 abbrev pub whole_of : FormRead Item Context → WholeForm
 whole_of r = form_whole item_text r
+
+-- what was read of some tokens is the first of these forms, behind which the others are left
+abbrev pub ReadsForm : Result (FormRead Item Context) Refused → List SpefForm → Tokens → Tokens → Type 0
+ReadsForm result fs ts left = Reads (λ r. (whole_of r, left)) result (first_form fs ts)

@@ -3,22 +3,21 @@
 
 ghost use Rattle.std.specs.Prelude.{◌≡◌, false, ◌∷◌};
 ghost use Rattle.spef_read.specs.declared.sort.Sort.TheVariants.{Brackets};
-ghost use Rattle.spef_read.specs.Forms.{separator_of, quantity_of, first_form, section_forms, start_forms};
-ghost use Rattle.spef_read.specs.Forms.{header_forms, flow_forms, unit_forms, pairs_forms, pair_name_forms};
-ghost use Rattle.spef_read.specs.Forms.{skipped_forms, forms_in, is_done};
+ghost use Rattle.spef_read.specs.Forms.{separator_of, quantity_of, section_forms, start_forms, header_forms};
+ghost use Rattle.spef_read.specs.Forms.{flow_forms, unit_forms, pairs_forms, pair_name_forms, skipped_forms};
+ghost use Rattle.spef_read.specs.Forms.{forms_in, is_done};
 ghost use Rattle.text_forms.specs.Tokens.{token_of};
-ghost use Rattle.text_forms.specs.Stops.{Reads};
-ghost use Rattle.spef_read.specs.View.{item_text, whole_of};
+ghost use Rattle.spef_read.specs.View.{item_text, whole_of, ReadsForm};
 
 use crate::context::Context;
-use crate::item::{FormRead, Item, Quantity, Separator};
+use crate::item::{FormRead, FormResult, Item, Quantity, Separator};
 use crate::net_forms::{
     cap_second, cap_value, capacitors, connection, connections, lists_from, net_name, net_total,
     res_second, res_value, resistors, totalled,
 };
 use crate::slots::{any_word, is_word};
 use crate::sort::Sort;
-use text_forms::{Refused, Term, Terms, TokenSort};
+use text_forms::{Term, Terms, TokenSort};
 use xt_model::Code;
 
 /// A form that was read, whose last token is in this line.
@@ -56,8 +55,8 @@ fn quantity_of(word: &[u8]) -> Quantity
 }
 
 /// At the start of a text.
-fn at_start<'a>(first: Term<'a, Sort>, terms: &mut Terms<'a, Sort>) -> Result<FormRead<'a>, Refused>
-    ensures { Reads (λ r. (whole_of r, terms.new)) result (first_form start_forms (token_of first.entry ∷ terms.old)) }
+fn at_start<'a>(first: Term<'a, Sort>, terms: &mut Terms<'a, Sort>) -> FormResult<'a>
+    ensures { ReadsForm result start_forms (token_of first.entry ∷ terms.old) terms.new }
 {
     if !Sort::Spef.same(first.sort) {
         return Err(first.refused());
@@ -68,9 +67,8 @@ fn at_start<'a>(first: Term<'a, Sort>, terms: &mut Terms<'a, Sort>) -> Result<Fo
 
 /// A section, or the end of the text, from its first token on.
 #[inline(always)]
-fn section_from<'a>(first: Term<'a, Sort>, terms: &Terms<'a, Sort>) -> Result<FormRead<'a>, Refused>
-    ensures { Reads (λ r. (whole_of r, terms.now)) result
-        (first_form section_forms (token_of first.entry ∷ terms.now)) }
+fn section_from<'a>(first: Term<'a, Sort>, terms: &Terms<'a, Sort>) -> FormResult<'a>
+    ensures { ReadsForm result section_forms (token_of first.entry ∷ terms.now) terms.now }
 {
     match first.sort {
         Sort::NameMap => Ok(done(Item::Nothing, first.line, Context::Pairs)),
@@ -83,9 +81,9 @@ fn section_from<'a>(first: Term<'a, Sort>, terms: &Terms<'a, Sort>) -> Result<Fo
 }
 
 /// The brackets of a bus's bit.
-fn brackets<'a>(first: Term<'a, Sort>, terms: &mut Terms<'a, Sort>) -> Result<FormRead<'a>, Refused>
+fn brackets<'a>(first: Term<'a, Sort>, terms: &mut Terms<'a, Sort>) -> FormResult<'a>
     requires { first.sort ≡ Brackets }
-    ensures { Reads (λ r. (whole_of r, terms.new)) result (first_form header_forms (token_of first.entry ∷ terms.old)) }
+    ensures { ReadsForm result header_forms (token_of first.entry ∷ terms.old) terms.new }
 {
     let second = terms.any()?;
     match second.sort {
@@ -101,11 +99,8 @@ fn brackets<'a>(first: Term<'a, Sort>, terms: &mut Terms<'a, Sort>) -> Result<Fo
 
 /// An item of the header, or what comes after it, from its first token on.
 #[inline(always)]
-fn header_from<'a>(
-    first: Term<'a, Sort>,
-    terms: &mut Terms<'a, Sort>,
-) -> Result<FormRead<'a>, Refused>
-    ensures { Reads (λ r. (whole_of r, terms.new)) result (first_form header_forms (token_of first.entry ∷ terms.old)) }
+fn header_from<'a>(first: Term<'a, Sort>, terms: &mut Terms<'a, Sort>) -> FormResult<'a>
+    ensures { ReadsForm result header_forms (token_of first.entry ∷ terms.old) terms.new }
 {
     match first.sort {
         Sort::Title => {
@@ -132,8 +127,8 @@ fn header_from<'a>(
 }
 
 /// After a string of the design's flow.
-fn flow<'a>(first: Term<'a, Sort>, terms: &mut Terms<'a, Sort>) -> Result<FormRead<'a>, Refused>
-    ensures { Reads (λ r. (whole_of r, terms.new)) result (first_form flow_forms (token_of first.entry ∷ terms.old)) }
+fn flow<'a>(first: Term<'a, Sort>, terms: &mut Terms<'a, Sort>) -> FormResult<'a>
+    ensures { ReadsForm result flow_forms (token_of first.entry ∷ terms.old) terms.new }
 {
     if Sort::Text.same(first.sort) {
         Ok(done(Item::Nothing, first.line, Context::Flow))
@@ -143,8 +138,8 @@ fn flow<'a>(first: Term<'a, Sort>, terms: &mut Terms<'a, Sort>) -> Result<FormRe
 }
 
 /// After the number of a unit.
-fn unit<'a>(first: Term<'a, Sort>, terms: &Terms<'a, Sort>) -> Result<FormRead<'a>, Refused>
-    ensures { Reads (λ r. (whole_of r, terms.now)) result (first_form unit_forms (token_of first.entry ∷ terms.now)) }
+fn unit<'a>(first: Term<'a, Sort>, terms: &Terms<'a, Sort>) -> FormResult<'a>
+    ensures { ReadsForm result unit_forms (token_of first.entry ∷ terms.now) terms.now }
 {
     if is_word(first.sort) {
         Ok(done(Item::Unit(first.text), first.line, Context::Header))
@@ -154,8 +149,8 @@ fn unit<'a>(first: Term<'a, Sort>, terms: &Terms<'a, Sort>) -> Result<FormRead<'
 }
 
 /// In the name map.
-fn pairs<'a>(first: Term<'a, Sort>, terms: &Terms<'a, Sort>) -> Result<FormRead<'a>, Refused>
-    ensures { Reads (λ r. (whole_of r, terms.now)) result (first_form pairs_forms (token_of first.entry ∷ terms.now)) }
+fn pairs<'a>(first: Term<'a, Sort>, terms: &Terms<'a, Sort>) -> FormResult<'a>
+    ensures { ReadsForm result pairs_forms (token_of first.entry ∷ terms.now) terms.now }
 {
     if Sort::Index.same(first.sort) {
         Ok(done(Item::PairNumber(first.text), first.line, Context::PairName))
@@ -165,9 +160,8 @@ fn pairs<'a>(first: Term<'a, Sort>, terms: &Terms<'a, Sort>) -> Result<FormRead<
 }
 
 /// After the number of a pair.
-fn pair_name<'a>(first: Term<'a, Sort>, terms: &Terms<'a, Sort>) -> Result<FormRead<'a>, Refused>
-    ensures { Reads (λ r. (whole_of r, terms.now)) result
-        (first_form pair_name_forms (token_of first.entry ∷ terms.now)) }
+fn pair_name<'a>(first: Term<'a, Sort>, terms: &Terms<'a, Sort>) -> FormResult<'a>
+    ensures { ReadsForm result pair_name_forms (token_of first.entry ∷ terms.now) terms.now }
 {
     if is_word(first.sort) {
         Ok(done(Item::PairName(first.text), first.line, Context::Pairs))
@@ -177,9 +171,8 @@ fn pair_name<'a>(first: Term<'a, Sort>, terms: &Terms<'a, Sort>) -> Result<FormR
 }
 
 /// In a section that is skipped.
-fn skipped<'a>(first: Term<'a, Sort>, terms: &Terms<'a, Sort>) -> Result<FormRead<'a>, Refused>
-    ensures { Reads (λ r. (whole_of r, terms.now)) result
-        (first_form skipped_forms (token_of first.entry ∷ terms.now)) }
+fn skipped<'a>(first: Term<'a, Sort>, terms: &Terms<'a, Sort>) -> FormResult<'a>
+    ensures { ReadsForm result skipped_forms (token_of first.entry ∷ terms.now) terms.now }
 {
     match first.sort {
         Sort::NameMap | Sort::Skipped | Sort::Net | Sort::Unsupported | Sort::End => {
@@ -190,9 +183,9 @@ fn skipped<'a>(first: Term<'a, Sort>, terms: &Terms<'a, Sort>) -> Result<FormRea
 }
 
 /// The form that is next in a context.
-pub fn read_form<'a>(context: Context, terms: &mut Terms<'a, Sort>) -> Result<FormRead<'a>, Refused>
+pub fn read_form<'a>(context: Context, terms: &mut Terms<'a, Sort>) -> FormResult<'a>
     requires { is_done context ≡ false }
-    ensures { Reads (λ r. (whole_of r, terms.new)) result (first_form (forms_in context) terms.old) }
+    ensures { ReadsForm result (forms_in context) terms.old terms.new }
 {
     let first = terms.any()?;
     match context {

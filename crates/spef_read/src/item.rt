@@ -1,6 +1,7 @@
 //! The items that forms give.
 
 use crate::context::Context;
+use text_forms::Refused;
 use xt_model::Code;
 
 /// Which of two marks of names an item of the header gives.
@@ -56,3 +57,6 @@ pub enum Item<'a> {
 
 /// A form that was read.
 pub type FormRead<'a> = text_forms::FormRead<Item<'a>, Context>;
+
+/// A form, or the refusal of the first token that fits none.
+pub type FormResult<'a> = Result<FormRead<'a>, Refused>;

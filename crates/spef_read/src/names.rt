@@ -123,8 +123,7 @@ pub fn pair_name(alloc: Global, marks: Marks, word: &[u8]) -> Result<Prefix, Sto
     ensures { Computes (λ n. n) result (pair_name marks word.now) }
 {
     match word {
-        [] => Err(Stop::Refused(Code::S1)),
-        [b'*', ..] => Err(Stop::Refused(Code::S1)),
+        [] | [b'*', ..] => Err(Stop::Refused(Code::S1)),
         [_, ..] => {
             let mut name = PrefixedName::new(alloc);
             plain_name(marks, word, &mut name)?;

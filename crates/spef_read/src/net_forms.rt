@@ -2,27 +2,25 @@
 //! token is inlined, as in `forms`.
 
 ghost use Rattle.std.specs.Prelude.{◌∷◌};
-ghost use Rattle.spef_read.specs.Forms.{first_form, closing_forms, behind_capacitors, behind_connections};
-ghost use Rattle.spef_read.specs.Forms.{net_name_forms, net_total_forms, lists_forms, totalled_forms};
-ghost use Rattle.spef_read.specs.Forms.{connections_forms, connection_forms, capacitors_forms, cap_second_forms};
-ghost use Rattle.spef_read.specs.Forms.{cap_value_forms, resistors_forms, res_second_forms, res_value_forms};
+ghost use Rattle.spef_read.specs.Forms.{closing_forms, behind_capacitors, behind_connections, net_name_forms};
+ghost use Rattle.spef_read.specs.Forms.{net_total_forms, lists_forms, totalled_forms, connections_forms};
+ghost use Rattle.spef_read.specs.Forms.{connection_forms, capacitors_forms, cap_second_forms, cap_value_forms};
+ghost use Rattle.spef_read.specs.Forms.{resistors_forms, res_second_forms, res_value_forms};
 ghost use Rattle.text_forms.specs.Tokens.{token_of};
-ghost use Rattle.text_forms.specs.Stops.{Reads};
-ghost use Rattle.spef_read.specs.View.{whole_of};
+ghost use Rattle.spef_read.specs.View.{ReadsForm};
 
 use crate::context::Context;
 use crate::forms::done;
-use crate::item::{FormRead, Item};
+use crate::item::{FormResult, Item};
 use crate::slots::{any_word, is_value_sort, is_word};
 use crate::sort::Sort;
-use text_forms::{Refused, Term, Terms, TokenSort};
+use text_forms::{Term, Terms, TokenSort};
 use xt_model::Code;
 
 /// The end of a net, from its token on.
 #[inline(always)]
-fn closing_from<'a>(first: Term<'a, Sort>, terms: &Terms<'a, Sort>) -> Result<FormRead<'a>, Refused>
-    ensures { Reads (λ r. (whole_of r, terms.now)) result
-        (first_form closing_forms (token_of first.entry ∷ terms.now)) }
+fn closing_from<'a>(first: Term<'a, Sort>, terms: &Terms<'a, Sort>) -> FormResult<'a>
+    ensures { ReadsForm result closing_forms (token_of first.entry ∷ terms.now) terms.now }
 {
     match first.sort {
         Sort::NetEnd => Ok(done(Item::NetEnds, first.line, Context::BehindNet)),
@@ -34,12 +32,8 @@ fn closing_from<'a>(first: Term<'a, Sort>, terms: &Terms<'a, Sort>) -> Result<Fo
 
 /// What comes after the capacitors of a net, from its first token on.
 #[inline(always)]
-fn behind_capacitors<'a>(
-    first: Term<'a, Sort>,
-    terms: &Terms<'a, Sort>,
-) -> Result<FormRead<'a>, Refused>
-    ensures { Reads (λ r. (whole_of r, terms.now)) result
-        (first_form behind_capacitors (token_of first.entry ∷ terms.now)) }
+fn behind_capacitors<'a>(first: Term<'a, Sort>, terms: &Terms<'a, Sort>) -> FormResult<'a>
+    ensures { ReadsForm result behind_capacitors (token_of first.entry ∷ terms.now) terms.now }
 {
     if Sort::Resistors.same(first.sort) {
         Ok(done(Item::Nothing, first.line, Context::Resistors))
@@ -50,12 +44,8 @@ fn behind_capacitors<'a>(
 
 /// What comes after the connections of a net, from its first token on.
 #[inline(always)]
-fn behind_connections<'a>(
-    first: Term<'a, Sort>,
-    terms: &Terms<'a, Sort>,
-) -> Result<FormRead<'a>, Refused>
-    ensures { Reads (λ r. (whole_of r, terms.now)) result
-        (first_form behind_connections (token_of first.entry ∷ terms.now)) }
+fn behind_connections<'a>(first: Term<'a, Sort>, terms: &Terms<'a, Sort>) -> FormResult<'a>
+    ensures { ReadsForm result behind_connections (token_of first.entry ∷ terms.now) terms.now }
 {
     if Sort::Capacitors.same(first.sort) {
         Ok(done(Item::Nothing, first.line, Context::Capacitors))
@@ -65,9 +55,8 @@ fn behind_connections<'a>(
 }
 
 /// The name of a net.
-pub fn net_name<'a>(first: Term<'a, Sort>, terms: &Terms<'a, Sort>) -> Result<FormRead<'a>, Refused>
-    ensures { Reads (λ r. (whole_of r, terms.now)) result
-        (first_form net_name_forms (token_of first.entry ∷ terms.now)) }
+pub fn net_name<'a>(first: Term<'a, Sort>, terms: &Terms<'a, Sort>) -> FormResult<'a>
+    ensures { ReadsForm result net_name_forms (token_of first.entry ∷ terms.now) terms.now }
 {
     if is_word(first.sort) {
         Ok(done(Item::NetName(first.text), first.line, Context::NetTotal))
@@ -77,12 +66,8 @@ pub fn net_name<'a>(first: Term<'a, Sort>, terms: &Terms<'a, Sort>) -> Result<Fo
 }
 
 /// The total capacitance of a net.
-pub fn net_total<'a>(
-    first: Term<'a, Sort>,
-    terms: &Terms<'a, Sort>,
-) -> Result<FormRead<'a>, Refused>
-    ensures { Reads (λ r. (whole_of r, terms.now)) result
-        (first_form net_total_forms (token_of first.entry ∷ terms.now)) }
+pub fn net_total<'a>(first: Term<'a, Sort>, terms: &Terms<'a, Sort>) -> FormResult<'a>
+    ensures { ReadsForm result net_total_forms (token_of first.entry ∷ terms.now) terms.now }
 {
     if is_value_sort(first.sort) {
         Ok(done(Item::Total(first.text), first.line, Context::Totalled))
@@ -93,11 +78,8 @@ pub fn net_total<'a>(
 
 /// The lists of a net, or its end.
 #[inline(always)]
-pub fn lists_from<'a>(
-    first: Term<'a, Sort>,
-    terms: &Terms<'a, Sort>,
-) -> Result<FormRead<'a>, Refused>
-    ensures { Reads (λ r. (whole_of r, terms.now)) result (first_form lists_forms (token_of first.entry ∷ terms.now)) }
+pub fn lists_from<'a>(first: Term<'a, Sort>, terms: &Terms<'a, Sort>) -> FormResult<'a>
+    ensures { ReadsForm result lists_forms (token_of first.entry ∷ terms.now) terms.now }
 {
     if Sort::Connections.same(first.sort) {
         Ok(done(Item::Nothing, first.line, Context::Connections))
@@ -107,12 +89,8 @@ pub fn lists_from<'a>(
 }
 
 /// After the total capacitance of a net.
-pub fn totalled<'a>(
-    first: Term<'a, Sort>,
-    terms: &mut Terms<'a, Sort>,
-) -> Result<FormRead<'a>, Refused>
-    ensures { Reads (λ r. (whole_of r, terms.new)) result
-        (first_form totalled_forms (token_of first.entry ∷ terms.old)) }
+pub fn totalled<'a>(first: Term<'a, Sort>, terms: &mut Terms<'a, Sort>) -> FormResult<'a>
+    ensures { ReadsForm result totalled_forms (token_of first.entry ∷ terms.old) terms.new }
 {
     if !Sort::Confidence.same(first.sort) {
         return lists_from(first, &*terms);
@@ -125,12 +103,8 @@ pub fn totalled<'a>(
 }
 
 /// After `*CONN`.
-pub fn connections<'a>(
-    first: Term<'a, Sort>,
-    terms: &Terms<'a, Sort>,
-) -> Result<FormRead<'a>, Refused>
-    ensures { Reads (λ r. (whole_of r, terms.now)) result
-        (first_form connections_forms (token_of first.entry ∷ terms.now)) }
+pub fn connections<'a>(first: Term<'a, Sort>, terms: &Terms<'a, Sort>) -> FormResult<'a>
+    ensures { ReadsForm result connections_forms (token_of first.entry ∷ terms.now) terms.now }
 {
     if Sort::Connection.same(first.sort) {
         Ok(done(Item::Nothing, first.line, Context::Connection))
@@ -140,12 +114,8 @@ pub fn connections<'a>(
 }
 
 /// In a connection.
-pub fn connection<'a>(
-    first: Term<'a, Sort>,
-    terms: &Terms<'a, Sort>,
-) -> Result<FormRead<'a>, Refused>
-    ensures { Reads (λ r. (whole_of r, terms.now)) result
-        (first_form connection_forms (token_of first.entry ∷ terms.now)) }
+pub fn connection<'a>(first: Term<'a, Sort>, terms: &Terms<'a, Sort>) -> FormResult<'a>
+    ensures { ReadsForm result connection_forms (token_of first.entry ∷ terms.now) terms.now }
 {
     match first.sort {
         Sort::NameMap | Sort::Skipped | Sort::Net | Sort::End => Err(first.refused()),
@@ -156,12 +126,8 @@ pub fn connection<'a>(
 }
 
 /// A capacitor, or what comes after the last one.
-pub fn capacitors<'a>(
-    first: Term<'a, Sort>,
-    terms: &mut Terms<'a, Sort>,
-) -> Result<FormRead<'a>, Refused>
-    ensures { Reads (λ r. (whole_of r, terms.new)) result
-        (first_form capacitors_forms (token_of first.entry ∷ terms.old)) }
+pub fn capacitors<'a>(first: Term<'a, Sort>, terms: &mut Terms<'a, Sort>) -> FormResult<'a>
+    ensures { ReadsForm result capacitors_forms (token_of first.entry ∷ terms.old) terms.new }
 {
     if !Sort::Digits.same(first.sort) {
         return behind_capacitors(first, &*terms);
@@ -171,12 +137,8 @@ pub fn capacitors<'a>(
 }
 
 /// After the first node of a capacitor.
-pub fn cap_second<'a>(
-    first: Term<'a, Sort>,
-    terms: &Terms<'a, Sort>,
-) -> Result<FormRead<'a>, Refused>
-    ensures { Reads (λ r. (whole_of r, terms.now)) result
-        (first_form cap_second_forms (token_of first.entry ∷ terms.now)) }
+pub fn cap_second<'a>(first: Term<'a, Sort>, terms: &Terms<'a, Sort>) -> FormResult<'a>
+    ensures { ReadsForm result cap_second_forms (token_of first.entry ∷ terms.now) terms.now }
 {
     match first.sort {
         Sort::Text | Sort::End => Err(first.refused()),
@@ -190,12 +152,8 @@ pub fn cap_second<'a>(
 }
 
 /// After the second node of a capacitor.
-pub fn cap_value<'a>(
-    first: Term<'a, Sort>,
-    terms: &Terms<'a, Sort>,
-) -> Result<FormRead<'a>, Refused>
-    ensures { Reads (λ r. (whole_of r, terms.now)) result
-        (first_form cap_value_forms (token_of first.entry ∷ terms.now)) }
+pub fn cap_value<'a>(first: Term<'a, Sort>, terms: &Terms<'a, Sort>) -> FormResult<'a>
+    ensures { ReadsForm result cap_value_forms (token_of first.entry ∷ terms.now) terms.now }
 {
     if is_value_sort(first.sort) {
         Ok(done(Item::CapValue(first.text), first.line, Context::Capacitors))
@@ -205,12 +163,8 @@ pub fn cap_value<'a>(
 }
 
 /// A resistor, or what comes after the last one.
-pub fn resistors<'a>(
-    first: Term<'a, Sort>,
-    terms: &mut Terms<'a, Sort>,
-) -> Result<FormRead<'a>, Refused>
-    ensures { Reads (λ r. (whole_of r, terms.new)) result
-        (first_form resistors_forms (token_of first.entry ∷ terms.old)) }
+pub fn resistors<'a>(first: Term<'a, Sort>, terms: &mut Terms<'a, Sort>) -> FormResult<'a>
+    ensures { ReadsForm result resistors_forms (token_of first.entry ∷ terms.old) terms.new }
 {
     if !Sort::Digits.same(first.sort) {
         return closing_from(first, &*terms);
@@ -220,12 +174,8 @@ pub fn resistors<'a>(
 }
 
 /// After the first node of a resistor.
-pub fn res_second<'a>(
-    first: Term<'a, Sort>,
-    terms: &Terms<'a, Sort>,
-) -> Result<FormRead<'a>, Refused>
-    ensures { Reads (λ r. (whole_of r, terms.now)) result
-        (first_form res_second_forms (token_of first.entry ∷ terms.now)) }
+pub fn res_second<'a>(first: Term<'a, Sort>, terms: &Terms<'a, Sort>) -> FormResult<'a>
+    ensures { ReadsForm result res_second_forms (token_of first.entry ∷ terms.now) terms.now }
 {
     if is_word(first.sort) {
         Ok(done(Item::ResNode(first.text), first.line, Context::ResValue))
@@ -235,12 +185,8 @@ pub fn res_second<'a>(
 }
 
 /// After the second node of a resistor.
-pub fn res_value<'a>(
-    first: Term<'a, Sort>,
-    terms: &Terms<'a, Sort>,
-) -> Result<FormRead<'a>, Refused>
-    ensures { Reads (λ r. (whole_of r, terms.now)) result
-        (first_form res_value_forms (token_of first.entry ∷ terms.now)) }
+pub fn res_value<'a>(first: Term<'a, Sort>, terms: &Terms<'a, Sort>) -> FormResult<'a>
+    ensures { ReadsForm result res_value_forms (token_of first.entry ∷ terms.now) terms.now }
 {
     if is_value_sort(first.sort) {
         Ok(done(Item::ResValue(first.text), first.line, Context::Resistors))

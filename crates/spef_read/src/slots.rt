@@ -15,10 +15,7 @@ use text_forms::{Refused, Term, Terms};
 pub fn is_word(sort: Sort) -> bool
     ensures { result ≡ is_word sort }
 {
-    match sort {
-        Sort::Text | Sort::End => false,
-        _ => true,
-    }
+    !matches!(sort, Sort::Text | Sort::End)
 }
 
 /// Whether a token of this sort has the form of a value.
@@ -26,10 +23,7 @@ pub fn is_word(sort: Sort) -> bool
 pub fn is_value_sort(sort: Sort) -> bool
     ensures { result ≡ is_value_sort sort }
 {
-    match sort {
-        Sort::Digits | Sort::Value => true,
-        _ => false,
-    }
+    matches!(sort, Sort::Digits | Sort::Value)
 }
 
 /// The next token, which has to be a word.

@@ -254,10 +254,7 @@ impl TokenSort for Sort {
     fn sort_by(kind: Kind, text: &[u8]) -> Sort {
         match kind {
             Kind::Text => Sort::Text,
-            Kind::Word => word_sort(text),
-            Kind::Mark => word_sort(text),
-            Kind::Escaped => word_sort(text),
-            Kind::Break => word_sort(text),
+            Kind::Word | Kind::Mark | Kind::Escaped | Kind::Break => word_sort(text),
         }
     }
 

@@ -61,13 +61,7 @@ pub fn value_of(word: &[u8], scale: Option<i32>) -> Result<i64, Stop>
         return Err(Stop::Refused(Code::S4));
     };
     match read_fixed(counted(word), scale) {
-        Ok(value) => {
-            if value >= 0 {
-                Ok(value)
-            } else {
-                Err(Stop::Refused(Code::S3))
-            }
-        }
-        Err(_) => Err(Stop::Refused(Code::S3)),
+        Ok(value) if value >= 0 => Ok(value),
+        _ => Err(Stop::Refused(Code::S3)),
     }
 }
