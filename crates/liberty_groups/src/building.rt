@@ -166,10 +166,7 @@ impl<'a> FormReader for Building<'a> {
     fn is_done(context: Context) -> bool
         ensures { result ≡ is_end context }
     {
-        match context {
-            Context::Done => true,
-            _ => false,
-        }
+        matches!(context, Context::Done)
     }
 
     fn read_form(context: Context, terms: &mut Terms<'a, Sort>) -> Result<FormRead, Refused>

@@ -77,8 +77,7 @@ impl TokenSort for Sort {
             Kind::Word => word_sort(text),
             Kind::Text => Sort::Text,
             Kind::Mark => mark_sort(text),
-            Kind::Escaped => Sort::Other,
-            Kind::Break => Sort::Other,
+            Kind::Escaped | Kind::Break => Sort::Other,
         }
     }
 
