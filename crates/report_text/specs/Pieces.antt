@@ -1,5 +1,6 @@
 -- The pieces of a report.
-use Rattle.std.specs.Prelude.{◌≡◌, ℕ, ◌+◌, ◌*◌, ◌^◌, ◌≤◌, pos, neg_ℤ, ◌+ℤ◌, ◌≤ℤ◌, if◌then◌else◌, List, [], ◌∷◌, ◌++◌, length, map, take, drop, codes}
+use Rattle.std.specs.Prelude.{◌≡◌, ℕ, ◌+◌, ◌*◌, ◌^◌, ◌≤◌, pos, neg_ℤ, ◌+ℤ◌, ◌≤ℤ◌, if◌then◌else◌}
+use Rattle.std.specs.Prelude.{List, [], ◌∷◌, ◌++◌, length, map, take, drop, codes}
 use Rattle.std.specs.List.{filter}
 use Rattle.xt_model.specs.Limits.{most_couplings}
 use Rattle.xt_model.specs.declared.edge.Edge.TheVariants.{Rise, Fall}

@@ -36,6 +36,6 @@ item_text items.TextEnds = grammar.TextEnds
 abbrev pub whole_of : FormRead Item Context → WholeForm
 whole_of r = form_whole item_text r
 
--- what was read of some tokens is the first of these forms, behind which the others are left
+-- what was read of some tokens is the first of these forms, after which the others are left
 abbrev pub ReadsForm : Result (FormRead Item Context) Refused → List SpefForm → Tokens → Tokens → Type 0
 ReadsForm result fs ts left = Reads (λ r. (whole_of r, left)) result (first_form fs ts)

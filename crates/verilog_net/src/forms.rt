@@ -237,7 +237,8 @@ fn bit<'a>(
     terms: &mut Terms<'a, Sort>,
 ) -> FormResult<'a>
     ensures { ReadsAs result
-        (behind_two Name LeftBracket connection_forms (token_of bus.entry) (token_of bracket.entry) terms.old) terms.new }
+        (behind_two Name LeftBracket connection_forms (token_of bus.entry) (token_of bracket.entry) terms.old)
+        terms.new }
 {
     let number = terms.expect(Sort::Number)?;
     let last = terms.any()?;
