@@ -38,6 +38,6 @@ pub use schedule::run_schedule;
 pub use setting::Setting;
 pub use settle::{Settled, settle_alone, settle_picked};
 pub use steps::{moves_down, worker_step};
-pub use unmoved::{closed_where_grouped, mark_decided};
+pub use unmoved::{closed_where_grouped, is_alike, is_decided};
 pub use words::{number_in, numbers_in, set_pairs};
 pub use worker::{Moved, Worker};

@@ -1,7 +1,7 @@
 //! Looks that evaluate only nets of which the last round moved something that decides them.
 
-ghost use Rattle.std.specs.Prelude.{◌≡◌, ◌↔◌, ℕ, ◌+◌, ◌<◌, ◌≤◌, false, length, IsTrue};
-ghost use Rattle.std.specs.List.{slice_index_or};
+ghost use Rattle.std.specs.Prelude.{◌≡◌, ◌↔◌, ℕ, ◌+◌, ◌<◌, ◌≤◌, false, length, IfSome, IsTrue};
+ghost use Rattle.std.specs.List.{All, slice_get, slice_index_or};
 ghost use Rattle.xt_model.specs.declared.edge.Edge.{Edge};
 ghost use Rattle.xt_model.specs.Assign.{assigned};
 ghost use Rattle.xt_model.specs.Sound.{IsSound};
@@ -13,7 +13,7 @@ ghost use Rattle.table_box.specs.Groups.{AreGroups};
 ghost use Rattle.net_eval.specs.Closing.{IsSteadyAt};
 ghost use Rattle.chaos_core.specs.Alike.{AreDecidedAlike};
 ghost use Rattle.chaos_core.specs.Looks.{AreAlike, AreDecided, AreUnmoved, IsLook};
-ghost use Rattle.chaos_core.specs.Spared.{AreInputsAlike};
+ghost use Rattle.chaos_core.specs.Spared.{IsInputAlike};
 
 use crate::alike::{Twice, TwoTimes, is_input_alike, is_own_alike};
 use net_eval::closed_part_grouped;
@@ -59,72 +59,106 @@ impl<'a> TwoTimes for TwoWindows<'a> {
     }
 }
 
-/// Takes the mark from each net at whose couplings an overlap answer is not the same before and after a round.
-fn mark_alike(design: &Design, before: &Windows, after: &Windows, unmoved: &mut [bool])
+/// Whether the windows of a net are the same before and after a round, and the overlap answers at its couplings, where
+/// `unmoved` has a mark for each net that the round did not move, and for no other.
+pub fn is_alike(
+    design: &Design,
+    before: &Windows,
+    after: &Windows,
+    unmoved: &[bool],
+    net: usize,
+) -> bool
     requires sound { IsSound design.now }
-    requires unmoved { AreUnmoved before.now after.now unmoved.old }
     requires before { length before.now ≡ length design.now.nets }
     requires after { length after.now ≡ length design.now.nets }
-    ensures unmoved { AreUnmoved before.now after.now unmoved.new }
-    ensures alike { AreAlike design.now before.now after.now unmoved.new }
+    requires unmoved { AreUnmoved before.now after.now unmoved.now }
+    requires there { net < length design.now.nets }
+    ensures { IsTrue result → IsInputAlike design.now (assigned before.now) (assigned after.now) net }
 {
-    for net in 0..unmoved.len() {
-        let two = TwoWindows {
-            before,
-            after,
-            unmoved: &*unmoved,
-        };
-        let alike = is_input_alike(&two, design, NetId(net as u32), None);
-        unmoved[net] = alike;
-    }
+    let two = TwoWindows {
+        before,
+        after,
+        unmoved,
+    };
+    is_input_alike(&two, design, NetId(net as u32), None)
 }
 
-/// Whether a net is marked.
-fn is_marked(marks: &[bool], net: NetId) -> bool
-    requires { net.0 < length marks.now }
-    ensures { IsTrue result → IsTrue (slice_index_or marks.now net.0 false) }
+/// Whether all inputs of a net are marked.
+fn are_inputs_marked(marks: &[bool], design: &Design, net: usize) -> bool
+    requires there { net < length design.now.nets }
+    requires read { HoldsOfReads (λ m. m < length marks.now) design.now net }
+    ensures { IsTrue result → IfSome (slice_get design.now.nets net)
+        (λ own. All (λ arc. IsTrue (slice_index_or marks.now arc.from.0 false)) own.arcs) }
 {
-    marks[net.0 as usize]
-}
-
-/// Whether all inputs of a net are marked, where each net that is marked has the same windows and overlap answers.
-fn are_inputs_marked(two: &TwoWindows, design: &Design, net: NetId) -> bool
-    requires there { net.0 < length design.now.nets }
-    requires read { HoldsOfReads (λ m. m < length two.now.before.now) design.now net.0 }
-    requires alike { AreAlike design.now two.now.before.now two.now.after.now two.now.unmoved.now }
-    ensures { IsTrue result
-        → AreInputsAlike design.now (assigned two.now.before.now) (assigned two.now.after.now) net.0 }
-{
-    let own = design.net(net.0 as usize);
+    let own = design.net(net);
     for arc in own.arcs.as_slice() {
-        if !is_marked(two.unmoved, arc.from) {
+        if !marks[arc.from.0 as usize] {
             return false;
         }
     }
     true
 }
 
-/// Whether what decides a net is the same before and after, where that is known of the windows and the overlap answers
-/// of each net that is marked. Looks at windows only where the net is not marked and its inputs are.
-fn is_decided(two: &TwoWindows, design: &Design, net: NetId) -> bool
-    requires there { net.0 < length design.now.nets }
-    requires count { length two.now.before.now ≡ length design.now.nets }
-    requires read { HoldsOfReads (λ m. m < length two.now.before.now) design.now net.0 }
-    requires alike { AreAlike design.now two.now.before.now two.now.after.now two.now.unmoved.now }
-    ensures { IsTrue result
-        → AreDecidedAlike design.now (assigned two.now.before.now) (assigned two.now.after.now) net.0 }
+/// Whether what decides a net is the same before and after a round: its inputs' windows, and the overlap answers at its
+/// own couplings and at those of its inputs. Of each net that is marked in `alike` it is known that its windows are the
+/// same and the overlap answers at its couplings; windows are looked at only where the net is not marked and its inputs
+/// are.
+pub fn is_decided(
+    design: &Design,
+    before: &Windows,
+    after: &Windows,
+    alike: &[bool],
+    net: usize,
+) -> bool
+    requires sound { IsSound design.now }
+    requires before { length before.now ≡ length design.now.nets }
+    requires after { length after.now ≡ length design.now.nets }
+    requires count { length alike.now ≡ length design.now.nets }
+    requires alike { AreAlike design.now before.now after.now alike.now }
+    requires there { net < length design.now.nets }
+    ensures { IsTrue result → AreDecidedAlike design.now (assigned before.now) (assigned after.now) net }
 {
-    if !are_inputs_marked(two, design, net) {
+    if !are_inputs_marked(alike, design, net) {
         return false;
     }
-    is_marked(two.unmoved, net) || is_own_alike(two, design, net)
+    if alike[net] {
+        return true;
+    }
+    let two = TwoWindows {
+        before,
+        after,
+        unmoved: alike,
+    };
+    is_own_alike(&two, design, NetId(net as u32))
+}
+
+/// Marks each net that a round did not move, and of which the overlap answers at its couplings are the same before and
+/// after it, and no other.
+fn mark_alike(
+    design: &Design,
+    before: &Windows,
+    after: &Windows,
+    unmoved: &[bool],
+    marks: &mut [bool],
+)
+    requires sound { IsSound design.now }
+    requires before { length before.now ≡ length design.now.nets }
+    requires after { length after.now ≡ length design.now.nets }
+    requires unmoved { AreUnmoved before.now after.now unmoved.now }
+    requires marks { length marks.old ≡ length design.now.nets }
+    ensures count { length marks.new ≡ length design.now.nets }
+    ensures alike { AreAlike design.now before.now after.now marks.new }
+{
+    for net in 0..marks.len() {
+        marks[net] = is_alike(design, before, after, unmoved, net);
+    }
 }
 
 /// Marks each net of which what decides it is the same before and after a round, and no other: its inputs' windows, and
 /// the overlap answers at its own couplings and at those of its inputs. The answers of a net are asked for it, not for
-/// each of its readers: those that are marked in `unmoved`, as nets that the round did not move, keep that mark only
-/// where their answers are the same.
-pub fn mark_decided(
+/// each of its readers. `unmoved` has a mark for each net that the round did not move, and for no other; it is left with
+/// other marks.
+pub(crate) fn mark_decided(
     design: &Design,
     unmoved: &mut [bool],
     before: &Windows,
@@ -139,15 +173,11 @@ pub fn mark_decided(
     ensures unmoved { length unmoved.new ≡ length unmoved.old }
     ensures decided { AreDecided design.now before.now after.now marks.new }
 {
-    mark_alike(design, before, after, unmoved);
-    let two = TwoWindows {
-        before,
-        after,
-        unmoved,
-    };
-    for net in 0..marks.len() {
-        marks[net] = is_decided(&two, design, NetId(net as u32));
+    mark_alike(design, before, after, unmoved, marks);
+    for net in 0..unmoved.len() {
+        unmoved[net] = is_decided(design, before, after, marks, net);
     }
+    marks.copy_from_slice(unmoved);
 }
 
 /// Whether the operator gives the windows of a net back. It evaluates no net that is marked.

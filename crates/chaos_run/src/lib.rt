@@ -3,6 +3,7 @@
 
 mod both;
 mod look;
+mod marks;
 mod round;
 mod settling;
 mod workers;

@@ -19,7 +19,8 @@ ghost use Rattle.window_words.specs.Boards.{IsAlone, IsOf};
 ghost use Rattle.window_words.specs.Steps.{IsRested};
 ghost use Rattle.chaos_run.specs.Looks.{quad_from};
 
-use chaos_core::{bound_of, closed_where_grouped, mark_decided};
+use crate::marks::mark_decided;
+use chaos_core::{bound_of, closed_where_grouped};
 use std::mem;
 use std::thread::{Threads, join};
 use window_words::{Pass, SharedBoard};
@@ -358,6 +359,6 @@ pub(crate) fn look_again<R: Threads + Sync>(
 {
     mem::swap(before, windows);
     load_all(board, first, before, windows, unmoved);
-    mark_decided(design, unmoved, before, windows, marks);
+    mark_decided(rt, design, unmoved, before, windows, marks, shares);
     closed_from_ends(rt, design, groups, marks, windows, shares)
 }

@@ -6,6 +6,6 @@ use Rattle.chaos_core.proofs.unmoved.mark_decided.Given as goal
 
 abbrev pub invariant-loop-net : goal.invariant-loop-net
 invariant-loop-net l = record {
-  count : length l.marks ≡ length l.design.nets;
-  alike : (n : ℕ) → n < l.net → IsTrue (get_or l.marks n false) → AreDecidedAlike l.design (assigned l.before) (assigned l.after) n;
+  count : length l.unmoved ≡ length l.design.nets;
+  alike : (n : ℕ) → n < l.net → IsTrue (get_or l.unmoved n false) → AreDecidedAlike l.design (assigned l.before) (assigned l.after) n;
 }

@@ -86,13 +86,13 @@ pub load_all-requires-clause-unmoved : goal.load_all-requires-clause-unmoved
 load_all-requires-clause-unmoved g c = let a = ap length c.swap.ensures.y_after in let b = c.requires.before in let n = c.requires.unmoved in omega (arith, a, b, n)
 
 pub mark_decided-requires-clause-sound : goal.mark_decided-requires-clause-sound
-mark_decided-requires-clause-sound g c = subst IsSound (ap (λ (x : Setting). x.design) c.requires.own.setting ∙ c.requires.design) c.load_all.ensures.kept.seen.sound
+mark_decided-requires-clause-sound g c = λ _ _. subst IsSound (ap (λ (x : Setting). x.design) c.requires.own.setting ∙ c.requires.design) c.load_all.ensures.kept.seen.sound
 
 pub mark_decided-requires-clause-before : goal.mark_decided-requires-clause-before
-mark_decided-requires-clause-before g c = ap length c.swap.ensures.x_after ∙ c.requires.fits.windows.count
+mark_decided-requires-clause-before g c = λ _ _. ap length c.swap.ensures.x_after ∙ c.requires.fits.windows.count
 
 pub mark_decided-requires-clause-after : goal.mark_decided-requires-clause-after
-mark_decided-requires-clause-after g c = c.load_all.ensures.count ∙ (ap length c.swap.ensures.y_after ∙ c.requires.before)
+mark_decided-requires-clause-after g c = λ _ _. c.load_all.ensures.count ∙ (ap length c.swap.ensures.y_after ∙ c.requires.before)
 
 pub returns-clause-before : goal.returns-clause-before
 returns-clause-before g c = let a = ap length c.swap.ensures.x_after in let m = c.requires.fits.windows.count in let n = c.requires.before in omega (arith, a, m, n)
