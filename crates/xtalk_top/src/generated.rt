@@ -1,9 +1,12 @@
 //! The command `gen`.
 
-ghost use Rattle.std.specs.Prelude.{IfOk, IfErr};
-ghost use Rattle.xt_model.specs.Levels.{AreLevelled};
+ghost use Rattle.std.specs.Prelude.{◌≡◌, ℕ, length, IfOk, IfErr};
+ghost use Rattle.std.specs.Thread.{IsSync};
+ghost use Rattle.xt_model.specs.Levels.{AreLevelled, IsDepth, IsPairCount};
 ghost use Rattle.xt_model.specs.Sound.{IsSound};
+ghost use Rattle.text_lines.specs.Lines.{text_of};
 ghost use Rattle.design_gen.specs.Laws.{IsCount};
+ghost use Rattle.report_text.specs.Summary.{summary};
 ghost use Rattle.command_line.specs.Words.{IsWorkerCount};
 ghost use Rattle.call_meaning.specs.Outcome.{prints};
 ghost use Rattle.call_meaning.specs.Call.{IsStop};
@@ -14,12 +17,47 @@ use crate::solution::{envelope_and_lists, solved_by};
 use call_meaning::Stop;
 use chaos_core::Gate;
 use command_line::GenJob;
-use design_gen::generate;
-use report_text::write_summary;
+use design_gen::{drop_design, generate_by};
+use net_eval::ReadLists;
+use report_text::{write_summary, write_summary_by};
 use std::alloc::Global;
 use std::mem;
-use std::thread::Threads;
-use xt_model::{Design, NoMemory};
+use std::thread::{Threads, join};
+use xt_model::{Design, NoMemory, Windows};
+
+/// The text of the summary of a design and of its least and greatest windows. The read lists, which are not needed any
+/// more, are given back: by one worker after that, by several beside it.
+fn written<R: Threads + Sync>(
+    rt: &R,
+    alloc: Global,
+    design: &Design,
+    low: &Windows,
+    high: &Windows,
+    lists: ReadLists,
+    workers: u32,
+) -> Result<Vec<u8>, NoMemory>
+    requires low { length low.now ≡ length design.now.nets }
+    requires high { length high.now ≡ length design.now.nets }
+    ensures { IfOk result (λ text. (pairs : ℕ) × (depth : ℕ)
+        × IsPairCount design.now.nets pairs × IsDepth design.now.nets depth
+        × (text.items ≡ text_of (summary design.now pairs depth low.now high.now))) }
+{
+    if workers <= 1 {
+        return write_summary(alloc, design, low, high);
+    }
+    let (text, ()) = join(
+        rt,
+        move || -> Result<Vec<u8>, NoMemory>
+            requires { IsSync R.row × (length low.now ≡ length design.now.nets)
+                × (length high.now ≡ length design.now.nets) }
+            ensures { IfOk result (λ text. (pairs : ℕ) × (depth : ℕ)
+                × IsPairCount design.entry.now.nets pairs × IsDepth design.entry.now.nets depth
+                × (text.items ≡ text_of (summary design.entry.now pairs depth low.entry.now high.entry.now))) }
+        { write_summary_by(rt, alloc, design, low, high, workers) },
+        move || mem::drop(lists),
+    );
+    text
+}
 
 /// The summary of a design: of its least and its greatest windows.
 fn summary<R: Threads + Sync, G: Gate>(
@@ -39,7 +77,15 @@ fn summary<R: Threads + Sync, G: Gate>(
     let Ok(found) = solved_by(rt, alloc, gate, design, &lists, &top, runs) else {
         return Err(Stop::NoMemory);
     };
-    match write_summary(alloc, design, &found.low, &found.high) {
+    match written(
+        rt,
+        alloc,
+        design,
+        &found.low,
+        &found.high,
+        lists,
+        runs.workers,
+    ) {
         Ok(text) => Ok(text),
         Err(NoMemory) => Err(Stop::NoMemory),
     }
@@ -64,10 +110,10 @@ pub fn summary_of_generated<R: Threads + Sync, G: Gate>(
     } = job;
     let turns = Turns::InThreads;
     let runs = Runs { workers, turns };
-    match generate(alloc, number, nets) {
+    match generate_by(rt, alloc, number, nets, workers) {
         Ok(design) => {
             let text = summary(rt, alloc, gate, &design, runs);
-            mem::drop(design);
+            drop_design(rt, alloc, design, workers);
             text
         }
         Err(NoMemory) => Err(Stop::NoMemory),

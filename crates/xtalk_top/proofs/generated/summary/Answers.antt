@@ -2,11 +2,11 @@ use Rattle.std.proofs.Common.{refl, inr}
 use Rattle.report_text.specs.Summary.{IsSummary}
 use Rattle.xtalk_top.proofs.generated.summary.Goals as goal
 
-pub returns-in-Ok-write_summary-clause-ok : goal.returns-in-Ok-write_summary-clause-ok
-returns-in-Ok-write_summary-clause-ok g c =
+pub returns-in-Ok-written-clause-ok : goal.returns-in-Ok-written-clause-ok
+returns-in-Ok-written-clause-ok g c =
     let found = c.in-Ok.ensures in
-    let written = c.in-Ok-write_summary.ensures in
-    let summary : IsSummary c.args.design.now c.in-Ok-write_summary.text.items = record {
+    let written = c.in-Ok-written.ensures in
+    let summary : IsSummary c.args.design.now c.in-Ok-written.text.items = record {
       pairs = written.0;
       depth = written.1;
       low = c.in-Ok.found.low;
@@ -17,4 +17,4 @@ returns-in-Ok-write_summary-clause-ok g c =
       is_greatest = found.greatest;
       written = written.4;
     } in
-    inr (found.keeps, (c.in-Ok-write_summary.text.items, record { summary = summary; bounds = found.bounds }, refl))
+    inr (found.keeps, (c.in-Ok-written.text.items, record { summary = summary; bounds = found.bounds }, refl))
