@@ -197,6 +197,23 @@ fn count_of(flat: &[Option<(u32, u32)>]) -> u32
     flat.len() as u32
 }
 
+/// What the nets of a module are connected to outside, at an instance of it. The nets that are flat so far have the
+/// ranges `flat`.
+fn wires_below<'a>(
+    alloc: Global,
+    flat: &[Option<(u32, u32)>],
+    frame: &Frame<'a>,
+    instance: &'a Instance,
+    inner: &'a Netlist,
+) -> Result<Vec<Wire>, AllocError>
+    ensures { IfOk result (λ ws. (prefix : List ℕ) → ws.items
+        ≡ wires_below flat.now (scope_at prefix frame.now) instance.entry.now inner.entry.now) }
+{
+    let pins = pins_by_name(alloc, frame.nets.key(), instance.pins.as_slice())?;
+    let meant = frame.meant.as_slice();
+    wires_of(alloc, flat, frame.nets, meant, &pins, &inner.nets)
+}
+
 /// The module at an instance, and what its nets are connected to outside. The nets that are flat so far have the
 /// ranges `flat`.
 pub fn frame_below<'a>(
@@ -215,15 +232,7 @@ pub fn frame_below<'a>(
         → IsEntered flat.now (scope_at prefix frame.now) instance.entry.now inner.entry.now r.0) }
 {
     let path = deeper(frame.path, instance.name.bytes())?;
-    let pins = pins_by_name(alloc, frame.nets.key(), instance.pins.as_slice())?;
-    let wires = wires_of(
-        alloc,
-        flat,
-        frame.nets,
-        frame.meant.as_slice(),
-        &pins,
-        &inner.nets,
-    )?;
+    let wires = wires_below(alloc, flat, frame, instance, inner)?;
     let meant = meant_of(alloc, count_of(flat), wires.as_slice())?;
     let below = Frame {
         nets: &inner.nets,

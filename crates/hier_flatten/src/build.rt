@@ -1,6 +1,6 @@
 //! The flat netlist of the top, one instance after another.
 
-ghost use Rattle.std.specs.Prelude.{◌≡◌, ◌<◌, ◌∷◌, length, IfOk, OnOk};
+ghost use Rattle.std.specs.Prelude.{◌≡◌, ◌<◌, [], ◌∷◌, length, Ok, Err, MatchOption, IfOk, OnOk};
 ghost use Rattle.hier_flatten.specs.Hierarchy.{HasHierarchy, links_of};
 ghost use Rattle.hier_flatten.specs.Flat.{built, counts_of};
 ghost use Rattle.hier_flatten.specs.Walk.{AreNested, AreLinked, AddedOn, Builds, work};
@@ -64,6 +64,33 @@ fn step<'a, 'b>(
     Ok(None)
 }
 
+/// Adds the flat nets and instances of the top, where there are none so far. Answers the limit that they pass.
+fn add_all<'a, 'b>(
+    alloc: Global,
+    index: &'b Index<'a>,
+    growing: &mut Growing,
+    top: &'b Netlist,
+    links: &'b [Option<usize>],
+) -> Result<Option<LimitKind>, AllocError>
+    requires growing { growing.old ≡ record { nets = []; instances = []; entered = 0 } }
+    requires top { HasHierarchy index.now top.now.instances }
+    requires links { links.now ≡ links_of index.now top.now.instances }
+    ensures { let builds = Builds index.entry.now top.entry.now (built top.entry.now) in
+        IfOk result (λ limit. MatchOption limit (builds (Ok growing.new)) (λ what. builds (Err what))) }
+{
+    let frame = enter_top(alloc, growing, top, links)?;
+    let mut stack = Stack::new(alloc);
+    stack.push(frame)?;
+    let mut path = Vec::new(alloc);
+    'frames: while let Some(frame) = stack.pop() {
+        path.truncate(frame.path);
+        if let Some(what) = step(alloc, index, growing, &mut path, &mut stack, frame)? {
+            return Ok(Some(what));
+        }
+    }
+    Ok(None)
+}
+
 /// The flat nets and instances of the top, with room for its `total`, or the limit that they pass.
 pub fn build<'a, 'b>(
     alloc: Global,
@@ -76,16 +103,9 @@ pub fn build<'a, 'b>(
     requires links { links.now ≡ links_of index.now top.now.instances }
     ensures { IfOk result (Builds index.entry.now top.entry.now (built top.entry.now)) }
 {
-    let key = top.nets.key();
-    let mut growing = Growing::with_room(alloc, key, total)?;
-    let mut path = Vec::new(alloc);
-    let mut stack = Stack::new(alloc);
-    stack.push(enter_top(alloc, &mut growing, top, links)?)?;
-    'frames: while let Some(frame) = stack.pop() {
-        path.truncate(frame.path);
-        if let Some(what) = step(alloc, index, &mut growing, &mut path, &mut stack, frame)? {
-            return Ok(Err(what));
-        }
+    let mut growing = Growing::with_room(alloc, top.nets.key(), total)?;
+    match add_all(alloc, index, &mut growing, top, links)? {
+        None => Ok(Ok(growing)),
+        Some(what) => Ok(Err(what)),
     }
-    Ok(Ok(growing))
 }

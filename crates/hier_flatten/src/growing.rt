@@ -73,11 +73,13 @@ impl Growing {
     pub fn with_room(alloc: Global, key: TextKey, total: Total) -> Result<Growing, AllocError>
         ensures { IfOk result (λ g. g ≡ record { nets = []; instances = []; entered = 0 }) }
     {
+        let instances = Vec::with_capacity(alloc, total.cells)?;
+        let ranges = Vec::with_capacity(alloc, total.nets)?;
         Ok(Growing {
             table: NameTable::new(alloc, key),
             more: Vec::new(alloc),
-            instances: Vec::with_capacity(alloc, total.cells)?,
-            ranges: Vec::with_capacity(alloc, total.nets)?,
+            instances,
+            ranges,
             bits: 0,
             entered: 0,
         })

@@ -1,9 +1,11 @@
 //! The names of a flat netlist.
 
-ghost use Rattle.std.specs.Prelude.{◌≡◌, ℕ, List, true, false, map, option_map, option_to_list, IfOk};
+ghost use Rattle.std.specs.Prelude.{◌≡◌, ℕ, List, [], true, false, if◌then◌else◌, Some, None};
+ghost use Rattle.std.specs.Prelude.{map, option_map, option_to_list, IfOk};
 ghost use Rattle.std.specs.List.{list_any};
 ghost use Rattle.hier_flatten.specs.Names.{is_repeated, has_bit_name, has_equal_names, is_long, has_long_name};
 ghost use Rattle.verilog_net.specs.declared.netlist.Net.{Net};
+ghost use Rattle.xt_model.specs.declared.code.Code.TheVariants as codes;
 ghost use Rattle.hier_flatten.specs.Meaning.{named, AnswersFlat};
 
 use crate::fault::FlatFault;
@@ -37,11 +39,11 @@ fn have_bit_names(table: &NameTable<Net>) -> bool
     false
 }
 
-/// Whether two instances have one name.
-pub fn are_repeated(alloc: Global, key: TextKey, instances: &[Instance]) -> Result<bool, AllocError>
-    ensures { IfOk result (λ b. b ≡ is_repeated (map (λ i. i.name) instances.now)) }
+/// Enters the names of instances, up to the first that is there already. Answers whether one is.
+fn enter_names<'a>(instances: &'a [Instance], names: &mut Names<'a>) -> Result<bool, AllocError>
+    requires { names.old ≡ [] }
+    ensures { IfOk result (λ b. b ≡ is_repeated (map (λ i. i.name) instances.entry.now)) }
 {
-    let mut names = Names::new(alloc, key);
     let mut rest = instances;
     'instances: while let [instance, more @ ..] = rest {
         let (_, fresh) = names.enter(instance.name.bytes())?;
@@ -51,6 +53,14 @@ pub fn are_repeated(alloc: Global, key: TextKey, instances: &[Instance]) -> Resu
         rest = more;
     }
     Ok(false)
+}
+
+/// Whether two instances have one name.
+pub fn are_repeated(alloc: Global, key: TextKey, instances: &[Instance]) -> Result<bool, AllocError>
+    ensures { IfOk result (λ b. b ≡ is_repeated (map (λ i. i.name) instances.now)) }
+{
+    let mut names = Names::new(alloc, key);
+    enter_names(instances, &mut names)
 }
 
 /// Whether the name of a net has more than 1,024 bytes.
@@ -120,6 +130,28 @@ fn has_equal_names(
     Ok(repeated)
 }
 
+/// Why the names of these nets, or of these instances, are refused, where no two nets have one name. Those of the
+/// instances may be known to be `apart`.
+fn fault_of_names(
+    alloc: Global,
+    nets: &NameTable<Net>,
+    instances: &[Instance],
+    apart: bool,
+) -> Result<Option<Code>, AllocError>
+    requires { apart ≡ true → is_repeated (map (λ i. i.name) instances.now) ≡ false }
+    ensures { IfOk result (λ code. is_repeated (map (λ net. net.0) nets.now) ≡ false
+        → code ≡ (if has_equal_names nets.now instances.now then Some codes.V5
+        else if has_long_name nets.now instances.now then Some codes.V1 else None)) }
+{
+    if has_equal_names(alloc, nets, instances, apart)? {
+        return Ok(Some(Code::V5));
+    }
+    if has_long_name(nets, instances) {
+        return Ok(Some(Code::V1));
+    }
+    Ok(None)
+}
+
 /// The flat netlist of a top, where its names are in order. Those of its instances may be known to be `apart`.
 pub fn with_names(
     alloc: Global,
@@ -138,16 +170,10 @@ pub fn with_names(
             code: Code::V5,
         });
     };
-    if has_equal_names(alloc, &nets, instances.as_slice(), apart)? {
+    if let Some(code) = fault_of_names(alloc, &nets, instances.as_slice(), apart)? {
         return Err(FlatFault::Refused {
             line: last_line,
-            code: Code::V5,
-        });
-    }
-    if has_long_name(&nets, instances.as_slice()) {
-        return Err(FlatFault::Refused {
-            line: last_line,
-            code: Code::V1,
+            code,
         });
     }
     Ok(Netlist {

@@ -5,7 +5,7 @@ use crate::index::Index;
 use crate::places::width_of;
 use name_numbers::NameTable;
 use std::alloc::{AllocError, Global};
-use verilog_net::{Name, Net, Wire};
+use verilog_net::{Instance, Name, Net, Wire};
 use xt_model::limits::{MOST_INSTANCES, MOST_NETS, MOST_TEXT_NAME};
 
 /// What a module comes to with all that is below it, if none of its ports is connected: `met` instances of cells and of
@@ -94,6 +94,28 @@ fn total_at(total: Total, nets: &NameTable<Net>, pins: &[(Name, Wire)]) -> Total
     below
 }
 
+/// Adds an instance to a total; `link` is the number of its module, where it is one of a module.
+fn add_instance(
+    index: &Index,
+    totals: &[Total],
+    total: &mut Total,
+    instance: &Instance,
+    link: Option<usize>,
+) {
+    let name = instance.name.bytes().len();
+    let Some(number) = link else {
+        total.add_cell(name);
+        return;
+    };
+    let Some(below) = totals.get(number) else {
+        return;
+    };
+    if let Some((inner, _)) = index.linked(number) {
+        let pins = instance.pins.as_slice();
+        total.add_below(name, total_at(*below, &inner.nets, pins));
+    }
+}
+
 /// The total of the module of this number, by those of the modules of its instances.
 fn total_by(index: &Index, totals: &[Total], number: usize) -> Total {
     let Some((module, links)) = index.linked(number) else {
@@ -105,18 +127,20 @@ fn total_by(index: &Index, totals: &[Total], number: usize) -> Total {
         let [instance, more @ ..] = rest else {
             return total;
         };
+        add_instance(index, totals, &mut total, instance, *link);
         rest = more;
-        let name = instance.name.bytes().len();
-        let Some(number) = *link else {
-            total.add_cell(name);
-            continue;
-        };
-        if let (Some(below), Some((inner, _))) = (totals.get(number), index.linked(number)) {
-            let pins = instance.pins.as_slice();
-            total.add_below(name, total_at(*below, &inner.nets, pins));
-        }
     }
     total
+}
+
+/// Sums up the modules in this order, each by its number.
+fn sum_up(index: &Index, order: &[usize], totals: &mut [Total]) {
+    for number in order.iter() {
+        let total = total_by(index, totals, *number);
+        if let Some(place) = totals.get_mut(*number) {
+            *place = total;
+        }
+    }
 }
 
 /// The total of the module with this name, by an order of the modules in which each comes after those below it.
@@ -127,16 +151,9 @@ pub fn total_of<'a>(
     name: &'a [u8],
 ) -> Result<Total, AllocError> {
     let mut totals = vec![in alloc; Total::new(); index.modules().len()]?;
-    for number in order.iter() {
-        let total = total_by(index, totals.as_slice(), *number);
-        if let Some(place) = totals.get_mut(*number) {
-            *place = total;
-        }
-    }
-    if let Some(number) = index.number(name) {
-        if let Some(total) = totals.get(number) {
-            return Ok(*total);
-        }
-    }
-    Ok(Total::new())
+    sum_up(index, order, &mut totals);
+    let Some(number) = index.number(name) else {
+        return Ok(Total::new());
+    };
+    Ok(totals[number])
 }

@@ -2,7 +2,7 @@ use Rattle.std.proofs.Common.{length}
 use Rattle.hier_flatten.specs.Flat.{counts_of}
 use Rattle.hier_flatten.specs.Walk.{AreLinked, AreNested, work}
 use Rattle.hier_flatten.proofs.WalkLaws.{Walks}
-use Rattle.hier_flatten.proofs.build.build.Given as goal
+use Rattle.hier_flatten.proofs.build.add_all.Given as goal
 
 abbrev pub invariant-frames : goal.invariant-frames
 invariant-frames l = record {

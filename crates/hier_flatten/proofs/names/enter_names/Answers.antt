@@ -1,5 +1,5 @@
 use Rattle.hier_flatten.proofs.NamesLaws.{instance_again, instance_more}
-use Rattle.hier_flatten.proofs.names.are_repeated.Goals as goal
+use Rattle.hier_flatten.proofs.names.enter_names.Goals as goal
 
 pub returns-then-not-fresh : goal.returns-then-not-fresh
 returns-then-not-fresh c =

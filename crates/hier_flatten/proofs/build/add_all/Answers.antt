@@ -1,16 +1,16 @@
 use Rattle.std.proofs.Common.{subst, ◌∙◌}
 use Rattle.hier_flatten.specs.Walk.{AreLinked}
 use Rattle.hier_flatten.proofs.WalkLaws.{walk_begun, walk_carried, walk_failed, linked_at_top}
-use Rattle.hier_flatten.proofs.build.build.Goals as goal
+use Rattle.hier_flatten.proofs.build.add_all.Goals as goal
 
 pub frames-init : goal.frames-init
 frames-init c =
-    let begun = walk_begun c.args.index.now c.args.top.now c.in_ok-enter_top.field-0 c.new-stack.result c.push.new.self c.new-path.result.items c.enter_top.new.growing
-    c.requires.top c.in_ok-enter_top.ensures.frame c.new-stack.ensures c.in_ok-push.ensures c.new-path.ensures.items c.in_ok-enter_top.ensures.growing in
+    let begun = walk_begun c.args.index.now c.args.top.now c.in_ok-frame.frame c.new-stack.result c.push.new.self c.new-path.result.items c.enter_top.new.growing
+    c.requires.top c.in_ok-frame.ensures.frame c.new-stack.ensures c.in_ok-push.ensures c.new-path.ensures.items c.in_ok-frame.ensures.growing in
     record {
       nested = begun.0;
-      linked = linked_at_top c.args.index.now c.in_ok-enter_top.field-0 c.new-stack.result c.push.new.self c.args.top.now.instances c.in_ok-enter_top.ensures.frame.1
-          (c.in_ok-enter_top.ensures.links ∙ c.requires.links) c.new-stack.ensures c.in_ok-push.ensures;
+      linked = linked_at_top c.args.index.now c.in_ok-frame.frame c.new-stack.result c.push.new.self c.args.top.now.instances c.in_ok-frame.ensures.frame.1
+          (c.in_ok-frame.ensures.links ∙ c.requires.links) c.new-stack.ensures c.in_ok-push.ensures;
       walks = begun.1;
     }
 
