@@ -156,8 +156,8 @@ fn mark_alike(
 
 /// Marks each net of which what decides it is the same before and after a round, and no other: its inputs' windows, and
 /// the overlap answers at its own couplings and at those of its inputs. The answers of a net are asked for it, not for
-/// each of its readers. `unmoved` has a mark for each net that the round did not move, and for no other; it is left with
-/// other marks.
+/// each of its readers. `unmoved` has a mark for each net that the round did not move, and for no other; it is left
+/// with other marks.
 pub(crate) fn mark_decided(
     design: &Design,
     unmoved: &mut [bool],

@@ -1,4 +1,4 @@
-use Rattle.std.proofs.Common.{ℕ, List, Bool, get_or, false, length}
+use Rattle.std.proofs.Common.{List, Bool, get_or, false, length}
 use Rattle.std.specs.Prelude.{Option, Some, None, IfSome, IsTrue}
 use Rattle.std.specs.List.{All, slice_get}
 use Rattle.xt_model.specs.declared.net.Net.{Net}
