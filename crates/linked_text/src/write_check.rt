@@ -1,14 +1,35 @@
 //! The lines of checks, as they are written.
 
 ghost use Rattle.std.specs.Prelude.{◌≡◌, ◌++◌, Bool, OnOk, List, ℕ};
+ghost use Rattle.std.specs.Fmt.{decimal};
 ghost use Rattle.text_lines.specs.Lines.{line_text};
+ghost use Rattle.text_lines.specs.Words.{check_word};
 ghost use Rattle.linked_text.specs.Linked.{check_line, delay_field, table_field};
 ghost use Rattle.text_lines.specs.Fields.{field};
 
 use crate::writer::Writer;
 use std::alloc::AllocError;
 use text_lines::{check_word, push_number, push_word};
-use xt_model::CheckPoint;
+use xt_model::{CheckPoint, Name, NetId};
+
+/// Appends the words that the line of a check begins with: its kind, what is checked, and its name.
+fn push_head(out: &mut Vec<u8>, kind: &[u8], hold: bool, name: &Name) -> Result<(), AllocError>
+    ensures { OnOk result (out.new.items
+        ≡ out.old.items ++ (field kind.now 32 ++ (field (check_word hold) 32 ++ field name.now 32))) }
+{
+    push_word(out, kind, b' ')?;
+    push_word(out, check_word(hold), b' ')?;
+    push_word(out, name.bytes(), b' ')
+}
+
+/// Appends a net and one of its sinks.
+fn push_sink(out: &mut Vec<u8>, net: NetId, sink: u32) -> Result<(), AllocError>
+    ensures { OnOk result (out.new.items
+        ≡ out.old.items ++ (field (decimal net.0) 32 ++ field (decimal sink) 32)) }
+{
+    push_number(out, net.0, b' ')?;
+    push_number(out, sink, b' ')
+}
 
 /// Appends the number of a table, or that there is none.
 fn push_table(out: &mut Vec<u8>, table: Option<u32>, mark: u8) -> Result<(), AllocError>
@@ -20,6 +41,15 @@ fn push_table(out: &mut Vec<u8>, table: Option<u32>, mark: u8) -> Result<(), All
     }
 }
 
+/// Appends the numbers of two tables, or that there is none, and ends the line.
+fn push_tables(out: &mut Vec<u8>, rise: Option<u32>, fall: Option<u32>) -> Result<(), AllocError>
+    ensures { OnOk result (out.new.items
+        ≡ out.old.items ++ (field (table_field rise) 32 ++ field (table_field fall) 10)) }
+{
+    push_table(out, rise, b' ')?;
+    push_table(out, fall, b'\n')
+}
+
 /// Appends an external delay, or that there is none.
 fn push_delay(out: &mut Vec<u8>, delay: Option<i64>, mark: u8) -> Result<(), AllocError>
     ensures { OnOk result (out.new.items ≡ out.old.items ++ field (delay_field delay) mark) }
@@ -28,6 +58,15 @@ fn push_delay(out: &mut Vec<u8>, delay: Option<i64>, mark: u8) -> Result<(), All
         None => push_word(out, b"-", mark),
         Some(time) => push_number(out, time, mark),
     }
+}
+
+/// Appends two external delays, or that there is none, and ends the line.
+fn push_delays(out: &mut Vec<u8>, rise: Option<i64>, fall: Option<i64>) -> Result<(), AllocError>
+    ensures { OnOk result (out.new.items
+        ≡ out.old.items ++ (field (delay_field rise) 32 ++ field (delay_field fall) 10)) }
+{
+    push_delay(out, rise, b' ')?;
+    push_delay(out, fall, b'\n')
 }
 
 /// Writes checks.
@@ -50,16 +89,10 @@ impl Writer for CheckWriter {
                 rise,
                 fall,
             } => {
-                push_word(out, b"flop", b' ')?;
-                push_word(out, check_word(*hold), b' ')?;
-                push_word(out, name.bytes(), b' ')?;
-                push_number(out, datum.0, b' ')?;
-                push_number(out, *datum_sink, b' ')?;
-                push_number(out, clock.0, b' ')?;
-                push_number(out, *clock_sink, b' ')?;
-                push_table(out, *rise, b' ')?;
-                push_table(out, *fall, b'\n')?;
-                Ok(())
+                push_head(out, b"flop", *hold, name)?;
+                push_sink(out, *datum, *datum_sink)?;
+                push_sink(out, *clock, *clock_sink)?;
+                push_tables(out, *rise, *fall)
             }
             CheckPoint::Port {
                 name,
@@ -69,14 +102,9 @@ impl Writer for CheckWriter {
                 rise,
                 fall,
             } => {
-                push_word(out, b"port", b' ')?;
-                push_word(out, check_word(*hold), b' ')?;
-                push_word(out, name.bytes(), b' ')?;
-                push_number(out, net.0, b' ')?;
-                push_number(out, *sink, b' ')?;
-                push_delay(out, *rise, b' ')?;
-                push_delay(out, *fall, b'\n')?;
-                Ok(())
+                push_head(out, b"port", *hold, name)?;
+                push_sink(out, *net, *sink)?;
+                push_delays(out, *rise, *fall)
             }
         }
     }
