@@ -124,7 +124,54 @@ fn wire_of<'a>(
     wire_within(alloc, pins, listed.is_some(), &*nodes, &parts)
 }
 
-/// The wires of nets, in their order, or the fault of the first net that has one.
+/// The wires of nets, in their order, or the fault of the first net that has one. The names of ends are put together in
+/// `room`.
+fn wires_of<'a>(
+    alloc: Global,
+    index: &WireIndex<'a>,
+    node_nets: &mut NodeNets<'_>,
+    nodes: &mut Nodes<'_>,
+    room: &mut Vec<u8>,
+    nets: &'a [NetPins],
+) -> Result<Vec<KeptWire>, LinkFault>
+    requires few { length nets.now < 2 ^ 32 }
+    requires parasitics { AreSoundParasitics index.now.parasitics }
+    requires sinks { All HasSinkQuantities nets.now }
+    requires nets { node_nets.old ≡ index.now }
+    requires nodes { nodes.old.parasitics ≡ index.now.parasitics }
+    ensures ok { IfOk result
+        (λ v. AreWires index.now.netlist index.now.parasitics (enumerate_from 0 nets.entry.now) v.items) }
+    ensures fault { IfErr result
+        (IsFirstFault index.now.netlist index.now.parasitics (enumerate_from 0 nets.entry.now)) }
+{
+    let mut wires = Vec::with_capacity(alloc, nets.len())?;
+    for (net, pins) in nets.iter().enumerate() {
+        wires.push(wire_of(alloc, index, node_nets, nodes, room, net as u32, pins)?)?;
+    }
+    Ok(wires)
+}
+
+/// The wires of nets by an index of the parasitics.
+fn wires_in<'a>(
+    alloc: Global,
+    index: &WireIndex<'a>,
+    nets: &'a [NetPins],
+) -> Result<Vec<KeptWire>, LinkFault>
+    requires few { length nets.now < 2 ^ 32 }
+    requires parasitics { AreSoundParasitics index.now.parasitics }
+    requires sinks { All HasSinkQuantities nets.now }
+    ensures ok { IfOk result
+        (λ v. AreWires index.now.netlist index.now.parasitics (enumerate_from 0 nets.entry.now) v.items) }
+    ensures fault { IfErr result
+        (IsFirstFault index.now.netlist index.now.parasitics (enumerate_from 0 nets.entry.now)) }
+{
+    let mut node_nets = NodeNets::new(alloc, &*index)?;
+    let mut nodes = Nodes::new(alloc, index.parasitics())?;
+    let mut room = Vec::new(alloc);
+    wires_of(alloc, index, &mut node_nets, &mut nodes, &mut room, nets)
+}
+
+/// The wires of nets by an index of the netlist.
 fn wires_by<'a>(
     alloc: Global,
     index: &NodeIndex<'a>,
@@ -140,22 +187,7 @@ fn wires_by<'a>(
         (IsFirstFault index.now parasitics.now (enumerate_from 0 nets.now)) }
 {
     let extracted = WireIndex::new(alloc, &*index, &*parasitics)?;
-    let mut node_nets = NodeNets::new(alloc, &extracted)?;
-    let mut nodes = Nodes::new(alloc, parasitics)?;
-    let mut room = Vec::new(alloc);
-    let mut wires = Vec::with_capacity(alloc, nets.len())?;
-    for (net, pins) in nets.iter().enumerate() {
-        wires.push(wire_of(
-            alloc,
-            &extracted,
-            &mut node_nets,
-            &mut nodes,
-            &mut room,
-            net as u32,
-            pins,
-        )?)?;
-    }
-    Ok(wires)
+    wires_in(alloc, &extracted, &*nets)
 }
 
 /// The wires of nets, in their order. The first fault counts: of the first net that has one its count of nodes, where
