@@ -32,6 +32,7 @@ PLANTS = [
     ("docs/MAP.md", "| `drawn_numbers` |", "| `xt_lex` |", "the crate drawn_numbers has no row"),
     ("docs/MAP.md", "`xt_model/proofs/LoopLaws`", "`xt_model/proofs/WorkedDesigns`", "xt_model/proofs/LoopLaws, which is not listed"),
     ("docs/MAP.md", "`OrderLaws`, ", "`OrderLaw`, ", "no module OrderLaw among the proofs of xt_model"),
+    ("docs/MAP.md", "`chaos_core/proofs/NoNets`", "`chaos_core/proofs/NoNets`, `Moves`", "no other crate imports chaos_core/proofs/Moves"),
     ("crates.txt", "xt_io: xt_model", "xt_io: xt_model xt_number", "docs/crates.svg:1: is not what"),
     ("examples/cross.report", "1.500 1.700", "1.400 1.700", "docs/cross.svg:1: is not what"),
     ("examples/cross.report", "nets 4", "nets 5", "is not the stored run of"),

@@ -10,7 +10,8 @@ It prints a line for each finding and ends with status 1 if there is one; else i
 - names of functions, types and modules that the code does not have, in a crate's row of docs/MAP.md: that this crate
   does not have;
 - crates without a row on docs/MAP.md, and rows of no crate;
-- modules of proofs that another crate imports and that docs/MAP.md does not list for it, and listed ones that are gone;
+- modules of proofs that another crate imports and that docs/MAP.md does not list for it, and listed ones that are gone
+  or that no other crate imports;
 - docs/crates.svg where crates.txt has changed, and the pictures of windows where their report has;
 - a usage line that README.md, docs/FORMATS.md, docs/xtalk.1 or the completion does not have as the launcher does;
 - texts of examples/ without a report, and stored runs that are not the example of their name;
@@ -202,7 +203,7 @@ def imports(crates):
 
 
 def check_proofs(crates, files):
-    path, listed = TOP / "docs/MAP.md", set()
+    path, listed, imported = TOP / "docs/MAP.md", set(), imports(crates)
     for number, cells in rows_of(path, "## Proofs that are meant for other crates", 2):
         crate = None
         for name in re.findall(r"`([\w/]+)`", cells[0]):
@@ -210,7 +211,9 @@ def check_proofs(crates, files):
             listed.add((crate, module))
             if not any(f"crates/{crate}/proofs/{module}{end}" in files for end in ("", ".antt")):
                 find(path, number, f"there is no module {module} among the proofs of {crate}")
-    for (crate, module), users in sorted(imports(crates).items()):
+            elif (crate, module) not in imported:
+                find(path, number, f"no other crate imports {crate}/proofs/{module}")
+    for (crate, module), users in sorted(imported.items()):
         if (crate, module) not in listed and module != "laws":
             find(path, 1, f"{', '.join(sorted(users))} imports {crate}/proofs/{module}, which is not listed")
 
