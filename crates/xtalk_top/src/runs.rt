@@ -1,9 +1,11 @@
 //! How the runs of a design are made, and the windows in which they end.
 
-ghost use Rattle.std.specs.Prelude.{◌≡◌, ◌↔◌, ℕ, ◌≤◌, IfOk, IfSome};
+ghost use Rattle.std.specs.Prelude.{◌≡◌, ◌↔◌, ℕ, ◌<◌, ◌≤◌, IfOk, IfSome, IsTrue};
+ghost use Rattle.std.specs.Thread.{IsSync};
 ghost use Rattle.xt_model.specs.declared.direction.Direction.TheVariants.{Narrow, Widen};
 ghost use Rattle.xt_model.specs.Parts.{Parts};
 ghost use Rattle.xt_model.specs.Build.{IsRoundBound};
+ghost use Rattle.xt_model.specs.Limits.{most_workers};
 ghost use Rattle.xt_meaning.specs.Barrier.{IsFittingStart};
 ghost use Rattle.xt_meaning.specs.Fixpoint.{IsFixpoint, IsLeastFixpoint, IsGreatestFixpoint};
 ghost use Rattle.xt_meaning.specs.Laws.{IsExtremeFixpoint};
@@ -20,7 +22,7 @@ use dirty_run::{settle_dirty_among, settle_dirty_from};
 use dirty_words::{Readers, readers};
 use net_eval::ReadLists;
 use std::alloc::Global;
-use std::thread::Threads;
+use std::thread::{Threads, join};
 use xt_model::{Design, Direction, NoMemory, Windows};
 
 /// Where and in which order workers take their turns.
@@ -47,7 +49,7 @@ impl Turns {
     }
 }
 
-/// How the runs of a design are made: by how many workers, from 1 to 64, and how these take turns.
+/// How the runs of a design are made: by how many workers each, from 1 to 64, and how these take turns.
 #[derive(Clone, Copy)]
 pub struct Runs {
     pub workers: u32,
@@ -102,9 +104,90 @@ fn run_from<R: Threads + Sync, G: Gate>(
     }
 }
 
+/// Whether both runs are made at the same time: those of several workers by rounds in threads.
+fn are_at_once(runs: Runs) -> bool
+    ensures { IsTrue result → (runs.turns ≡ InThreads) × (1 < runs.workers) }
+{
+    matches!(runs.turns, Turns::InThreads) && 1 < runs.workers
+}
+
+/// Both runs at the same time, each by this many workers in threads of their own: wider from `low` and narrower from
+/// `high`. Where no thread can be had for the wider run, it is made after the narrower one. Fails only for want of
+/// memory, when both have ended.
+fn both_at_once<R: Threads + Sync, G: Gate>(
+    rt: &R,
+    alloc: Global,
+    gate: &G,
+    design: &Design,
+    lists: &ReadLists,
+    low: &Windows,
+    high: &Windows,
+    workers: u32,
+) -> Result<Both, NoMemory>
+    requires low { IsFittingStart Widen design.now low.now }
+    requires high { IsFittingStart Narrow design.now high.now }
+    requires lists { AreReadLists design.now lists.now }
+    requires several { 1 < workers }
+    requires most { workers ≤ most_workers }
+    ensures least { IfOk result (λ found. IsLeastFixpoint design.now found.low) }
+    ensures greatest { IfOk result (λ found. IsGreatestFixpoint design.now found.high) }
+    ensures low_closed { IfOk result (λ found. (found.low_rounds ≡ 0) ↔ IsFixpoint design.now low.now) }
+    ensures high_closed { IfOk result (λ found. (found.high_rounds ≡ 0) ↔ IsFixpoint design.now high.now) }
+    ensures few { IfOk result (λ found. (bound : ℕ) → IsRoundBound design.now.nets bound
+        → (found.low_rounds ≤ bound) × (found.high_rounds ≤ bound)) }
+{
+    let (least, greatest) = join(
+        rt,
+        move || -> Result<Settled, NoMemory>
+            requires { IsSync R.row × IsFittingStart Widen design.now low.now × AreReadLists design.now lists.now
+                × (1 < workers) × (workers ≤ most_workers) }
+            ensures { IfOk result (λ settled. IsLeastFixpoint design.entry.now settled.windows
+                × ((settled.rounds ≡ 0) ↔ IsFixpoint design.entry.now low.entry.now)
+                × ((bound : ℕ) → IsRoundBound design.entry.now.nets bound → settled.rounds ≤ bound)) }
+        {
+            settle_from(
+                rt,
+                alloc,
+                design,
+                lists,
+                Direction::Widen,
+                low,
+                workers,
+                gate,
+            )
+        },
+        move || -> Result<Settled, NoMemory>
+            requires { IsSync R.row × IsFittingStart Narrow design.now high.now × AreReadLists design.now lists.now
+                × (1 < workers) × (workers ≤ most_workers) }
+            ensures { IfOk result (λ settled. IsGreatestFixpoint design.entry.now settled.windows
+                × ((settled.rounds ≡ 0) ↔ IsFixpoint design.entry.now high.entry.now)
+                × ((bound : ℕ) → IsRoundBound design.entry.now.nets bound → settled.rounds ≤ bound)) }
+        {
+            settle_from(
+                rt,
+                alloc,
+                design,
+                lists,
+                Direction::Narrow,
+                high,
+                workers,
+                gate,
+            )
+        },
+    );
+    let least = least?;
+    let greatest = greatest?;
+    Ok(Both {
+        low: least.windows,
+        high: greatest.windows,
+        low_rounds: least.rounds,
+        high_rounds: greatest.rounds,
+    })
+}
+
 /// Runs twice, wider from `low` and narrower from `high`: to the least and the greatest windows of a design, in rounds
 /// within its bound, or by marks within one more. By rounds in threads a run makes none just where its start is a
-/// fixpoint. Fails only for want of memory.
+/// fixpoint, and with several workers both runs are made at the same time. Fails only for want of memory.
 pub fn both_from<R: Threads + Sync, G: Gate>(
     rt: &R,
     alloc: Global,
@@ -128,6 +211,9 @@ pub fn both_from<R: Threads + Sync, G: Gate>(
     ensures few { IfOk result (λ found. (bound : ℕ) → IsRoundBound design.now.nets bound
         → (found.low_rounds ≤ most_rounds runs.turns bound) × (found.high_rounds ≤ most_rounds runs.turns bound)) }
 {
+    if are_at_once(runs) {
+        return both_at_once(rt, alloc, gate, design, lists, low, high, runs.workers);
+    }
     let readers = readers_for(alloc, lists, runs)?;
     let least = run_from(
         rt,

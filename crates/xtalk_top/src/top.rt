@@ -80,9 +80,10 @@ pub fn xtalk<R: Threads + Sync, F: Files, O: Sink, E: Sink>(
     xtalk_gated(rt, alloc, &OpenGate, words, files, out, err)
 }
 
-/// The same with a gate that each of several workers passes in every round before it draws, and by marks also one
-/// alone. One worker alone passes none in a run without marks, nor do those of `replay`. What is written does not
-/// depend on the gate.
+/// The same with a gate that each of several workers of a run passes in every round before it draws, and by marks also
+/// one alone. One worker alone passes none in a run without marks, nor do those of `replay`. Both runs of several
+/// workers without marks are made at the same time, and their workers and rounds have the same numbers. What is written
+/// does not depend on the gate.
 pub fn xtalk_gated<R: Threads + Sync, F: Files, O: Sink, E: Sink, G: Gate>(
     rt: &R,
     alloc: Global,
