@@ -6,7 +6,8 @@ use crate::designs::{
 };
 use chaos_core::{Gate, MeetGate, OpenGate};
 use std::alloc::Global;
-use std::sync::atomic::{AtomicU64, Ordering};
+use std::hint::spin_loop;
+use std::sync::atomic::{AtomicBool, AtomicU64, Ordering};
 use std::test::Fail;
 use std::thread::Threads;
 use xtalk_top::xtalk_gated;
@@ -45,7 +46,7 @@ impl Gate for NoteGate {
     }
 }
 
-/// Whether the words of a line print this text, and nothing else, where `one.xt` has that text.
+/// Whether the words of a line print this text, and nothing else, where `one.xt` has that text and `edits` no edit.
 fn prints<R: Threads + Sync, G: Gate>(
     rt: &R,
     alloc: Global,
@@ -55,11 +56,13 @@ fn prints<R: Threads + Sync, G: Gate>(
     printed: &[u8],
 ) -> Result<bool, Fail> {
     let words = words_of(alloc, line)?;
+    let mut outside = calm(alloc);
+    outside.edits.push_str("end\n")?;
     let Streams {
         mut files,
         mut out,
         mut err,
-    } = streams_of(alloc, text, calm(alloc))?;
+    } = streams_of(alloc, text, outside)?;
     let status = xtalk_gated(rt, alloc, gate, &words, &mut files, &mut out, &mut err);
     Ok(status == 0 && out.bytes() == printed && err.bytes().is_empty())
 }
@@ -70,7 +73,81 @@ fn two_meet<R: Threads + Sync>(rt: &R, alloc: Global, line: &str) -> Result<bool
     Ok(prints(rt, alloc, &gate, line, LOAD_PAIR, LOAD_PAIR_REPORT)? && !gate.late())
 }
 
-// Workers that run one after another never meet.
+/// How often a worker looks whether all others came.
+const MOST_TURNS: u32 = 200_000_000;
+
+/// A gate at which the workers of both runs, as many as are awaited, wait for one another in the first round of each
+/// run. After this many turns without the others a worker gives up; from then on every worker passes at once.
+#[derive(Drop)]
+struct FirstRoundGate {
+    awaited: u64,
+    came: AtomicU64,
+    late: AtomicBool,
+}
+
+impl FirstRoundGate {
+    /// A gate that nobody has passed.
+    fn new(awaited: u64) -> FirstRoundGate {
+        FirstRoundGate {
+            awaited,
+            came: AtomicU64::new(0),
+            late: AtomicBool::new(false),
+        }
+    }
+
+    /// Whether nobody has to wait any more.
+    fn is_open(&self) -> bool {
+        self.came.load(Ordering::SeqCst) >= self.awaited || self.late.load(Ordering::SeqCst)
+    }
+
+    /// Whether all came, nobody else, and none gave up.
+    fn have_met(&self) -> bool {
+        self.came.load(Ordering::SeqCst) == self.awaited && !self.late.load(Ordering::SeqCst)
+    }
+}
+
+impl Gate for FirstRoundGate {
+    fn pass(&self, _worker: u32, round: u64) {
+        if round != 1 {
+            return;
+        }
+        self.came.fetch_add(1, Ordering::SeqCst);
+        for _turn in 0..MOST_TURNS {
+            if self.is_open() {
+                return;
+            }
+            spin_loop();
+        }
+        self.late.store(true, Ordering::SeqCst);
+    }
+}
+
+/// Whether this many workers meet in the first rounds of both runs, and the report of the coupled gates is printed, as
+/// these words ask for.
+fn all_meet<R: Threads + Sync>(
+    rt: &R,
+    alloc: Global,
+    line: &str,
+    workers: u64,
+) -> Result<bool, Fail> {
+    let gate = FirstRoundGate::new(workers);
+    Ok(prints(rt, alloc, &gate, line, LOAD_PAIR, LOAD_PAIR_REPORT)? && gate.have_met())
+}
+
+// By rounds both runs are made at the same time, each by all workers, where the system gives the threads. Runs that
+// follow each other, and workers of a run that do, never meet.
+#[test]
+fn the_workers_of_both_runs_meet(rt: HostRuntime) -> Result<(), Fail> {
+    for (line, workers) in [
+        ("solve one.xt --workers 2", 4),
+        ("solve one.xt --workers 3", 6),
+    ] {
+        assert!(rt; all_meet(&rt, rt.alloc(), line, workers)?, "{line}");
+    }
+    Ok(())
+}
+
+// Workers that run one after another never meet. By rounds worker 1 of one run may meet worker 2 of the other.
 #[test]
 fn two_workers_meet_and_the_report_is_printed(rt: HostRuntime) -> Result<(), Fail> {
     for line in [
@@ -105,8 +182,8 @@ fn passes<R: Threads + Sync>(
 }
 
 /// Words, the text of their file, what they print, and the bits of the workers that pass the gate. One worker alone
-/// passes none, but for runs by marks, and so do the workers of `replay`, who take turns.
-const PASSES: [(&str, &[u8], &[u8], u64); 8] = [
+/// passes none, but for runs by marks; nor do those of `replay`, who take turns.
+const PASSES: [(&str, &[u8], &[u8], u64); 10] = [
     (
         "solve one.xt --workers 7",
         LOAD_PAIR,
@@ -122,6 +199,13 @@ const PASSES: [(&str, &[u8], &[u8], u64); 8] = [
         LOAD_PAIR_REPORT,
         u64::MAX,
     ),
+    (
+        "eco one.xt edits --workers 5",
+        LOAD_PAIR,
+        LOAD_PAIR_REPORT,
+        0b1_1111,
+    ),
+    ("eco one.xt edits", CROSS, CROSS_REPORT, 0),
     (
         "replay one.xt --order 5 --workers 3",
         CROSS,
