@@ -8,7 +8,8 @@ below, or on the one that the words make, with a library between it and the C li
 of the run: the first, then the second, until a run makes fewer calls. A run must end as it does where there is memory,
 or print nothing and end with status 8 and `out of memory`, or, before any other status, with status 9 and no line: the
 system did not hand over the program's words. It prints a line for each command, and each run that ends otherwise. What
-is refused are the program's own calls of `malloc`, `realloc`, `aligned_alloc` and `posix_memalign`. It needs `cc`.
+is refused are the program's own calls of `malloc`, `realloc`, `aligned_alloc` and `posix_memalign`. The calls of all
+threads are counted together, so with several workers another call may have the number in another run. It needs `cc`.
 """
 import os
 import struct
@@ -28,8 +29,10 @@ COMMANDS = [
     ["solve", str(EXAMPLES / "cross.xt"), "--workers", "2"],
     ["solve", str(EXAMPLES / "flops.xt")],
     ["eco", str(EXAMPLES / "differ.xt"), str(EXAMPLES / "differ.edits"), "--workers", "2"],
+    ["eco", str(EXAMPLES / "differ.xt"), str(EXAMPLES / "differ.edits")],
     ["replay", str(EXAMPLES / "cross.xt"), "--order", "7", "--workers", "3"],
     ["gen", "--number", "7", "--nets", "5", "--workers", "2"],
+    ["gen", "--number", "7", "--nets", "5"],
     ["solve", str(EXAMPLES / "block.lib")],
     ["solve", str(EXAMPLES / "nothing.xt")],
     ["solve"],
