@@ -14,3 +14,18 @@ returns g t c =
     let right = drop middle (each_below f c.args.to) in
     let P : List Net → Type 0 = λ ns. IfOk c.joined.result (λ all. all.items ≡ ns) in
     subst P whole (c.joined.ensures left right c.join-left.ensures.first c.join-left.ensures.second)
+
+pub returns-then-shares-le1 : goal.returns-then-shares-le1
+returns-then-shares-le1 g t c = c.nets_within.ensures
+
+pub join+arg2-returns : goal.join+arg2-returns
+join+arg2-returns g t c = c.nets_by.ensures
+
+pub join+arg3-returns : goal.join+arg3-returns
+join+arg3-returns g t c = c.nets_by.ensures
+
+pub fn::nets_by::join+arg2+FnOnce::call_once-returns : goal.fn::nets_by::join+arg2+FnOnce::call_once-returns
+fn::nets_by::join+arg2+FnOnce::call_once-returns g t c = c.join+arg2.ensures
+
+pub fn::nets_by::join+arg3+FnOnce::call_once-returns : goal.fn::nets_by::join+arg3+FnOnce::call_once-returns
+fn::nets_by::join+arg3+FnOnce::call_once-returns g t c = c.join+arg3.ensures

@@ -1,4 +1,4 @@
-use Rattle.std.proofs.Common.{◌+◌, ap, sym, ◌∙◌, ◌++◌, [], ◌∷◌, drop, arith}
+use Rattle.std.proofs.Common.{ap, sym, ◌∙◌, ◌++◌, [], ◌∷◌, drop, arith}
 use Rattle.design_gen.specs.Lists.{each_below}
 use Rattle.design_gen.specs.Generated.{generated_net}
 use Rattle.design_gen.proofs.Sums.{each_from_itself, each_from_push}
