@@ -1,14 +1,40 @@
-use Rattle.std.proofs.Common.{ℕ, ◌+◌, ◌<◌, ap, subst, sym, ◌∙◌, List, length, map, Vec, Global, arith}
+use Rattle.std.proofs.Common.{◌≡◌, ℕ, zero, suc, ◌+◌, ◌<◌, refl, ap, subst, sym, ◌∙◌, List, [], ◌∷◌, ◌++◌, length, map, Vec, Global, arith}
 use Rattle.std.specs.Prelude.{IfSome}
 use Rattle.std.specs.List.{All, slice_get}
+use Rattle.std.proofs.lemmas.List.{length_push}
 use Rattle.xt_model.specs.declared.net.Coupling.{Coupling}
 use Rattle.xt_model.specs.declared.net.NetId.{NetId}
+use Rattle.net_eval.specs.ReadLists.{ids}
+use Rattle.chaos_core.specs.Tasks.{list_of}
 use Rattle.chaos_core.specs.TurnMarks.{AreMore, HasListed}
 use Rattle.chaos_core.proofs.Listing.{all_listed, each_more, inside_more, none_listed, rows_back, rows_count}
 use Rattle.chaos_core.proofs.listed.listed.Goals as goal
 
 abbrev lists_of : List (Vec NetId Global) → List (List NetId)
 lists_of rows = map (λ row. row.items) rows
+
+-- one list more, with no net
+none_more : (rows : List (Vec NetId Global)) (row : Vec NetId Global) → row.items ≡ [] → ((m : ℕ) → list_of (lists_of rows) m ≡ []) → (m : ℕ) → list_of (lists_of (rows ++ row ∷ [])) m ≡ []
+none_more [] row e none zero = ap ids e
+none_more [] row e none (suc m) = refl
+none_more (r ∷ rows) row e none zero = none 0
+none_more (r ∷ rows) row e none (suc m) = none_more rows row e (λ k. none (suc k)) m
+
+pub loop-net-init : goal.loop-net-init
+loop-net-init c = record { count = ap length c.in_ok-rows.ensures.items; none = λ m. ap (λ (rows : List (Vec NetId Global)). list_of (lists_of rows) m) c.in_ok-rows.ensures.items }
+
+pub loop-net-preserved : goal.loop-net-preserved
+loop-net-preserved c =
+    let rows = c.loop-net.rows.items in
+    let inv = c.loop-net.invariant in
+    let items = c.in_ok-push.ensures.items in
+    record {
+      count = ap length items ∙ (length_push rows c.new.result ∙ ap (λ n. n + 1) inv.count);
+      none = λ m. ap (λ (all : List (Vec NetId Global)). list_of (lists_of all) m) items ∙ none_more rows c.new.result c.new.ensures.items inv.none m;
+    }
+
+pub net-requires : goal.net-requires
+net-requires c = let many = ap length c.nets-2.ensures.value in let below = c.loop-number-test.true in omega (arith, many, below)
 
 pub loop-number-init : goal.loop-number-init
 loop-number-init c =

@@ -5,6 +5,7 @@ use Rattle.net_eval.specs.ReadLists.{reads_of}
 use Rattle.chaos_core.specs.Boards.{Knowledge}
 use Rattle.chaos_core.specs.Tasks.{Task, evaluated, list_of, loaded_of, loading, places_of, publishing, room_of, task_of, with_loaded, word_to_load}
 use Rattle.chaos_core.specs.Steps.{AreLoaded, AreSteps, Fits}
+use Rattle.chaos_core.proofs.Listing.{rows_back}
 use Rattle.chaos_core.proofs.Places.{ids_count}
 use Rattle.chaos_core.proofs.Stages.{load_word, loads_there, places_stay, room_stays}
 use Rattle.chaos_core.proofs.Several.{all_now, inside_now, loaded_then, none_more, publishes_now, some_steps, steps_then, whole_now}
@@ -163,3 +164,45 @@ returns-clause-steps g c = λ order.
     let s = inv.steps order in
     let P : Task → Type 0 = λ t. (more : ℕ) × AreSteps d lists order (suc more) k t l (publishing net c.evaluate_by-pair.result 0) in
     subst P (sym c.requires.loading) (some_steps d lists order s.0 k l net numbers items c.evaluate_by-pair.result whole is s.1)
+
+pub bounds-reads-place : goal.bounds-reads-place
+bounds-reads-place g c = c.loop-place-test.true
+
+pub evaluate_by-pair-requires-clause-groups : goal.evaluate_by-pair-requires-clause-groups
+evaluate_by-pair-requires-clause-groups g c = c.requires.groups
+
+pub evaluate_by-pair-requires-clause-lists : goal.evaluate_by-pair-requires-clause-lists
+evaluate_by-pair-requires-clause-lists g c = c.requires.lists
+
+pub evaluate_by-pair-requires-clause-look : goal.evaluate_by-pair-requires-clause-look
+evaluate_by-pair-requires-clause-look g c = c.requires.look
+
+pub evaluate_by-pair-requires-clause-places : goal.evaluate_by-pair-requires-clause-places
+evaluate_by-pair-requires-clause-places g c =
+    let few = c.requires.fits.places in
+    let kept = c.loop-place.invariant.places in
+    let same = ap length c.as_mut_slice.ensures.value in
+    let count = c.requires.lists.count in
+    omega (arith, few, kept, same, count)
+
+pub push_reserved-requires : goal.push_reserved-requires
+push_reserved-requires g c =
+    let lists = c.args.lists.now in
+    let net = c.args.net.0 in
+    let items = c.loop-side.loaded.items in
+    let outer = c.loop-place.invariant in
+    let inv = c.loop-side.invariant in
+    let more = more_of lists net c.of-reads.result.now items c.loop-place.loaded.items c.loop-place.place c.loop-side.side c.of-reads.ensures outer.at inv.at c.loop-side-test.true c.loop-place-test.true in
+    let room = c.requires.fits.room net in
+    let kept = inv.room in
+    let long = c.loop-side.loaded.ok.0 in
+    omega (arith, more, room, kept, long)
+
+pub returns-clause-places : goal.returns-clause-places
+returns-clause-places g c =
+    let own = c.worker.inside.places in
+    let same = c.evaluate_by-pair.ensures.count ∙ ap length c.as_mut_slice.ensures.value in
+    ap length (rows_back own.len own.items c.evaluate_by-pair.new.places own.ok.0 same) ∙ (same ∙ c.loop-place.invariant.places)
+
+pub returns-clause-room : goal.returns-clause-room
+returns-clause-room g c = c.loop-place.invariant.room

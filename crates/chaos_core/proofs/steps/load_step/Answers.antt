@@ -1,7 +1,10 @@
 use Rattle.std.proofs.Common.{◌∙◌, ap, sym, subst, length, arith}
-use Rattle.chaos_core.specs.Tasks.{task_of}
+use Rattle.net_eval.specs.ReadLists.{reads_of}
+use Rattle.chaos_core.specs.Tasks.{places_of, room_of, task_of}
 use Rattle.chaos_core.specs.Steps.{Fits, IsFitting}
+use Rattle.chaos_core.proofs.Listing.{rows_back}
 use Rattle.chaos_core.proofs.Moves.{load_inside}
+use Rattle.chaos_core.proofs.Places.{ids_count}
 use Rattle.chaos_core.proofs.Stages.{load_word, loads_there, places_stay, room_stays}
 use Rattle.chaos_core.proofs.LoadStep.{load_few, load_fits, load_steps, load_whole}
 use Rattle.chaos_core.proofs.steps.load_step.Goals as goal
@@ -61,3 +64,30 @@ returns-clause-step g c = λ order.
     let is = load_word c.args.lists.now c.args.net.0 _ _ _ _ c.of-reads.ensures c.as_slice-place.ensures.value fits.more in
     rw at (load_steps k (g.B.Board.knows c.load-number.new.self) c.args.lists.now c.args.net.0 _ _ c.load-number.result c.args.design.now _ _ _ _ c.requires.design c.requires.lists fits is c.of-reads.ensures
     c.as_slice.ensures.value c.push_reserved.ensures.items c.load-number.ensures.loads c.stage_with-worker-inside.ensures.task order)
+
+pub bounds-reads-place : goal.bounds-reads-place
+bounds-reads-place g c =
+    let k = g.B.Board.knows c.args.board.now in
+    let fits = subst (Fits k c.args.lists.now) (loads_there c.worker.inside.stage c.worker.inside.loaded.items c.args.net.0 _ (ap task_of c.worker.view_is) c.requires.loading) c.requires.fits.task in
+    let more = fits.more in
+    let long = ap length c.as_slice-place.ensures.value in
+    let reads = ap length c.of-reads.ensures in
+    let size = ids_count (reads_of c.args.lists.now c.args.net.0) in
+    omega (arith, more, long, reads, size)
+
+pub stage_with-worker-inside-requires-clause-places : goal.stage_with-worker-inside-requires-clause-places
+stage_with-worker-inside-requires-clause-places g c =
+    let few = c.requires.fits.places in
+    let own = ap places_of c.worker.view_is in
+    let same = ap length c.as_mut_slice.ensures.value in
+    let count = c.requires.lists.count in
+    omega (arith, few, own, same, count)
+
+pub returns-clause-places : goal.returns-clause-places
+returns-clause-places g c =
+    let own = c.worker.inside.places in
+    let same = c.stage_with-worker-inside.ensures.count ∙ ap length c.as_mut_slice.ensures.value in
+    ap length (rows_back own.len own.items c.stage_with-worker-inside.new.places own.ok.0 same) ∙ (same ∙ ap places_of c.worker.view_is)
+
+pub returns-clause-room : goal.returns-clause-room
+returns-clause-room g c = c.push_reserved.ensures.capacity ∙ ap room_of c.worker.view_is
