@@ -41,8 +41,8 @@ impl<'a> CellIndex<'a> {
         ensures { IfOk result (λ i. i ≡ library.entry.now) }
     {
         let key = names_key(library.cells.as_slice());
-        let cells = cell_places(alloc, key, library.cells.as_slice())?;
         let kept = all_kept(alloc, key, library.cells.as_slice())?;
+        let cells = cell_places(alloc, key, library.cells.as_slice())?;
         Ok(CellIndex {
             library,
             cells,

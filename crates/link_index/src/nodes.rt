@@ -39,8 +39,8 @@ impl<'a> NodeIndex<'a> {
     {
         let key = nets.netlist().nets.key();
         let list = nets.instances();
-        let instances = numbers_of(alloc, key, list)?;
         let wires = all_wires(alloc, key, list)?;
+        let instances = numbers_of(alloc, key, list)?;
         Ok(NodeIndex {
             nets,
             instances,
