@@ -121,6 +121,10 @@ clear_delay : (o : Option ℤ) → IfSome o IsDelay → Clear (delay_field o)
 clear_delay None h = (refl, tt)
 clear_delay (Some x) h = clear_signed x (small_delay x h)
 
+-- what follows from a step that gave something, and from what came behind it
+ok_then : {A B C E : Type 0} {r : Result A E} {f : A → Result B E} {y : B} → (r >>= f) ≡ Ok y → ((x : A) → r ≡ Ok x → f x ≡ Ok y → C) → C
+ok_then e found = let s = ok_step e in found s.0 s.1 s.2
+
 -- ---- checks
 
 pub record FitsFlop (around : Around) (called : List ℕ) (from from_sink by by_sink : ℕ) (up down : Option ℕ) : Type 0 where
@@ -189,49 +193,56 @@ flop_tail : (around : Around) (name f7 f8 : List ℕ) (k : Bool) (dn ds cn cs : 
     → ◌≡◌ {A = Result CheckPoint Code} (numbered (or_dash count f7) >>= λ r. numbered (or_dash count f8) >>= λ g. holds (around.period && (is_name name && has_sink around.sinks dn ds)) >>= λ u. holds (has_sink around.sinks cn cs) >>= λ v. holds (has_table around.tables r && has_table around.tables g) >>= λ w. Ok (Flop name k (record { 0 = dn }) ds (record { 0 = cn }) cs r g)) (Ok c)
     → FlopTail around name f7 f8 k dn ds cn cs c
 flop_tail around name f7 f8 k dn ds cn cs c e =
-    let r = ok_step e in
-    let g = ok_step r.2 in
-    let h1 = ok_step g.2 in
-    let h2 = ok_step h1.2 in
-    let h3 = ok_step h2.2 in
-    (r.0, g.0, numbered_ok r.1, numbered_ok g.1, holds_ok h1.1, holds_ok h2.1, holds_ok h3.1, ok_is (Flop name k (record { 0 = dn }) ds (record { 0 = cn }) cs r.0 g.0) c h3.2)
+    ok_then e (λ r rise e1.
+    ok_then e1 (λ g fall e2.
+    ok_then e2 (λ u stands e3.
+    ok_then e3 (λ v there e4.
+    ok_then e4 (λ w tables e5.
+    (r, g, numbered_ok rise, numbered_ok fall, holds_ok stands, holds_ok there, holds_ok tables, ok_is _ c e5))))))
 
 flop_takes : (around : Around) (l : Line) (c : CheckPoint) → flop_in around l ≡ Ok c → (l ≡ check_line c) × FitsCheck around c
 unfolding flop_in
 flop_takes around l c e =
-    let f = ok_step e in
-    let w = ok_step f.2 in
-    let k = ok_step w.2 in
-    let dn = ok_step k.2 in
-    let ds = ok_step dn.2 in
-    let cn = ok_step ds.2 in
-    let cs = ok_step cn.2 in
-    let t = flop_tail around f.0.2 f.0.7 f.0.8 k.0 dn.0 ds.0 cn.0 cs.0 c cs.2 in
-    flop_from around l c f.0.0 f.0.1 f.0.2 f.0.3 f.0.4 f.0.5 f.0.6 f.0.7 f.0.8 k.0 dn.0 ds.0 cn.0 cs.0 t.0 t.1 (nine_is l f.0 (worded_ok f.1)) (is_word _ _ (word_ok w.1)) (worded_ok k.1)
-    (numbered_ok dn.1) (numbered_ok ds.1) (numbered_ok cn.1) (numbered_ok cs.1) t.2 t.3 t.4 t.5 t.6 t.7
+    ok_then e (λ f fields e1.
+    ok_then e1 (λ u word e2.
+    ok_then e2 (λ k kind e3.
+    ok_then e3 (λ dn datum e4.
+    ok_then e4 (λ ds datum_sink e5.
+    ok_then e5 (λ cn clock e6.
+    ok_then e6 (λ cs clock_sink e7.
+    let t = flop_tail around f.2 f.7 f.8 k dn ds cn cs c e7 in
+    flop_from around l c f.0 f.1 f.2 f.3 f.4 f.5 f.6 f.7 f.8 k dn ds cn cs t.0 t.1 (nine_is l f (worded_ok fields)) (is_word _ _ (word_ok word)) (worded_ok kind)
+    (numbered_ok datum) (numbered_ok datum_sink) (numbered_ok clock) (numbered_ok clock_sink) t.2 t.3 t.4 t.5 t.6 t.7)))))))
+
+port_from : (around : Around) (l : Line) (c : CheckPoint) (a0 a1 a2 a3 a4 a5 a6 : List ℕ) (k : Bool) (n s : ℕ) (r g : Option ℤ)
+    → l ≡ a0 ∷ a1 ∷ a2 ∷ a3 ∷ a4 ∷ a5 ∷ a6 ∷ [] → a0 ≡ codes "port" → hold_of a1 ≡ Some k → count a3 ≡ Some n → count a4 ≡ Some s → or_dash delay a5 ≡ Some r → or_dash delay a6 ≡ Some g
+    → (around.period && (is_name a2 && has_sink around.sinks n s)) ≡ true
+    → ◌≡◌ {A = CheckPoint} (Port a2 k (record { 0 = n }) s r g) c → (l ≡ check_line c) × FitsCheck around c
+port_from around l c a0 a1 a2 a3 a4 a5 a6 k n s r g line word kind e3 e4 e5 e6 t0 made =
+    let t = both_true around.period (is_name a2 && has_sink around.sinks n s) t0 in
+    let u = both_true (is_name a2) (has_sink around.sinks n s) t.1 in
+    let net = count_takes a3 n e3 in
+    let sink = count_takes a4 s e4 in
+    let rise = delay_takes a5 r e5 in
+    let fall = delay_takes a6 g e6 in
+    let whole : l ≡ check_line (Port a2 k (record { 0 = n }) s r g) = line ∙ same_seven a0 a1 a2 a3 a4 a5 a6 (codes "port") (check_word k) a2 (decimal n) (decimal s) (delay_field r) (delay_field g)
+    word (hold_takes a1 k kind) refl net.0 sink.0 rise.0 fall.0 in
+    let fits : FitsPort around a2 n s r g = record { period = t.0; name = name_sound a2 u.0; there = u.1; net32 = net.1; sink32 = sink.1; rise = rise.1; fall = fall.1 } in
+    subst (λ (y : CheckPoint). (l ≡ check_line y) × FitsCheck around y) made (whole, fits)
 
 port_takes : (around : Around) (l : Line) (c : CheckPoint) → port_in around l ≡ Ok c → (l ≡ check_line c) × FitsCheck around c
 unfolding port_in
 port_takes around l c e =
-    let f = ok_step e in
-    let w = ok_step f.2 in
-    let k = ok_step w.2 in
-    let n = ok_step k.2 in
-    let s = ok_step n.2 in
-    let r = ok_step s.2 in
-    let g = ok_step r.2 in
-    let h = ok_step g.2 in
-    let t = both_true around.period (is_name f.0.2 && has_sink around.sinks n.0 s.0) (holds_ok h.1) in
-    let u = both_true (is_name f.0.2) (has_sink around.sinks n.0 s.0) t.1 in
-    let net = count_takes f.0.3 n.0 (numbered_ok n.1) in
-    let sink = count_takes f.0.4 s.0 (numbered_ok s.1) in
-    let rise = delay_takes f.0.5 r.0 (numbered_ok r.1) in
-    let fall = delay_takes f.0.6 g.0 (numbered_ok g.1) in
-    let made : CheckPoint = Port f.0.2 k.0 (record { 0 = n.0 }) s.0 r.0 g.0 in
-    let line : l ≡ check_line made = seven_is l f.0 (worded_ok f.1) ∙ same_seven f.0.0 f.0.1 f.0.2 f.0.3 f.0.4 f.0.5 f.0.6 (codes "port") (check_word k.0) f.0.2 (decimal n.0) (decimal s.0) (delay_field r.0) (delay_field g.0)
-    (is_word _ _ (word_ok w.1)) (hold_takes f.0.1 k.0 (worded_ok k.1)) refl net.0 sink.0 rise.0 fall.0 in
-    let fits : FitsPort around f.0.2 n.0 s.0 r.0 g.0 = record { period = t.0; name = name_sound f.0.2 u.0; there = u.1; net32 = net.1; sink32 = sink.1; rise = rise.1; fall = fall.1 } in
-    subst (λ (y : CheckPoint). (l ≡ check_line y) × FitsCheck around y) (ok_is made c h.2) (line, fits)
+    ok_then e (λ f fields e1.
+    ok_then e1 (λ u word e2.
+    ok_then e2 (λ k kind e3.
+    ok_then e3 (λ n net e4.
+    ok_then e4 (λ s sink e5.
+    ok_then e5 (λ r rise e6.
+    ok_then e6 (λ g fall e7.
+    ok_then e7 (λ v stands e8.
+    port_from around l c f.0 f.1 f.2 f.3 f.4 f.5 f.6 k n s r g (seven_is l f (worded_ok fields)) (is_word _ _ (word_ok word)) (worded_ok kind)
+    (numbered_ok net) (numbered_ok sink) (numbered_ok rise) (numbered_ok fall) (holds_ok stands) (ok_is _ c e8)))))))))
 
 by_nine : {A : Type 0} (r : Result CheckPoint Code) (o : Option A) (other : Result CheckPoint Code) (c : CheckPoint) → option_map_or (λ f. r) o other ≡ Ok c → (r ≡ Ok c) ⊎ (other ≡ Ok c)
 by_nine r (Some x) other c e = inl e

@@ -1,11 +1,12 @@
 -- The fields of a line, one after another.
-use Rattle.std.proofs.Common.{◌≡◌, ℕ, ◌+◌, ◌<◌, Bool, true, false, not, eqb, ltb, List, [], ◌∷◌, length, take, drop, Option, Some, None, refl, sym, ap, subst, ◌∙◌, arith}
+use Rattle.std.proofs.Common.{◌≡◌, ℕ, ◌+◌, ◌<◌, Bool, true, false, eqb, ltb, List, [], ◌∷◌, length, take, drop, Option, Some, None, refl, sym, ap, subst, ◌∙◌, arith}
 use Rattle.std.specs.Prelude.{if◌then◌else◌}
 use Rattle.std.specs.List.{count_by, position_or_len}
-use Rattle.std.proofs.lemmas.Bool.{ltb-true, ltb-false, ne_eqb}
+use Rattle.std.proofs.lemmas.Bool.{ltb-true, ltb-false}
 use Rattle.std.proofs.lemmas.List.Splits.{slice_split_first, slice_split_none, length-slice_split}
 use Rattle.std.proofs.lemmas.List.Sums.{fails_before_first}
-use Rattle.linked_text.specs.Fields.{cut_at, fields_of, three, four, five, seven, nine}
+use Rattle.linked_text.specs.Fields.{cut_at, fields_of, one, two, three, four, five, seven, nine}
+use Rattle.linked_text.proofs.Inversions.{one_is, two_is, three_is, four_is}
 use Rattle.linked_text.proofs.Options.{first_step, passed, some_is}
 
 abbrev is_space : ℕ → Bool
@@ -43,17 +44,7 @@ next_last now more line e m cut = sym e ∙ rw m (last_field line cut)
 pub count_left : (now : List (List ℕ)) (more : Bool) (line : List ℕ) → left more line ≡ now → more ≡ true → length now ≡ count_by is_space line + 1
 count_left now more line e m = ap length (sym e) ∙ rw m (length-slice_split is_space line)
 
-pub none_left : (now : List (List ℕ)) (more : Bool) (line : List ℕ) → left more line ≡ now → not more ≡ eqb (length now) 0
-none_left now true line e = sym (ne_eqb (length now) 0 (λ z. omega (arith, z, count_left now true line e refl)))
-none_left now false line e = ap (λ (xs : List (List ℕ)). eqb (length xs) 0) e
-
--- ---- lines of fewer fields, and of more
-
-pub few_three : (xs : List (List ℕ)) → length xs < 3 → three xs ≡ None
-few_three [] few = refl
-few_three (a ∷ []) few = refl
-few_three (a ∷ b ∷ []) few = refl
-few_three (a ∷ b ∷ c ∷ xs) few = absurd (omega (arith, few))
+-- ---- lines of fewer fields, and of as many
 
 pub few_four : (xs : List (List ℕ)) → length xs < 4 → four xs ≡ None
 few_four [] few = refl
@@ -92,12 +83,87 @@ few_nine (a ∷ b ∷ c ∷ d ∷ e ∷ f ∷ g ∷ []) few = refl
 few_nine (a ∷ b ∷ c ∷ d ∷ e ∷ f ∷ g ∷ h ∷ []) few = refl
 few_nine (a ∷ b ∷ c ∷ d ∷ e ∷ f ∷ g ∷ h ∷ i ∷ xs) few = absurd (omega (arith, few))
 
-pub not_seven : {f1 f2 f3 f4 f5 f6 f7 : List ℕ} {xs x3 x6 x7 : List (List ℕ)} → xs ≡ f1 ∷ f2 ∷ f3 ∷ x3 → x3 ≡ f4 ∷ f5 ∷ f6 ∷ x6 → x6 ≡ f7 ∷ x7
-    → eqb (length x7) 0 ≡ false → seven xs ≡ None
-not_seven {x7 = []} e1 e2 e3 h = absurd cc
-not_seven {x7 = y ∷ ys} e1 e2 e3 h = rw (e1, e2, e3) refl
+-- one, two or three fields, and those behind them
+pub short_one : {a : List ℕ} {xs : List (List ℕ)} → xs ≡ a ∷ [] → length xs < 4
+short_one e = rw e (omega arith)
 
-pub not_nine : {f1 f2 f3 f4 f5 f6 f7 f8 f9 : List ℕ} {xs x3 x6 x9 : List (List ℕ)} → xs ≡ f1 ∷ f2 ∷ f3 ∷ x3 → x3 ≡ f4 ∷ f5 ∷ f6 ∷ x6
-    → x6 ≡ f7 ∷ f8 ∷ f9 ∷ x9 → eqb (length x9) 0 ≡ false → nine xs ≡ None
-not_nine {x9 = []} e1 e2 e3 h = absurd cc
-not_nine {x9 = y ∷ ys} e1 e2 e3 h = rw (e1, e2, e3) refl
+pub short_two : {a b : List ℕ} {xs ys : List (List ℕ)} → xs ≡ a ∷ ys → ys ≡ b ∷ [] → length xs < 4
+short_two e f = rw (e, f) (omega arith)
+
+pub short_three : {a b c : List ℕ} {xs ys zs : List (List ℕ)} → xs ≡ a ∷ ys → ys ≡ b ∷ zs → zs ≡ c ∷ [] → length xs < 4
+short_three e f g = rw (e, f, g) (omega arith)
+
+pub three_first : {a b c : List ℕ} {xs ys zs ws : List (List ℕ)} → xs ≡ a ∷ ys → ys ≡ b ∷ zs → zs ≡ c ∷ ws → xs ≡ a ∷ b ∷ c ∷ ws
+three_first e f g = rw (e, f, g) refl
+
+pub six_first : {a b c d e f : List ℕ} {xs ys zs : List (List ℕ)} → xs ≡ a ∷ b ∷ c ∷ ys → ys ≡ d ∷ e ∷ f ∷ zs → xs ≡ a ∷ b ∷ c ∷ d ∷ e ∷ f ∷ zs
+six_first h k = rw (h, k) refl
+
+-- a line that is more than one field
+not_one : (a : List ℕ) (xs : List (List ℕ)) (n : ℕ) → length xs ≡ n + 1 → one (a ∷ xs) ≡ None
+not_one a [] n e = absurd (omega (arith, e))
+not_one a (b ∷ xs) n e = refl
+
+pub one_none : (a rest : List ℕ) (ys : List (List ℕ)) → ys ≡ a ∷ fields_of rest → one ys ≡ None
+one_none a rest ys e = rw e (not_one a (fields_of rest) (count_by is_space rest) (length-slice_split is_space rest))
+
+-- a line of two: one behind one
+pub two_some : (a : List ℕ) (xs ys : List (List ℕ)) → ys ≡ a ∷ xs → (x : List ℕ) → one xs ≡ Some x → two ys ≡ Some (a, x)
+two_some a xs ys e x h = rw (e, one_is xs x h) refl
+
+pub two_none : (a : List ℕ) (xs ys : List (List ℕ)) → ys ≡ a ∷ xs → one xs ≡ None → two ys ≡ None
+two_none a [] ys e h = rw e refl
+two_none a (z1 ∷ []) ys e h = absurd cc
+two_none a (z1 ∷ z2 ∷ xs) ys e h = rw e refl
+
+-- a line of three: two behind one
+pub three_some : (a : List ℕ) (xs ys : List (List ℕ)) → ys ≡ a ∷ xs → (x : List ℕ × List ℕ) → two xs ≡ Some x → three ys ≡ Some (a, x.0, x.1)
+three_some a xs ys e x h = rw (e, two_is xs x h) refl
+
+pub three_none : (a : List ℕ) (xs ys : List (List ℕ)) → ys ≡ a ∷ xs → two xs ≡ None → three ys ≡ None
+three_none a [] ys e h = rw e refl
+three_none a (z1 ∷ []) ys e h = rw e refl
+three_none a (z1 ∷ z2 ∷ []) ys e h = absurd cc
+three_none a (z1 ∷ z2 ∷ z3 ∷ xs) ys e h = rw e refl
+
+-- a line of four: one behind three
+pub four_some : (a b c : List ℕ) (xs ys : List (List ℕ)) → ys ≡ a ∷ b ∷ c ∷ xs → (x : List ℕ) → one xs ≡ Some x → four ys ≡ Some (a, b, c, x)
+four_some a b c xs ys e x h = rw (e, one_is xs x h) refl
+
+pub four_none : (a b c : List ℕ) (xs ys : List (List ℕ)) → ys ≡ a ∷ b ∷ c ∷ xs → one xs ≡ None → four ys ≡ None
+four_none a b c [] ys e h = rw e refl
+four_none a b c (z1 ∷ []) ys e h = absurd cc
+four_none a b c (z1 ∷ z2 ∷ xs) ys e h = rw e refl
+
+-- a line of five: two behind three
+pub five_some : (a b c : List ℕ) (xs ys : List (List ℕ)) → ys ≡ a ∷ b ∷ c ∷ xs → (x : List ℕ × List ℕ) → two xs ≡ Some x → five ys ≡ Some (a, b, c, x.0, x.1)
+five_some a b c xs ys e x h = rw (e, two_is xs x h) refl
+
+pub five_none : (a b c : List ℕ) (xs ys : List (List ℕ)) → ys ≡ a ∷ b ∷ c ∷ xs → two xs ≡ None → five ys ≡ None
+five_none a b c [] ys e h = rw e refl
+five_none a b c (z1 ∷ []) ys e h = rw e refl
+five_none a b c (z1 ∷ z2 ∷ []) ys e h = absurd cc
+five_none a b c (z1 ∷ z2 ∷ z3 ∷ xs) ys e h = rw e refl
+
+-- a line of seven: four behind three
+pub seven_some : (a b c : List ℕ) (xs ys : List (List ℕ)) → ys ≡ a ∷ b ∷ c ∷ xs → (x : List ℕ × List ℕ × List ℕ × List ℕ) → four xs ≡ Some x → seven ys ≡ Some (a, b, c, x.0, x.1, x.2, x.3)
+seven_some a b c xs ys e x h = rw (e, four_is xs x h) refl
+
+pub seven_none : (a b c : List ℕ) (xs ys : List (List ℕ)) → ys ≡ a ∷ b ∷ c ∷ xs → four xs ≡ None → seven ys ≡ None
+seven_none a b c [] ys e h = rw e refl
+seven_none a b c (z1 ∷ []) ys e h = rw e refl
+seven_none a b c (z1 ∷ z2 ∷ []) ys e h = rw e refl
+seven_none a b c (z1 ∷ z2 ∷ z3 ∷ []) ys e h = rw e refl
+seven_none a b c (z1 ∷ z2 ∷ z3 ∷ z4 ∷ []) ys e h = absurd cc
+seven_none a b c (z1 ∷ z2 ∷ z3 ∷ z4 ∷ z5 ∷ xs) ys e h = rw e refl
+
+-- a line of nine: three behind six
+pub nine_some : (a b c d g i : List ℕ) (xs ys : List (List ℕ)) → ys ≡ a ∷ b ∷ c ∷ d ∷ g ∷ i ∷ xs → (x : List ℕ × List ℕ × List ℕ) → three xs ≡ Some x → nine ys ≡ Some (a, b, c, d, g, i, x.0, x.1, x.2)
+nine_some a b c d g i xs ys e x h = rw (e, three_is xs x h) refl
+
+pub nine_none : (a b c d g i : List ℕ) (xs ys : List (List ℕ)) → ys ≡ a ∷ b ∷ c ∷ d ∷ g ∷ i ∷ xs → three xs ≡ None → nine ys ≡ None
+nine_none a b c d g i [] ys e h = rw e refl
+nine_none a b c d g i (z1 ∷ []) ys e h = rw e refl
+nine_none a b c d g i (z1 ∷ z2 ∷ []) ys e h = rw e refl
+nine_none a b c d g i (z1 ∷ z2 ∷ z3 ∷ []) ys e h = absurd cc
+nine_none a b c d g i (z1 ∷ z2 ∷ z3 ∷ z4 ∷ xs) ys e h = rw e refl

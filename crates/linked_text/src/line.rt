@@ -1,6 +1,6 @@
 //! Lines and their fields.
 
-ghost use Rattle.std.specs.Prelude.{◌≡◌, ◌==◌, ◌+◌, ◌<◌, [], ◌∷◌, List, ℕ, length, take, drop, MatchOption};
+ghost use Rattle.std.specs.Prelude.{◌≡◌, ◌+◌, ◌<◌, [], ◌∷◌, List, ℕ, length, take, drop, MatchOption};
 ghost use Rattle.linked_text.specs.Fields.{Finds, cut_at, fields_of, five, four, nine, one, seven, three, two};
 
 use crate::scan::{count_of, first, first_near};
@@ -82,24 +82,6 @@ impl<'a> Fields<'a> {
         }
     }
 
-    /// The next three fields, or none where fewer are left.
-    #[inline(always)]
-    fn next_three(&mut self) -> Option<Three<'a>>
-        ensures { MatchOption result (length self.old < 3) (λ x. self.old ≡ x.0.now ∷ x.1.now ∷ x.2.now ∷ self.new) }
-    {
-        let first = self.next_field()?;
-        let second = self.next_field()?;
-        let third = self.next_field()?;
-        Some((first, second, third))
-    }
-
-    /// Whether no field is left.
-    pub fn is_done(&self) -> bool
-        ensures { result ≡ (length self.now == 0) }
-    {
-        !self.more
-    }
-
     /// How many fields are left.
     pub fn len(&self) -> usize
         ensures { result ≡ length self.now }
@@ -112,6 +94,8 @@ impl<'a> Fields<'a> {
 }
 
 type Three<'a> = (&'a [u8], &'a [u8], &'a [u8]);
+
+type Four<'a> = (&'a [u8], &'a [u8], &'a [u8], &'a [u8]);
 
 type Seven<'a> = (
     &'a [u8],
@@ -135,102 +119,84 @@ type Nine<'a> = (
     &'a [u8],
 );
 
+/// The first three fields of a line, which more fields follow, and those after them.
+#[inline(always)]
+fn cut_three(line: &[u8]) -> Option<Four<'_>>
+    ensures { MatchOption result (length (fields_of line.now) < 4)
+        (λ x. fields_of line.now ≡ x.0.now ∷ x.1.now ∷ x.2.now ∷ fields_of x.3.now) }
+{
+    let (first, rest) = cut_field(line)?;
+    let (second, rest) = cut_field(rest)?;
+    let (third, rest) = cut_field(rest)?;
+    Some((first, second, third, rest))
+}
+
 /// The field of a line of one.
+#[inline(always)]
 pub fn one(line: &[u8]) -> Option<&[u8]>
     ensures { Finds (λ x. x.now) result (one (fields_of line.now)) }
 {
-    let mut fields = Fields::new(line);
-    let first = fields.next_field()?;
-    if !fields.is_done() {
-        return None;
+    match cut_field(line) {
+        Some(_) => None,
+        None => Some(line),
     }
-    Some(first)
 }
 
 /// The fields of a line of two.
+#[inline(always)]
 pub fn two(line: &[u8]) -> Option<(&[u8], &[u8])>
     ensures { Finds (λ x. (x.0.now, x.1.now)) result (two (fields_of line.now)) }
 {
-    let mut fields = Fields::new(line);
-    let first = fields.next_field()?;
-    let second = fields.next_field()?;
-    if !fields.is_done() {
-        return None;
-    }
+    let (first, rest) = cut_field(line)?;
+    let second = one(rest)?;
     Some((first, second))
 }
 
 /// The fields of a line of three.
-#[tactic(auto, using(crate::proofs::Splits::few_three))]
 pub fn three(line: &[u8]) -> Option<Three<'_>>
     ensures { Finds (λ x. (x.0.now, x.1.now, x.2.now)) result (three (fields_of line.now)) }
 {
-    let mut fields = Fields::new(line);
-    let found = fields.next_three()?;
-    if !fields.is_done() {
-        return None;
-    }
-    Some(found)
+    let (first, rest) = cut_field(line)?;
+    let (second, third) = two(rest)?;
+    Some((first, second, third))
 }
 
 /// The fields of a line of four.
-#[tactic(auto, using(crate::proofs::Splits::few_four))]
 pub fn four(line: &[u8]) -> Option<(&[u8], &[u8], &[u8], &[u8])>
     ensures { Finds (λ x. (x.0.now, x.1.now, x.2.now, x.3.now)) result (four (fields_of line.now)) }
 {
-    let mut fields = Fields::new(line);
-    let (first, second, third) = fields.next_three()?;
-    let fourth = fields.next_field()?;
-    if !fields.is_done() {
-        return None;
-    }
+    let (first, second, third, rest) = cut_three(line)?;
+    let fourth = one(rest)?;
     Some((first, second, third, fourth))
 }
 
 /// The fields of a line of five.
-#[tactic(auto, using(crate::proofs::Splits::few_five))]
 pub fn five(line: &[u8]) -> Option<(&[u8], &[u8], &[u8], &[u8], &[u8])>
     ensures { Finds (λ x. (x.0.now, x.1.now, x.2.now, x.3.now, x.4.now)) result (five (fields_of line.now)) }
 {
-    let mut fields = Fields::new(line);
-    let (first, second, third) = fields.next_three()?;
-    let fourth = fields.next_field()?;
-    let fifth = fields.next_field()?;
-    if !fields.is_done() {
-        return None;
-    }
+    let (first, second, third, rest) = cut_three(line)?;
+    let (fourth, fifth) = two(rest)?;
     Some((first, second, third, fourth, fifth))
 }
 
 /// The fields of a line of seven.
-#[tactic(auto, using(crate::proofs::Splits::few_seven))]
 pub fn seven(line: &[u8]) -> Option<Seven<'_>>
     ensures { Finds (λ x. (x.0.now, x.1.now, x.2.now, x.3.now, x.4.now, x.5.now, x.6.now))
         result (seven (fields_of line.now)) }
 {
-    let mut fields = Fields::new(line);
-    let (first, second, third) = fields.next_three()?;
-    let (fourth, fifth, sixth) = fields.next_three()?;
-    let seventh = fields.next_field()?;
-    if !fields.is_done() {
-        return None;
-    }
+    let (first, second, third, rest) = cut_three(line)?;
+    let (fourth, fifth, sixth, seventh) = four(rest)?;
     Some((first, second, third, fourth, fifth, sixth, seventh))
 }
 
 /// The fields of a line of nine.
-#[tactic(auto, using(crate::proofs::Splits::few_nine))]
 pub fn nine(line: &[u8]) -> Option<Nine<'_>>
     ensures { Finds (λ x. (x.0.now, x.1.now, x.2.now, x.3.now, x.4.now, x.5.now, x.6.now, x.7.now, x.8.now))
         result (nine (fields_of line.now)) }
 {
-    let mut fields = Fields::new(line);
-    let (first, second, third) = fields.next_three()?;
-    let (fourth, fifth, sixth) = fields.next_three()?;
-    let (seventh, eighth, ninth) = fields.next_three()?;
-    if !fields.is_done() {
-        return None;
-    }
+    let (first, second, third, rest) = cut_three(line)?;
+    let (fourth, fifth, sixth, rest) = cut_three(rest)?;
+    let (seventh, eighth, ninth) = three(rest)?;
     Some((
         first, second, third, fourth, fifth, sixth, seventh, eighth, ninth,
     ))

@@ -1,6 +1,6 @@
 //! The lines of the body of a net.
 
-ghost use Rattle.std.specs.Prelude.{◌≡◌, ◌≤◌, ◌∷◌, [], codes, length, map, IfOk};
+ghost use Rattle.std.specs.Prelude.{◌≡◌, ◌≤◌, ◌∷◌, [], ◌&&◌, codes, length, map, nat_lt, IfOk};
 ghost use Rattle.std.specs.Str.{bytes_eq};
 ghost use Rattle.linked_text.specs.EachLine.{arc_in, bounds_in, coupling_in, given_in, has_sink, quiet_in};
 ghost use Rattle.linked_text.specs.EachLine.{sink_in, sink_fields};
@@ -212,6 +212,14 @@ pub struct ArcReader<'a> {
     pub tables: u32,
 }
 
+/// Whether the net of number `net` has the sink, and both tables are there.
+fn are_there(reader: &ArcReader<'_>, net: u32, sink: u32, delay: u32, slew: u32) -> bool
+    ensures { result ≡ (has_sink reader.now.sinks.now net sink
+        && (nat_lt delay reader.now.tables && nat_lt slew reader.now.tables)) }
+{
+    has_sink(reader.sinks, net, sink) && delay < reader.tables && slew < reader.tables
+}
+
 impl<'a> LineReader for ArcReader<'a> {
     type Value = TimingArc;
 
@@ -243,7 +251,7 @@ impl<'a> LineReader for ArcReader<'a> {
         let Some(slew) = count(slew) else {
             return Err(NUMBERS);
         };
-        if !(has_sink(self.sinks, from, sink) && delay < self.tables && slew < self.tables) {
+        if !are_there(self, from, sink, delay, slew) {
             return Err(HOLDS);
         }
         Ok(TimingArc {

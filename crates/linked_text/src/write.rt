@@ -35,8 +35,7 @@ fn push_counts(out: &mut Vec<u8>, design: &Design) -> Result<(), AllocError>
     push_word(out, b"counts", b' ')?;
     push_number(out, design.tables().len(), b' ')?;
     push_number(out, design.nets().len(), b' ')?;
-    push_number(out, design.checks().len(), b'\n')?;
-    Ok(())
+    push_number(out, design.checks().len(), b'\n')
 }
 
 /// Appends the line of the clock period.
@@ -64,8 +63,7 @@ fn push_linked(out: &mut Vec<u8>, design: &Design) -> Result<(), AllocError>
     write_each(out, &HeadWriter, design.nets())?;
     write_each(out, &BodyWriter, design.nets())?;
     write_each(out, &CheckWriter, design.checks())?;
-    push_word(out, b"end", b'\n')?;
-    Ok(())
+    push_word(out, b"end", b'\n')
 }
 
 /// The linked text of a design. Takes time in proportion to its bytes.

@@ -1,16 +1,16 @@
 //! The lines of checks, as they are written.
 
 ghost use Rattle.std.specs.Prelude.{◌≡◌, ◌++◌, Bool, OnOk, List, ℕ};
-ghost use Rattle.std.specs.Fmt.{decimal};
 ghost use Rattle.text_lines.specs.Lines.{line_text};
 ghost use Rattle.text_lines.specs.Words.{check_word};
 ghost use Rattle.linked_text.specs.Linked.{check_line, delay_field, table_field};
 ghost use Rattle.text_lines.specs.Fields.{field};
 
+use crate::write_net::push_sink;
 use crate::writer::Writer;
 use std::alloc::AllocError;
 use text_lines::{check_word, push_number, push_word};
-use xt_model::{CheckPoint, Name, NetId};
+use xt_model::{CheckPoint, Name};
 
 /// Appends the words that the line of a check begins with: its kind, what is checked, and its name.
 fn push_head(out: &mut Vec<u8>, kind: &[u8], hold: bool, name: &Name) -> Result<(), AllocError>
@@ -20,15 +20,6 @@ fn push_head(out: &mut Vec<u8>, kind: &[u8], hold: bool, name: &Name) -> Result<
     push_word(out, kind, b' ')?;
     push_word(out, check_word(hold), b' ')?;
     push_word(out, name.bytes(), b' ')
-}
-
-/// Appends a net and one of its sinks.
-fn push_sink(out: &mut Vec<u8>, net: NetId, sink: u32) -> Result<(), AllocError>
-    ensures { OnOk result (out.new.items
-        ≡ out.old.items ++ (field (decimal net.0) 32 ++ field (decimal sink) 32)) }
-{
-    push_number(out, net.0, b' ')?;
-    push_number(out, sink, b' ')
 }
 
 /// Appends the number of a table, or that there is none.

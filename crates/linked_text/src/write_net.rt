@@ -1,6 +1,8 @@
 //! The lines of nets, as they are written.
 
 ghost use Rattle.std.specs.Prelude.{◌≡◌, ◌++◌, OnOk};
+ghost use Rattle.std.specs.Fmt.{decimal};
+ghost use Rattle.text_lines.specs.Fields.{field};
 ghost use Rattle.text_lines.specs.Lines.{line_text, text_of};
 ghost use Rattle.linked_text.specs.Linked.{net_line, given_line, given_lines, coupling_line, sink_line, arc_line};
 ghost use Rattle.linked_text.specs.Linked.{kind_field, net_lines};
@@ -9,7 +11,7 @@ ghost use Rattle.linked_text.specs.Writing.{spaced};
 use crate::writer::{Writer, write_each};
 use std::alloc::AllocError;
 use text_lines::{edge_word, push_bare_number, push_number, push_word};
-use xt_model::{Coupling, Edge, Net, Quad, SinkPin, TimingArc};
+use xt_model::{Coupling, Edge, Net, NetId, Quad, SinkPin, TimingArc};
 
 /// The word for a kind of net.
 fn kind_word(input: bool) -> &'static [u8]
@@ -33,8 +35,7 @@ impl Writer for HeadWriter {
         push_number(out, net.load, b' ')?;
         push_number(out, net.couplings.len(), b' ')?;
         push_number(out, net.sinks.len(), b' ')?;
-        push_number(out, net.arcs.len(), b'\n')?;
-        Ok(())
+        push_number(out, net.arcs.len(), b'\n')
     }
 }
 
@@ -44,14 +45,12 @@ fn push_given(out: &mut Vec<u8>, edge: Edge, quad: &Quad) -> Result<(), AllocErr
 {
     push_word(out, edge_word(edge), b' ')?;
     if !quad.live() {
-        push_word(out, b"quiet", b'\n')?;
-        return Ok(());
+        return push_word(out, b"quiet", b'\n');
     }
     push_number(out, quad.tlo, b' ')?;
     push_number(out, quad.thi, b' ')?;
     push_number(out, quad.slo, b' ')?;
-    push_number(out, quad.shi, b'\n')?;
-    Ok(())
+    push_number(out, quad.shi, b'\n')
 }
 
 /// Appends the lines of what is given for a net, of which one with arcs has none.
@@ -77,8 +76,7 @@ impl Writer for CouplingWriter {
     fn write(&self, out: &mut Vec<u8>, coupling: &Coupling) -> Result<(), AllocError> {
         push_word(out, b"couple", b' ')?;
         push_number(out, coupling.to.0, b' ')?;
-        push_number(out, coupling.cap, b'\n')?;
-        Ok(())
+        push_number(out, coupling.cap, b'\n')
     }
 }
 
@@ -114,6 +112,15 @@ impl Writer for SinkWriter {
     }
 }
 
+/// Appends a net and one of its sinks.
+pub fn push_sink(out: &mut Vec<u8>, net: NetId, sink: u32) -> Result<(), AllocError>
+    ensures { OnOk result (out.new.items
+        ≡ out.old.items ++ (field (decimal net.0) 32 ++ field (decimal sink) 32)) }
+{
+    push_number(out, net.0, b' ')?;
+    push_number(out, sink, b' ')
+}
+
 /// Writes arcs.
 struct ArcWriter;
 
@@ -124,13 +131,11 @@ impl Writer for ArcWriter {
 
     fn write(&self, out: &mut Vec<u8>, arc: &TimingArc) -> Result<(), AllocError> {
         push_word(out, b"arc", b' ')?;
-        push_number(out, arc.from.0, b' ')?;
-        push_number(out, arc.sink, b' ')?;
+        push_sink(out, arc.from, arc.sink)?;
         push_word(out, edge_word(arc.input), b' ')?;
         push_word(out, edge_word(arc.output), b' ')?;
         push_number(out, arc.delay, b' ')?;
-        push_number(out, arc.slew, b'\n')?;
-        Ok(())
+        push_number(out, arc.slew, b'\n')
     }
 }
 
@@ -146,7 +151,6 @@ impl Writer for BodyWriter {
         push_pair(out, net)?;
         write_each(out, &CouplingWriter, net.couplings.as_slice())?;
         write_each(out, &SinkWriter, net.sinks.as_slice())?;
-        write_each(out, &ArcWriter, net.arcs.as_slice())?;
-        Ok(())
+        write_each(out, &ArcWriter, net.arcs.as_slice())
     }
 }

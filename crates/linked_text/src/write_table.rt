@@ -69,7 +69,6 @@ impl Writer for TableWriter {
         push_number(out, loads.len(), b'\n')?;
         push_numbers(out, b"slews", slews)?;
         push_numbers(out, b"loads", loads)?;
-        push_rows(out, slews.len(), loads.len(), table.values())?;
-        Ok(())
+        push_rows(out, slews.len(), loads.len(), table.values())
     }
 }

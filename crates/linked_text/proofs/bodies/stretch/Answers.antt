@@ -1,7 +1,15 @@
-use Rattle.std.proofs.Common.{◌∙◌, arith}
+use Rattle.std.proofs.Common.{◌∙◌, arith, ap, length}
 use Rattle.std.proofs.lemmas.Result.{err_from_is_err_and}
 use Rattle.linked_text.proofs.Loop.{behind_next, fails_here}
 use Rattle.linked_text.proofs.bodies.stretch.Goals as goal
+
+pub loop-head-preserved : goal.loop-head-preserved
+loop-head-preserved c = record {
+  whole =
+      rw (c.in_ok-push-2.ensures.items, ← c.loop-head.invariant.whole, c.in-Some.ensures) (behind_next c.args.sinks.now c.args.tables c.len-in-Some.result
+      c.loop-head.nets.items c.in-Some.head c.head_above.new.heads.items c.loop-head.rest.now _ _ (c.len-in-Some.ensures ∙ c.loop-head.nets.ok.0) c.in_ok-next.ensures);
+  fewer = omega (arith, ap length c.in-Some.ensures, c.loop-head.invariant.fewer);
+}
 
 pub loop-head-init : goal.loop-head-init
 loop-head-init c = record {

@@ -1,7 +1,17 @@
-use Rattle.std.proofs.Common.{refl, sym, ap, ◌∙◌}
-use Rattle.linked_text.specs.EachLine.{flop_in, has_word, holds, numbered, worded}
+use Rattle.std.proofs.Common.{refl, sym, ap, ◌∙◌, ◌&&◌}
+use Rattle.linked_text.specs.EachLine.{flop_in, has_word, holds, numbered, worded, has_sink}
 use Rattle.linked_text.proofs.Inversions.{goes_on, is_refused, word_agrees, word_differs}
+use Rattle.linked_text.proofs.Options.{both_true}
+use Rattle.linked_text.proofs.Cuts.{name_sound}
+use Rattle.linked_text.specs.Fields.{is_name}
 use Rattle.linked_text.proofs.checks.flop.Goals as goal
+
+pub from_slice-requires : goal.from_slice-requires
+from_slice-requires c =
+    let name = c.in-Some.name.now in
+    let there = has_sink c.args.sinks.now c.in-Some-count.datum c.in-Some-count-2.datum_sink in
+    let stands = both_true c.args.period (is_name name && there) (sym c.may_stand.ensures ∙ c.if-not-may_stand.false) in
+    name_sound name (both_true (is_name name) there stands.1).0
 
 pub returns-in_default : goal.returns-in_default
 unfolding flop_in

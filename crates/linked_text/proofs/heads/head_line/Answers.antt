@@ -2,7 +2,11 @@ use Rattle.std.proofs.Common.{◌≡◌, refl, sym, ap, ◌∙◌, arith, to_z, 
 use Rattle.std.proofs.lemmas.Int.{ints}
 use Rattle.linked_text.specs.EachLine.{head_in, has_word, holds, numbered, worded}
 use Rattle.linked_text.proofs.Inversions.{all_true, first_false, goes_on, is_refused, last_false}
+use Rattle.linked_text.proofs.Cuts.{name_sound}
 use Rattle.linked_text.proofs.heads.head_line.Goals as goal
+
+pub from_slice-requires : goal.from_slice-requires
+from_slice-requires c = name_sound c.in-Some.name.now (sym c.is_name.ensures ∙ c.if-not-is_name.false)
 
 pub returns-in_default-clause-value : goal.returns-in_default-clause-value
 unfolding head_in

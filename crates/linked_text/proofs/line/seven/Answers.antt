@@ -1,8 +1,12 @@
-use Rattle.std.proofs.Common.{sym, ◌∙◌}
-use Rattle.linked_text.proofs.Splits.{not_seven}
+use Rattle.std.proofs.Common.{arith}
+use Rattle.linked_text.proofs.Splits.{few_seven, seven_none, seven_some}
 use Rattle.linked_text.proofs.line.seven.Goals as goal
 
-pub returns-then-not-is_done : goal.returns-then-not-is_done
-returns-then-not-is_done c =
-    not_seven (sym c.new-fields.ensures ∙ c.in_ok-first.ensures) c.in_ok-fourth.ensures c.in_ok-seventh.ensures
-    (sym c.is_done.ensures ∙ c.if-not-is_done.true)
+pub returns-in_err-first : goal.returns-in_err-first
+returns-in_err-first c = rw c.from_residual.ensures (few_seven _ (omega (arith, c.in_err-first.ensures)))
+
+pub returns-in_err-fourth : goal.returns-in_err-fourth
+returns-in_err-fourth c = rw c.from_residual-in_err-fourth.ensures (seven_none _ _ _ _ _ c.in_ok-first.ensures c.in_err-fourth.ensures)
+
+pub returns : goal.returns
+returns c = seven_some _ _ _ _ _ c.in_ok-first.ensures _ c.in_ok-fourth.ensures
