@@ -1,8 +1,11 @@
 //! From the bytes of a library to its cells and tables.
 
-ghost use Rattle.std.specs.Prelude.{◌≤◌, length, IfOk};
+ghost use Rattle.std.specs.Prelude.{◌≤◌, length, Ok, IfOk};
+ghost use Rattle.xt_model.specs.Results.{◌>>=◌ as and_then};
 ghost use Rattle.liberty_groups.specs.Trees.{tree_of};
 ghost use Rattle.text_forms.specs.Stops.{Gives};
+ghost use Rattle.liberty_tables.specs.Units.{AreScales};
+ghost use Rattle.liberty_cells.specs.Cells.{cells_of};
 ghost use Rattle.liberty_cells.specs.Library.{library_in, library_meant};
 ghost use Rattle.liberty_cells.specs.Sound.{IsSoundLibrary};
 ghost use Rattle.xt_number.specs.Quantities.{IsScale};
@@ -12,11 +15,51 @@ use crate::library::Library;
 use crate::library_text::LibraryText;
 use crate::pin::{PinFacts, Role};
 use liberty_groups::{Group, read_groups};
-use liberty_tables::{templates_of, units_of};
+use liberty_tables::{Scales, Template, templates_of, units_of};
+use name_numbers::NameTable;
 use std::alloc::Global;
 use std::rc::Rc;
 use xt_lex::{MOST_BYTES, TextFault};
 use xt_model::Row;
+
+/// What the cells of a library mean, after its units and its templates.
+fn library_on(
+    alloc: Global,
+    bytes: &[u8],
+    scales: Scales,
+    templates: &NameTable<Template>,
+    group: &Group,
+) -> Result<Library, TextFault>
+    requires { AreScales scales }
+    ensures value { Gives (λ library. library) result
+        (and_then (cells_of bytes.now scales templates.now (tree_of group.now)) (λ x. Ok (record {
+          time_scale = scales.time;
+          cap_scale = scales.cap;
+          tables = x.0;
+          cells = x.1;
+        }))) }
+    ensures scales { IfOk result (λ library. IsScale library.time_scale × IsScale library.cap_scale) }
+{
+    let no_facts = PinFacts {
+        role: Role::Other,
+        cap: 0,
+        timings: Row::from_vec(Vec::new(alloc)),
+    };
+    let text = LibraryText {
+        bytes,
+        scales,
+        templates,
+        no_facts: Rc::new(alloc, no_facts)?,
+    };
+    let mut tables = Vec::new(alloc);
+    let cells = cells_of(alloc, &text, group, &mut tables)?;
+    Ok(Library {
+        time_scale: scales.time,
+        cap_scale: scales.cap,
+        tables: Row::from_vec(tables),
+        cells,
+    })
+}
 
 /// What the groups of a library mean.
 #[tactic(auto, unfolding(crate::specs::Library::library_in))]
@@ -26,25 +69,7 @@ fn library_in(alloc: Global, bytes: &[u8], group: &Group) -> Result<Library, Tex
 {
     let scales = units_of(alloc, bytes, group)?;
     let templates = templates_of(alloc, bytes, scales, group)?;
-    let mut tables = Vec::new(alloc);
-    let no_facts = PinFacts {
-        role: Role::Other,
-        cap: 0,
-        timings: Row::from_vec(Vec::new(alloc)),
-    };
-    let text = LibraryText {
-        bytes,
-        scales,
-        templates: &templates,
-        no_facts: Rc::new(alloc, no_facts)?,
-    };
-    let cells = cells_of(alloc, &text, group, &mut tables)?;
-    Ok(Library {
-        time_scale: scales.time,
-        cap_scale: scales.cap,
-        tables: Row::from_vec(tables),
-        cells,
-    })
+    library_on(alloc, bytes, scales, &templates, group)
 }
 
 /// The library that a Liberty text means, or its first refusal: that of its groups, then in the order of the passes,
