@@ -29,7 +29,7 @@ found P o x e h = let Q : Option _ → Type 0 = λ o. IfSome o P in subst Q e h
 pub held : {X : Type 0} (P : X → Type 0) (o : Option X) (x : X) → o ≡ Some x → P x → IfSome o P
 held P o x e h = let Q : Option _ → Type 0 = λ o. IfSome o P in subst Q (sym e) h
 
-scaled_natural : (a : ℕ) (c : ℤ) → pos 0 ≤ℤ c → pos 0 ≤ℤ (pos a *ℤ c)
+pub scaled_natural : (a : ℕ) (c : ℤ) → pos 0 ≤ℤ c → pos 0 ≤ℤ (pos a *ℤ c)
 scaled_natural a (pos n) h = omega (arith, ints)
 scaled_natural a (negsuc n) h = absurd (omega (arith, ints))
 

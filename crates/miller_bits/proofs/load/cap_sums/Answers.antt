@@ -1,9 +1,10 @@
-use Rattle.std.proofs.Common.{◌≡◌, ◌∙◌, ap, arith, ℤ, pos, to_z, of_z, w64}
+use Rattle.std.proofs.Common.{◌≡◌, ◌<◌, ◌∙◌, ap, arith, length, ℤ, pos, to_z, of_z, w64}
 use Rattle.std.proofs.lemmas.Int.{ints}
 use Rattle.xt_model.specs.declared.net.Coupling.{Coupling}
 use Rattle.xt_model.specs.Sound.{IsCap}
 use Rattle.xt_meaning.specs.Wires.{cap_sum}
-use Rattle.miller_bits.proofs.Sums.{cap_end, cap_turn, cap_stored, stored_64, cap_at}
+use Rattle.miller_bits.specs.Victims.{VictimEdge}
+use Rattle.miller_bits.proofs.Sums.{cap_start, cap_end, cap_turn, cap_stored, stored_64, cap_at}
 use Rattle.miller_bits.proofs.load.cap_sums.Goals as goal
 
 abbrev no_coupling : Coupling
@@ -58,20 +59,85 @@ loop-index-preserved g c =
 
 pub returns-clause-a_least : goal.returns-clause-a_least
 returns-clause-a_least g c =
-    let is : c.as_slice-coupling-items.result.now ≡ c.args.a.now.net.couplings = rw (← c.a.view_is) c.as_slice-coupling-items.ensures in
+    let is : c.as_slice-coupling-items.result.now ≡ c.args.a.now.net.couplings = c.as_slice-coupling-items.ensures ∙ ap (λ (v : VictimEdge). v.net.couplings) c.a.view_is in
     cap_end _ _ _ _ c.loop-index-test.false c.loop-index.invariant.a_least ∙ ap (cap_sum c.args.a.now.least) is
 
 pub returns-clause-a_greatest : goal.returns-clause-a_greatest
 returns-clause-a_greatest g c =
-    let is : c.as_slice-coupling-items.result.now ≡ c.args.a.now.net.couplings = rw (← c.a.view_is) c.as_slice-coupling-items.ensures in
+    let is : c.as_slice-coupling-items.result.now ≡ c.args.a.now.net.couplings = c.as_slice-coupling-items.ensures ∙ ap (λ (v : VictimEdge). v.net.couplings) c.a.view_is in
     cap_end _ _ _ _ c.loop-index-test.false c.loop-index.invariant.a_greatest ∙ ap (cap_sum c.args.a.now.greatest) is
 
 pub returns-clause-b_least : goal.returns-clause-b_least
 returns-clause-b_least g c =
-    let is : c.as_slice-coupling-items.result.now ≡ c.args.a.now.net.couplings = rw (← c.a.view_is) c.as_slice-coupling-items.ensures in
+    let is : c.as_slice-coupling-items.result.now ≡ c.args.a.now.net.couplings = c.as_slice-coupling-items.ensures ∙ ap (λ (v : VictimEdge). v.net.couplings) c.a.view_is in
     cap_end _ _ _ _ c.loop-index-test.false c.loop-index.invariant.b_least ∙ ap (cap_sum c.args.b.now.least) is
 
 pub returns-clause-b_greatest : goal.returns-clause-b_greatest
 returns-clause-b_greatest g c =
-    let is : c.as_slice-coupling-items.result.now ≡ c.args.a.now.net.couplings = rw (← c.a.view_is) c.as_slice-coupling-items.ensures in
+    let is : c.as_slice-coupling-items.result.now ≡ c.args.a.now.net.couplings = c.as_slice-coupling-items.ensures ∙ ap (λ (v : VictimEdge). v.net.couplings) c.a.view_is in
     cap_end _ _ _ _ c.loop-index-test.false c.loop-index.invariant.b_greatest ∙ ap (cap_sum c.args.b.now.greatest) is
+
+pub loop-index-init : goal.loop-index-init
+loop-index-init g c = record { a_least = cap_start _ _; a_greatest = cap_start _ _; b_least = cap_start _ _; b_greatest = cap_start _ _ }
+
+pub bounds-coupling-items-index : goal.bounds-coupling-items-index
+bounds-coupling-items-index g c = c.loop-index-test.true
+
+pub factors-a_low-requires : goal.factors-a_low-requires
+factors-a_low-requires g c =
+    let is : c.as_slice-coupling-items.result.now ≡ c.args.a.now.net.couplings = c.as_slice-coupling-items.ensures ∙ ap (λ (v : VictimEdge). v.net.couplings) c.a.view_is in
+    rw is at c.loop-index-test.true
+
+pub factors-b_low-requires : goal.factors-b_low-requires
+factors-b_low-requires g c =
+    let is : c.as_slice-coupling-items.result.now ≡ c.args.a.now.net.couplings = c.as_slice-coupling-items.ensures ∙ ap (λ (v : VictimEdge). v.net.couplings) c.a.view_is in
+    let below : c.loop-index.index < length c.args.a.now.net.couplings = rw is at c.loop-index-test.true in
+    rw c.requires.net below
+
+pub returns-clause-a_range : goal.returns-clause-a_range
+returns-clause-a_range g c = record {
+  least_natural = c.loop-index.invariant.a_least.low;
+  least_small = c.loop-index.invariant.a_least.high;
+  greatest_natural = c.loop-index.invariant.a_greatest.low;
+  greatest_small = c.loop-index.invariant.a_greatest.high;
+}
+
+pub returns-clause-b_range : goal.returns-clause-b_range
+returns-clause-b_range g c = record {
+  least_natural = c.loop-index.invariant.b_least.low;
+  least_small = c.loop-index.invariant.b_least.high;
+  greatest_natural = c.loop-index.invariant.b_greatest.low;
+  greatest_small = c.loop-index.invariant.b_greatest.high;
+}
+
+pub scaled-a_least-requires-clause-factor : goal.scaled-a_least-requires-clause-factor
+scaled-a_least-requires-clause-factor g c = c.factors-a_low.ensures.few_least
+
+pub overflow_add-a_least : goal.overflow_add-a_least
+overflow_add-a_least g c =
+    let sum = c.loop-index.invariant.a_least in
+    omega (arith, ints, sum.low, sum.high, c.loop-index.a_least-is, c.scaled-a_least.ensures.low, c.scaled-a_least.ensures.high)
+
+pub scaled-a_greatest-requires-clause-factor : goal.scaled-a_greatest-requires-clause-factor
+scaled-a_greatest-requires-clause-factor g c = c.factors-a_low.ensures.few_greatest
+
+pub overflow_add-a_greatest : goal.overflow_add-a_greatest
+overflow_add-a_greatest g c =
+    let sum = c.loop-index.invariant.a_greatest in
+    omega (arith, ints, sum.low, sum.high, c.loop-index.a_greatest-is, c.scaled-a_greatest.ensures.low, c.scaled-a_greatest.ensures.high)
+
+pub scaled-b_least-requires-clause-factor : goal.scaled-b_least-requires-clause-factor
+scaled-b_least-requires-clause-factor g c = c.factors-b_low.ensures.few_least
+
+pub overflow_add-b_least : goal.overflow_add-b_least
+overflow_add-b_least g c =
+    let sum = c.loop-index.invariant.b_least in
+    omega (arith, ints, sum.low, sum.high, c.loop-index.b_least-is, c.scaled-b_least.ensures.low, c.scaled-b_least.ensures.high)
+
+pub scaled-b_greatest-requires-clause-factor : goal.scaled-b_greatest-requires-clause-factor
+scaled-b_greatest-requires-clause-factor g c = c.factors-b_low.ensures.few_greatest
+
+pub overflow_add-b_greatest : goal.overflow_add-b_greatest
+overflow_add-b_greatest g c =
+    let sum = c.loop-index.invariant.b_greatest in
+    omega (arith, ints, sum.low, sum.high, c.loop-index.b_greatest-is, c.scaled-b_greatest.ensures.low, c.scaled-b_greatest.ensures.high)

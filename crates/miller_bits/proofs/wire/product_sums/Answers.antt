@@ -1,7 +1,72 @@
-use Rattle.std.proofs.Common.{arith, pos}
+use Rattle.std.proofs.Common.{◌≡◌, arith, ap, length, ℤ, pos, ◌*ℤ◌, to_z, of_z}
+use Rattle.std.specs.Int.{w128}
 use Rattle.std.proofs.lemmas.Int.{ints}
-use Rattle.miller_bits.proofs.Sums.{sum_turn, sum_stored, sum_end, sum_most, stored_128, coef_stored}
+use Rattle.xt_model.specs.declared.net.Net.{Net}
+use Rattle.xt_model.specs.Sound.{IsProduct}
+use Rattle.miller_bits.proofs.Sums.{sum_start, sum_turn, sum_stored, sum_end, sum_most, stored_128, coef_of, coef_stored}
 use Rattle.miller_bits.proofs.wire.product_sums.Goals as goal
+
+-- a product, as it is stored
+stored : (x : ℤ) → IsProduct x → IsProduct (to_z w128 (of_z w128 x))
+stored x k = record { least = omega (arith, ints, k.least, k.most); most = omega (arith, ints, k.least, k.most) }
+
+-- four times a base, as it is stored
+quarters : (x r : ℤ) → IsProduct x → r ≡ pos 4 *ℤ to_z w128 (of_z w128 x) → to_z w128 (of_z w128 r) ≡ pos 4 *ℤ x
+quarters x r k is = omega (arith, ints, k.least, k.most, is)
+
+pub in_quarters-base-requires : goal.in_quarters-base-requires
+in_quarters-base-requires g c = stored _ c.requires.sink.base
+
+pub loop-index-init : goal.loop-index-init
+loop-index-init g c =
+    let base = c.requires.sink.base in
+    let is = quarters c.args.sink.now.base c.in_quarters-base.result base c.in_quarters-base.ensures.value in
+    record {
+      a_least = sum_start _ _ _ _ base is;
+      a_greatest = sum_start _ _ _ _ base is;
+      b_least = sum_start _ _ _ _ base is;
+      b_greatest = sum_start _ _ _ _ base is;
+    }
+
+pub bounds-coef-items-index : goal.bounds-coef-items-index
+bounds-coef-items-index g c = c.loop-index-test.true
+
+pub factors-a_low-requires : goal.factors-a_low-requires
+factors-a_low-requires g c =
+    let below = rw c.as_slice-coef-items.ensures at c.loop-index-test.true in
+    let count = c.requires.sink.count in
+    omega (arith, below, count)
+
+pub factors-b_low-requires : goal.factors-b_low-requires
+factors-b_low-requires g c =
+    let below = rw c.as_slice-coef-items.ensures at c.loop-index-test.true in
+    let count = c.requires.sink.count in
+    let same = ap (λ (n : Net). length n.couplings) c.requires.net in
+    omega (arith, below, count, same)
+
+pub scaled-a_least-requires-clause-factor : goal.scaled-a_least-requires-clause-factor
+scaled-a_least-requires-clause-factor g c = c.factors-a_low.ensures.few_least
+
+pub scaled-a_least-requires-clause-coef : goal.scaled-a_least-requires-clause-coef
+scaled-a_least-requires-clause-coef g c = stored _ (coef_of _ _ c.loop-index.index c.requires.sink.coefs c.as_slice-coef-items.ensures c.loop-index-test.true)
+
+pub scaled-a_greatest-requires-clause-factor : goal.scaled-a_greatest-requires-clause-factor
+scaled-a_greatest-requires-clause-factor g c = c.factors-a_low.ensures.few_greatest
+
+pub scaled-a_greatest-requires-clause-coef : goal.scaled-a_greatest-requires-clause-coef
+scaled-a_greatest-requires-clause-coef g c = stored _ (coef_of _ _ c.loop-index.index c.requires.sink.coefs c.as_slice-coef-items.ensures c.loop-index-test.true)
+
+pub scaled-b_least-requires-clause-factor : goal.scaled-b_least-requires-clause-factor
+scaled-b_least-requires-clause-factor g c = c.factors-b_low.ensures.few_least
+
+pub scaled-b_least-requires-clause-coef : goal.scaled-b_least-requires-clause-coef
+scaled-b_least-requires-clause-coef g c = stored _ (coef_of _ _ c.loop-index.index c.requires.sink.coefs c.as_slice-coef-items.ensures c.loop-index-test.true)
+
+pub scaled-b_greatest-requires-clause-factor : goal.scaled-b_greatest-requires-clause-factor
+scaled-b_greatest-requires-clause-factor g c = c.factors-b_low.ensures.few_greatest
+
+pub scaled-b_greatest-requires-clause-coef : goal.scaled-b_greatest-requires-clause-coef
+scaled-b_greatest-requires-clause-coef g c = stored _ (coef_of _ _ c.loop-index.index c.requires.sink.coefs c.as_slice-coef-items.ensures c.loop-index-test.true)
 
 pub overflow_add-a_least : goal.overflow_add-a_least
 overflow_add-a_least g c =
