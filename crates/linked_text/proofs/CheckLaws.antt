@@ -121,7 +121,7 @@ clear_delay : (o : Option ℤ) → IfSome o IsDelay → Clear (delay_field o)
 clear_delay None h = (refl, tt)
 clear_delay (Some x) h = clear_signed x (small_delay x h)
 
--- what follows from a step that gave something, and from what came behind it
+-- what follows from a step that gave something, and from what came after it
 ok_then : {A B C E : Type 0} {r : Result A E} {f : A → Result B E} {y : B} → (r >>= f) ≡ Ok y → ((x : A) → r ≡ Ok x → f x ≡ Ok y → C) → C
 ok_then e found = let s = ok_step e in found s.0 s.1 s.2
 

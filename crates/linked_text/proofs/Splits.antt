@@ -83,7 +83,7 @@ few_nine (a ∷ b ∷ c ∷ d ∷ e ∷ f ∷ g ∷ []) few = refl
 few_nine (a ∷ b ∷ c ∷ d ∷ e ∷ f ∷ g ∷ h ∷ []) few = refl
 few_nine (a ∷ b ∷ c ∷ d ∷ e ∷ f ∷ g ∷ h ∷ i ∷ xs) few = absurd (omega (arith, few))
 
--- one, two or three fields, and those behind them
+-- one, two or three fields, and those after them
 pub short_one : {a : List ℕ} {xs : List (List ℕ)} → xs ≡ a ∷ [] → length xs < 4
 short_one e = rw e (omega arith)
 
@@ -107,7 +107,7 @@ not_one a (b ∷ xs) n e = refl
 pub one_none : (a rest : List ℕ) (ys : List (List ℕ)) → ys ≡ a ∷ fields_of rest → one ys ≡ None
 one_none a rest ys e = rw e (not_one a (fields_of rest) (count_by is_space rest) (length-slice_split is_space rest))
 
--- a line of two: one behind one
+-- a line of two: one after one
 pub two_some : (a : List ℕ) (xs ys : List (List ℕ)) → ys ≡ a ∷ xs → (x : List ℕ) → one xs ≡ Some x → two ys ≡ Some (a, x)
 two_some a xs ys e x h = rw (e, one_is xs x h) refl
 
@@ -116,7 +116,7 @@ two_none a [] ys e h = rw e refl
 two_none a (z1 ∷ []) ys e h = absurd cc
 two_none a (z1 ∷ z2 ∷ xs) ys e h = rw e refl
 
--- a line of three: two behind one
+-- a line of three: two after one
 pub three_some : (a : List ℕ) (xs ys : List (List ℕ)) → ys ≡ a ∷ xs → (x : List ℕ × List ℕ) → two xs ≡ Some x → three ys ≡ Some (a, x.0, x.1)
 three_some a xs ys e x h = rw (e, two_is xs x h) refl
 
@@ -126,7 +126,7 @@ three_none a (z1 ∷ []) ys e h = rw e refl
 three_none a (z1 ∷ z2 ∷ []) ys e h = absurd cc
 three_none a (z1 ∷ z2 ∷ z3 ∷ xs) ys e h = rw e refl
 
--- a line of four: one behind three
+-- a line of four: one after three
 pub four_some : (a b c : List ℕ) (xs ys : List (List ℕ)) → ys ≡ a ∷ b ∷ c ∷ xs → (x : List ℕ) → one xs ≡ Some x → four ys ≡ Some (a, b, c, x)
 four_some a b c xs ys e x h = rw (e, one_is xs x h) refl
 
@@ -135,7 +135,7 @@ four_none a b c [] ys e h = rw e refl
 four_none a b c (z1 ∷ []) ys e h = absurd cc
 four_none a b c (z1 ∷ z2 ∷ xs) ys e h = rw e refl
 
--- a line of five: two behind three
+-- a line of five: two after three
 pub five_some : (a b c : List ℕ) (xs ys : List (List ℕ)) → ys ≡ a ∷ b ∷ c ∷ xs → (x : List ℕ × List ℕ) → two xs ≡ Some x → five ys ≡ Some (a, b, c, x.0, x.1)
 five_some a b c xs ys e x h = rw (e, two_is xs x h) refl
 
@@ -145,7 +145,7 @@ five_none a b c (z1 ∷ []) ys e h = rw e refl
 five_none a b c (z1 ∷ z2 ∷ []) ys e h = absurd cc
 five_none a b c (z1 ∷ z2 ∷ z3 ∷ xs) ys e h = rw e refl
 
--- a line of seven: four behind three
+-- a line of seven: four after three
 pub seven_some : (a b c : List ℕ) (xs ys : List (List ℕ)) → ys ≡ a ∷ b ∷ c ∷ xs → (x : List ℕ × List ℕ × List ℕ × List ℕ) → four xs ≡ Some x → seven ys ≡ Some (a, b, c, x.0, x.1, x.2, x.3)
 seven_some a b c xs ys e x h = rw (e, four_is xs x h) refl
 
@@ -157,7 +157,7 @@ seven_none a b c (z1 ∷ z2 ∷ z3 ∷ []) ys e h = rw e refl
 seven_none a b c (z1 ∷ z2 ∷ z3 ∷ z4 ∷ []) ys e h = absurd cc
 seven_none a b c (z1 ∷ z2 ∷ z3 ∷ z4 ∷ z5 ∷ xs) ys e h = rw e refl
 
--- a line of nine: three behind six
+-- a line of nine: three after six
 pub nine_some : (a b c d g i : List ℕ) (xs ys : List (List ℕ)) → ys ≡ a ∷ b ∷ c ∷ d ∷ g ∷ i ∷ xs → (x : List ℕ × List ℕ × List ℕ) → three xs ≡ Some x → nine ys ≡ Some (a, b, c, d, g, i, x.0, x.1, x.2)
 nine_some a b c d g i xs ys e x h = rw (e, three_is xs x h) refl
 
