@@ -1,6 +1,8 @@
-use Rattle.std.proofs.Common.{◌∙◌, ◌<◌, refl, ap, length, map, get_or, arith}
+use Rattle.std.proofs.Common.{◌≡◌, ◌∙◌, ◌<◌, refl, ap, subst, length, map, get_or, arith}
 use Rattle.std.specs.Prelude.{slice_index}
 use Rattle.std.proofs.lemmas.List.{length-map, length-set}
+use Rattle.design_gen.specs.Lists.{each_below}
+use Rattle.design_gen.specs.Rows.{HoldPins}
 use Rattle.design_gen.specs.Taps.{place_of}
 use Rattle.design_gen.proofs.NetLaws.{pins_on_few}
 use Rattle.design_gen.proofs.RowLaws.{none_there, pin_appended, place_is, places_turn}
@@ -38,3 +40,29 @@ loop-pin-preserved c =
       places = places_turn (place_of (slice_index c.args.drivers.now)) c.loop-pin.pin c.len.result c.loop-pin.places.items c.push.new.self.items
           c.loop-pin.invariant.places e c.in_ok-push.ensures.items;
     }
+
+pub bounds-drivers-pin : goal.bounds-drivers-pin
+bounds-drivers-pin c = c.loop-pin-test.true
+
+pub index-requires : goal.index-requires
+index-requires c =
+    let a = c.requires.drivers c.loop-pin.pin 0 c.loop-pin-test.true in
+    omega (arith, a, c.loop-pin.invariant.count, c.loop-pin.rows.ok.0)
+
+pub push_item-requires : goal.push_item-requires
+push_item-requires c =
+    let a = c.requires.drivers c.loop-pin.pin 0 c.loop-pin-test.true in
+    (omega arith, omega (arith, a, c.loop-pin.invariant.count))
+
+pub returns-clause-rows : goal.returns-clause-rows
+returns-clause-rows c =
+    let end : c.loop-pin.pin ≡ length c.args.drivers.now = omega (arith, c.loop-pin-test.false, c.loop-pin.auto.pin-end) in
+    subst (HoldPins (map (λ r. r.items) c.loop-pin.rows.items) (slice_index c.args.drivers.now)) end c.loop-pin.invariant.rows
+
+pub returns-clause-count : goal.returns-clause-count
+returns-clause-count c = c.loop-pin.invariant.count
+
+pub returns-clause-places : goal.returns-clause-places
+returns-clause-places c =
+    let end : c.loop-pin.pin ≡ length c.args.drivers.now = omega (arith, c.loop-pin-test.false, c.loop-pin.auto.pin-end) in
+    c.loop-pin.invariant.places ∙ ap (each_below (place_of (slice_index c.args.drivers.now))) end
