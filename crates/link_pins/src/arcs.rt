@@ -17,7 +17,7 @@ use std::alloc::{AllocError, Global};
 use xt_model::{Edge, NetId, TimingArc};
 
 /// A sink by the numbers of its net and of itself there.
-#[derive(Clone, Copy, Debug, PartialEq, Eq)]
+#[derive(Clone, Copy)]
 pub struct SinkAt {
     pub net: u32,
     pub sink: u32,

@@ -12,7 +12,7 @@ use std::alloc::{AllocError, Global};
 use verilog_net::{Net, Netlist, PortRole};
 
 /// A bit: the number of its net's name in the netlist, its own as the range has it, and its direction.
-#[derive(Clone, Copy, Debug, PartialEq, Eq)]
+#[derive(Clone, Copy)]
 pub struct BitAt {
     pub decl: u32,
     pub bit: u32,

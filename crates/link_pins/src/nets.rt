@@ -147,16 +147,16 @@ pub fn all_nets<'a>(
     sinks.reverse();
     let mut made = Vec::with_capacity(alloc, nets.count() as usize)?;
     for net in 0..nets.count() {
+        let bit = bits[net as usize];
+        let windows = GivenPair::new(alloc, given(constraints, bit))?;
+        let name = net_name(alloc, nets, net)?;
         let Some(driver) = take_last(&mut drivers) else {
             unreachable!()
         };
         let Some(row) = take_last(&mut sinks) else {
             unreachable!()
         };
-        let at = net as usize;
-        let name = net_name(alloc, nets, net)?;
-        let windows = GivenPair::new(alloc, given(constraints, bits[at]))?;
-        made.push(net_pins(alloc, name, bits[at].role, windows, driver, row))?;
+        made.push(net_pins(alloc, name, bit.role, windows, driver, row))?;
     }
     Ok(made)
 }

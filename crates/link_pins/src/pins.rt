@@ -16,7 +16,7 @@ use verilog_net::{Instance, Name, Wire};
 
 /// A pin of the instance of this number that is on a net: the places of its cell in the library and of itself in the
 /// cell, and the number of the net.
-#[derive(Clone, Copy, Debug, PartialEq, Eq)]
+#[derive(Clone, Copy)]
 pub struct PinOn {
     pub instance: u32,
     pub cell: u32,

@@ -1,14 +1,18 @@
-use Rattle.std.proofs.Common.{◌≡◌, List, ◌∷◌, [], ◌++◌, ◌∙◌, Bool, Vec, Global, Some, sym, ap}
+use Rattle.std.proofs.Common.{◌≡◌, List, ◌∷◌, [], ◌++◌, ◌∙◌, Bool, false, Vec, Global, Some, refl, sym, ap}
 use Rattle.std.specs.Prelude.{Option, None, filter_map, option_map}
 use Rattle.std.specs.Option.{option_to_list}
 use Rattle.std.proofs.lemmas.List.{append-nil, take_all}
-use Rattle.std.proofs.lemmas.Option.{same_Some}
+use Rattle.std.proofs.lemmas.Option.{same_Some, slice_get_within}
 use Rattle.name_numbers.specs.Names.{Text}
 use Rattle.xt_model.specs.declared.check.CheckPoint.{CheckPoint}
 use Rattle.xt_model.specs.declared.check.CheckPoint.TheVariants as checks
+use Rattle.liberty_cells.specs.declared.library.Library.{Library}
 use Rattle.liberty_cells.specs.Pins.{PinParts}
+use Rattle.verilog_net.specs.declared.netlist.Netlist.{Netlist}
 use Rattle.link_rules.specs.Arcs.{sink_at}
+use Rattle.link_rules.specs.Checks.{pin_checks}
 use Rattle.link_rules.specs.Ends.{sink_name}
+use Rattle.link_rules.specs.Pins.{Connected, is_input}
 use Rattle.link_pins.specs.declared.arcs.SinkAt.{SinkAt}
 use Rattle.link_pins.specs.Places.{place_of}
 use Rattle.link_pins.proofs.ArcLaws.{made_more}
@@ -18,6 +22,9 @@ use Rattle.link_pins.proofs.CheckLaws.{point, check_of, no_sink}
 use Rattle.link_pins.proofs.RelatedLaws.{checks_related}
 use Rattle.link_pins.proofs.checks.add_pin_checks.Goals as goal
 use Rattle.link_pins.proofs.checks.add_pin_checks.Goals.{in-Some-clock_of+in_ok-end_of+in_ok-push, in_default-clock_of}
+
+no_input : (library : Library) (netlist : Netlist) (d : Connected) → is_input d.pin.role ≡ false → pin_checks library netlist d ≡ []
+no_input library netlist d none = rw none refl
 
 pub returns-in_default : goal.returns-in_default
 returns-in_default c = λ d at are.
@@ -71,3 +78,20 @@ returns c = λ d at are.
     ∙ ap (λ l. c.args.checks.now.items ++ l)
     (checks_related c.args.cells.now c.args.nets.now c.args.pin.instance c.args.pin.cell c.args.places.now.at.items are x.0 x.1 d p.number c.in-Some.datum own
     (sym (some_at _ _ d.pin p.pin c.is_input.ensures) ∙ c.if-not-is_input.false) c.args.related.now (c.requires.found x.0 d.pin x.1 p.pin)))
+
+pub find-requires-clause-cell : goal.find-requires-clause-cell
+find-requires-clause-cell c =
+    let cell = pin_parts c.args.cells.now c.args.pin c.of-part.result.now c.of-part.ensures in
+    slice_get_within c.args.cells.now.cells c.args.pin.cell cell.0 cell.1
+
+pub end_of-requires-clause-there : goal.end_of-requires-clause-there
+end_of-requires-clause-there c = c.requires.there
+
+pub end_of-requires-clause-short : goal.end_of-requires-clause-short
+end_of-requires-clause-short c = c.requires.short
+
+pub returns-then-not-is_input : goal.returns-then-not-is_input
+returns-then-not-is_input c = λ d at are.
+    let p = parts_of c.args.cells.now c.args.nets.now c.args.pin d at in
+    let none : is_input d.pin.role ≡ false = sym (some_at _ _ d.pin p.pin c.is_input.ensures) ∙ c.if-not-is_input.true in
+    sym (append-nil c.args.checks.now.items) ∙ ap (λ l. c.args.checks.now.items ++ l) (sym (no_input c.args.cells.now c.args.nets.now d none))

@@ -1,13 +1,14 @@
-use Rattle.std.proofs.Common.{◌≡◌, ℕ, ◌<◌, ◌≤◌, ◌∙◌, List, length, take, get_or, Some, sym, ap, subst, arith}
-use Rattle.std.specs.Prelude.{is_some}
+use Rattle.std.proofs.Common.{◌≡◌, ℕ, ◌<◌, ◌≤◌, ◌∙◌, List, length, take, get_or, Some, refl, sym, ap, subst, arith}
+use Rattle.std.specs.Prelude.{Option, is_some}
 use Rattle.std.specs.List.{All, slice_get}
-use Rattle.std.proofs.lemmas.Option.{slice_get-get_or}
+use Rattle.std.proofs.lemmas.Option.{none-some, slice_get-get_or}
 use Rattle.liberty_cells.specs.declared.cell.Cell.{Cell}
 use Rattle.link_rules.specs.Pins.{Connected, pins}
 use Rattle.link_pins.specs.Joined.{AreCounted}
 use Rattle.link_pins.specs.Seen.{connected_at}
-use Rattle.link_pins.proofs.DriverLaws.{paired_at}
-use Rattle.link_pins.specs.Known.{IsCount}
+use Rattle.link_pins.proofs.DriverLaws.{paired_at, same_length}
+use Rattle.link_pins.specs.declared.known.KnownAt.{KnownAt}
+use Rattle.link_pins.specs.Known.{AreBefore, IsCount}
 use Rattle.link_pins.proofs.KnownLaws.{starts, ends}
 use Rattle.link_pins.proofs.OrderLaws.{next_boundary}
 use Rattle.link_pins.proofs.PinLaws.{nothing, element_at, parts_of, take_next}
@@ -84,3 +85,56 @@ loop-k-init c = record {
       starts (IsCount c.enter.new.self.at.items) c.in_ok-related.related.cells.items c.enter.new.self.from c.instances.known.of.items
       (λ n d f x h. omega (arith, c.instances.invariant.known n d f x h, c.in_ok-enter.ensures.from));
 }
+
+pub instances-init : goal.instances-init
+instances-init c = record {
+  within = omega arith;
+  boundary = λ i j x y lt le a b. absurd (omega (arith, lt));
+  room = subst (λ (n : ℕ). All (λ (x : Cell). length x.pins ≤ n) c.args.cells.now.cells) (sym c.in_ok-places.ensures.count) c.most_pins.ensures.most;
+  clear = c.in_ok-places.ensures.clear;
+  listed = c.in_ok-places.ensures.listed;
+  known = subst (λ (of : List (Option (KnownAt ℕ))). AreBefore 0 of) (sym c.new-known.ensures) (λ n d f x h. absurd (none-some x h));
+  counted = record { arcs = refl; checks = refl };
+}
+
+pub enter-requires-clause-places : goal.enter-requires-clause-places
+enter-requires-clause-places c =
+    let cs = pins c.args.cells.now c.args.nets.now in
+    c.requires.places.count ∙ sym (same_length (connected_at c.args.cells.now c.args.nets.now) (λ (x : Connected). Some x) c.args.pins.now cs c.requires.pins)
+
+pub enter-requires-clause-room : goal.enter-requires-clause-room
+enter-requires-clause-room c = c.instances.invariant.room
+
+pub enter-requires-clause-clear : goal.enter-requires-clause-clear
+enter-requires-clause-clear c = c.instances.invariant.clear
+
+pub add-requires-clause-related : goal.add-requires-clause-related
+add-requires-clause-related c = c.in_ok-related.ensures
+
+pub add-requires-clause-room : goal.add-requires-clause-room
+add-requires-clause-room c =
+    subst (λ (n : ℕ). All (λ (x : Cell). length x.pins ≤ n) c.args.cells.now.cells) (sym c.in_ok-enter.ensures.count) c.instances.invariant.room
+
+pub add-requires-clause-known : goal.add-requires-clause-known
+add-requires-clause-known c = c.loop-k.invariant.known
+
+pub same_instance-to-requires : goal.same_instance-to-requires
+same_instance-to-requires c = c.instances-test.true
+
+pub enter-requires-clause-order : goal.enter-requires-clause-order
+enter-requires-clause-order c = omega (arith, c.same_instance-to.ensures.some)
+
+pub enter-requires-clause-within : goal.enter-requires-clause-within
+enter-requires-clause-within c = c.same_instance-to.ensures.most
+
+pub bounds-pins-k : goal.bounds-pins-k
+bounds-pins-k c = omega (arith, c.loop-k-test.true, c.same_instance-to.ensures.most)
+
+pub clear-requires-clause-order : goal.clear-requires-clause-order
+clear-requires-clause-order c = omega (arith, c.same_instance-to.ensures.some)
+
+pub clear-requires-clause-within : goal.clear-requires-clause-within
+clear-requires-clause-within c = c.same_instance-to.ensures.most
+
+pub instances-smaller : goal.instances-smaller
+instances-smaller c = omega (arith, c.same_instance-to.ensures.some, c.same_instance-to.ensures.most)

@@ -1,4 +1,4 @@
-use Rattle.std.proofs.Common.{◌≡◌, ◌<◌, length, sym, ap, ◌∙◌, arith}
+use Rattle.std.proofs.Common.{◌≡◌, ◌<◌, [], length, drop, sym, ap, ◌∙◌, arith, length-drop}
 use Rattle.verilog_net.specs.Bits.{bits}
 use Rattle.link_rules.specs.Given.{is_input_port}
 use Rattle.link_pins.specs.declared.bits.BitAt.{BitAt}
@@ -35,3 +35,15 @@ pub returns : goal.returns
 returns c =
     made_all c.args.cells.now c.args.nets.now c.args.constraints.now c.loop-net.net c.loop-net.made.items
     (omega (arith, c.loop-net-test.false, c.count-net-end.ensures.value)) c.loop-net.invariant.made
+
+pub unreachable-requires : goal.unreachable-requires
+unreachable-requires c =
+    let net = c.loop-net.net in
+    let none : drop net c.args.gathered.drivers.items ≡ [] = sym c.loop-net.invariant.drivers ∙ c.in_default.ensures in
+    absurd (omega (arith, c.loop-net-test.true, c.count-net-end.ensures.value, c.requires.drivers.count, ap length none, length-drop net c.args.gathered.drivers.items))
+
+pub unreachable-requires-in_default-take_last : goal.unreachable-requires-in_default-take_last
+unreachable-requires-in_default-take_last c =
+    let net = c.loop-net.net in
+    let none : drop net c.args.gathered.sinks.items ≡ [] = sym c.loop-net.invariant.sinks ∙ c.in_default-take_last.ensures in
+    absurd (omega (arith, c.loop-net-test.true, c.count-net-end.ensures.value, c.requires.sinks.count, ap length none, length-drop net c.args.gathered.sinks.items))

@@ -30,3 +30,19 @@ returns c =
     let owner : c.bytes.result.now ≡ k.0.owner = c.bytes.ensures ∙ (ap (λ (i : Instance). i.name) (sym one) ∙ sym p.owner) in
     let name : c.bytes-2.result.now ≡ k.0.pin.name = c.bytes-2.ensures.value ∙ (c.name.ensures ∙ ap (λ (q : PinParts). q.name) pin) in
     rw k.1 (rw (owner, name) at c.pin.ensures)
+
+pub bounds-as_slice-pin : goal.bounds-as_slice-pin
+bounds-as_slice-pin c =
+    let k = some_is _ c.requires.there in
+    let p = parts_of c.args.cells.now c.args.nets.now c.args.pin k.0 k.1 in
+    let same : c.as_slice.result.now ≡ c.args.nets.now.instances = c.as_slice.ensures ∙ ap (λ (n : Netlist). n.instances) c.netlist.ensures.value in
+    rw same (slice_get_within c.args.nets.now.instances c.args.pin.instance p.instance p.at)
+
+pub pin-requires-clause-pin : goal.pin-requires-clause-pin
+pin-requires-clause-pin c =
+    let k = some_is _ c.requires.there in
+    let short = of_some _ _ k.0 k.1 c.requires.short in
+    let p = parts_of c.args.cells.now c.args.nets.now c.args.pin k.0 k.1 in
+    let pin : c.of.result.now ≡ k.0.pin = same_Some c.of.result.now k.0.pin (sym c.of.ensures ∙ p.pin) in
+    let name : c.bytes-2.result.now ≡ k.0.pin.name = c.bytes-2.ensures.value ∙ (c.name.ensures ∙ ap (λ (q : PinParts). q.name) pin) in
+    rw name short.1
