@@ -17,6 +17,7 @@ use crate::paths::push_worst_path;
 use crate::worst::{WorstPath, worst_of};
 use slack_report::{Slack, slacks};
 use std::alloc::{AllocError, Global};
+use std::mem::drop;
 use xt_model::{Design, NoMemory, Row, Windows};
 
 /// The slacks of the checks of a design, and the worst setup check and the worst hold check with their paths.
@@ -61,8 +62,7 @@ fn push_lines(out: &mut Vec<u8>, design: &Design, checked: &Checked) -> Result<(
 {
     push_checks(out, design, checked.slacks.as_slice())?;
     push_worst_path(out, design, &checked.setup)?;
-    push_worst_path(out, design, &checked.hold)?;
-    Ok(())
+    push_worst_path(out, design, &checked.hold)
 }
 
 /// Appends the lines on the checks of a design in its least and its greatest windows, and on the worst of each kind.
@@ -82,6 +82,7 @@ pub fn push_checked(
         OnOk result (Appends IsOwn out.old.items out.new.items) }
 {
     let checked = Checked::of(alloc, design, low, high)?;
-    push_lines(out, design, &checked)?;
-    Ok(())
+    let pushed = push_lines(out, design, &checked);
+    drop(checked);
+    Ok(pushed?)
 }

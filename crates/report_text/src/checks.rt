@@ -22,12 +22,10 @@ fn push_slack(out: &mut Vec<u8>, name: &[u8], hold: bool, slack: &Slack) -> Resu
     push_word(out, edge_word(slack.edge), b' ')?;
     push_word(out, check_word(hold), b' ')?;
     if slack.idle {
-        push_word(out, b"idle", b'\n')?;
-        return Ok(());
+        return push_word(out, b"idle", b'\n');
     }
     push_time(out, slack.greatest, b' ')?;
-    push_time(out, slack.least, b'\n')?;
-    Ok(())
+    push_time(out, slack.least, b'\n')
 }
 
 /// Appends the line of a check.

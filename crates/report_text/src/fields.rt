@@ -31,6 +31,5 @@ pub fn push_quad(out: &mut Vec<u8>, quad: &Quad, mark: u8) -> Result<(), AllocEr
     push_time(out, quad.tlo, b' ')?;
     push_time(out, quad.thi, b' ')?;
     push_time(out, quad.slo, b' ')?;
-    push_time(out, quad.shi, mark)?;
-    Ok(())
+    push_time(out, quad.shi, mark)
 }

@@ -49,8 +49,7 @@ fn push_line(out: &mut Vec<u8>, design: &Design, entry: &Guilt) -> Result<(), Al
     push_word(out, b"fast", b' ')?;
     push_word(out, mark_word(entry.fast), b' ')?;
     push_word(out, b"slow", b' ')?;
-    push_word(out, mark_word(entry.slow), b'\n')?;
-    Ok(())
+    push_word(out, mark_word(entry.slow), b'\n')
 }
 
 /// Appends the lines of entries.

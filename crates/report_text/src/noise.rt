@@ -23,8 +23,7 @@ fn push_line(out: &mut Vec<u8>, design: &Design, peak: &Peak) -> Result<(), Allo
     push_word(out, b"ppm", b' ')?;
     push_number(out, peak.ppm, b' ')?;
     push_word(out, b"at", b' ')?;
-    push_time(out, peak.moment, b'\n')?;
-    Ok(())
+    push_time(out, peak.moment, b'\n')
 }
 
 /// Appends the lines of peaks.

@@ -25,8 +25,7 @@ fn push_worst(out: &mut Vec<u8>, design: &Design, slack: &Slack) -> Result<(), A
     push_word(out, check_word(is_hold(point)), b' ')?;
     push_word(out, point_name(point), b' ')?;
     push_word(out, edge_word(slack.edge), b' ')?;
-    push_time(out, slack.greatest, b'\n')?;
-    Ok(())
+    push_time(out, slack.greatest, b'\n')
 }
 
 /// Appends the line on the source of a path.
@@ -38,8 +37,7 @@ fn push_source(out: &mut Vec<u8>, design: &Design, path: &Path) -> Result<(), Al
     push_word(out, b"from", b' ')?;
     push_word(out, source.name.bytes(), b' ')?;
     push_word(out, edge_word(path.edge), b' ')?;
-    push_time(out, path.time, b'\n')?;
-    Ok(())
+    push_time(out, path.time, b'\n')
 }
 
 /// Appends the line of a step.
@@ -54,8 +52,7 @@ fn push_step(out: &mut Vec<u8>, design: &Design, step: &PathStep) -> Result<(), 
     push_word(out, b"wire", b' ')?;
     push_time(out, step.wire, b' ')?;
     push_word(out, b"delay", b' ')?;
-    push_time(out, step.delay, b'\n')?;
-    Ok(())
+    push_time(out, step.delay, b'\n')
 }
 
 /// Appends the line of each step.
@@ -75,8 +72,7 @@ fn push_end(out: &mut Vec<u8>, wire: i64) -> Result<(), AllocError>
 {
     push_word(out, b"to", b' ')?;
     push_word(out, b"wire", b' ')?;
-    push_time(out, wire, b'\n')?;
-    Ok(())
+    push_time(out, wire, b'\n')
 }
 
 /// Appends the lines of a check and of the path of its data.
@@ -87,8 +83,7 @@ fn push_path(out: &mut Vec<u8>, design: &Design, worst: &WorstPath) -> Result<()
     push_worst(out, design, &worst.slack)?;
     push_source(out, design, &worst.path)?;
     push_steps(out, design, worst.path.steps.as_slice())?;
-    push_end(out, worst.wire)?;
-    Ok(())
+    push_end(out, worst.wire)
 }
 
 /// Appends the lines of the worst check of a kind and of the path of its data, and nothing where there is none.

@@ -21,8 +21,7 @@ fn push_head(out: &mut Vec<u8>, design: &Design) -> Result<(), AllocError>
     push_title(out)?;
     push_size(out, design, design.pairs(), design.levels())?;
     push_clock(out, design)?;
-    push_miller(out, &design.miller())?;
-    Ok(())
+    push_miller(out, &design.miller())
 }
 
 /// The report of a design and of its least and greatest windows, one pair a net, as text in lines, with the lines that

@@ -17,8 +17,7 @@ pub fn push_title(out: &mut Vec<u8>) -> Result<(), AllocError>
     ensures { OnOk result (out.new.items ≡ out.old.items ++ line_text title_line) }
 {
     push_word(out, b"xtalk", b' ')?;
-    push_word(out, b"1", b'\n')?;
-    Ok(())
+    push_word(out, b"1", b'\n')
 }
 
 /// How many entries the nets' coupling lists have.
@@ -52,8 +51,7 @@ pub fn push_size(
     push_word(out, b"levels", b' ')?;
     push_number(out, levels, b' ')?;
     push_word(out, b"bound", b' ')?;
-    push_number(out, design.bound(), b'\n')?;
-    Ok(())
+    push_number(out, design.bound(), b'\n')
 }
 
 /// Appends the line of the clock period.

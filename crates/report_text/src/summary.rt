@@ -24,8 +24,7 @@ fn push_title(out: &mut Vec<u8>) -> Result<(), AllocError>
 {
     push_word(out, b"xtalk", b' ')?;
     push_word(out, b"gen", b' ')?;
-    push_word(out, b"1", b'\n')?;
-    Ok(())
+    push_word(out, b"1", b'\n')
 }
 
 /// Appends the line of counts.
@@ -38,8 +37,7 @@ fn push_counts(out: &mut Vec<u8>, tally: &Tally) -> Result<(), AllocError>
     push_word(out, b"wider", b' ')?;
     push_number(out, tally.wider, b' ')?;
     push_word(out, b"guilty", b' ')?;
-    push_number(out, tally.guilty, b'\n')?;
-    Ok(())
+    push_number(out, tally.guilty, b'\n')
 }
 
 /// Appends a line of a word and a time, given in fs, in ps.
@@ -48,8 +46,7 @@ fn push_total(out: &mut Vec<u8>, word: &[u8], time: i128) -> Result<(), AllocErr
     ensures { OnOk result (out.new.items ≡ out.old.items ++ line_text (word.now ∷ thousandths time ∷ [])) }
 {
     push_word(out, word, b' ')?;
-    push_word(out, time_text(time).bytes(), b'\n')?;
-    Ok(())
+    push_word(out, time_text(time).bytes(), b'\n')
 }
 
 /// Appends all lines: `pairs` of coupled nets, and `levels`.
@@ -71,8 +68,7 @@ fn push_summary(
     push_counts(out, tally)?;
     push_total(out, b"least", tally.least)?;
     push_total(out, b"greatest", tally.greatest)?;
-    push_word(out, b"end", b'\n')?;
-    Ok(())
+    push_word(out, b"end", b'\n')
 }
 
 /// The summary of a design, by what is counted of its nets.

@@ -26,8 +26,7 @@ fn push_net(out: &mut Vec<u8>, net: &Net) -> Result<(), AllocError>
         return Ok(());
     }
     push_word(out, b"unconstrained", b' ')?;
-    push_word(out, net.name.bytes(), b'\n')?;
-    Ok(())
+    push_word(out, net.name.bytes(), b'\n')
 }
 
 /// Appends a line for each net that is unconstrained.

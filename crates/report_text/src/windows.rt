@@ -36,14 +36,12 @@ fn push_window(
     push_word(out, name, b' ')?;
     push_word(out, edge_word(edge), b' ')?;
     if !high.live() {
-        push_word(out, b"quiet", b'\n')?;
-        return Ok(());
+        return push_word(out, b"quiet", b'\n');
     }
     push_word(out, b"least", b' ')?;
     push_quad(out, low, b' ')?;
     push_word(out, b"greatest", b' ')?;
-    push_quad(out, high, b'\n')?;
-    Ok(())
+    push_quad(out, high, b'\n')
 }
 
 /// Appends the line of an edge of the net of this number.
@@ -79,8 +77,7 @@ fn push_net(
     ensures { OnOk result (out.new.items ≡ out.old.items ++ windows_text low.now high.now number net.now) }
 {
     push_edge(out, net, number, Edge::Rise, low, high)?;
-    push_edge(out, net, number, Edge::Fall, low, high)?;
-    Ok(())
+    push_edge(out, net, number, Edge::Fall, low, high)
 }
 
 /// Appends the two lines of each net.

@@ -5,4 +5,4 @@ use Rattle.report_text.proofs.checked.push_checked.Goals as goal
 pub returns : goal.returns
 returns c =
     let checked = c.in_ok-checked.checked in
-    (checked_lines c.args.design.now checked, (checked, c.in_ok-checked.ensures.is_checked, refl), c.in_ok-push_lines.ensures)
+    (checked_lines c.args.design.now checked, (checked, c.in_ok-checked.ensures.is_checked, refl), c.in_ok-pushed.ensures)

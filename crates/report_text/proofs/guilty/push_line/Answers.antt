@@ -6,6 +6,7 @@ use Rattle.xt_number.specs.Thousandths.{thousandths}
 use Rattle.report_text.specs.Report.{coupling_line}
 use Rattle.text_lines.proofs.Pieces.{field_then, field_last}
 use Rattle.report_text.proofs.Pieces.{name_is}
+use Rattle.std.proofs.lemmas.Result.{on_ok_weaker}
 use Rattle.report_text.proofs.guilty.push_line.Goals as goal
 
 pub returns : goal.returns
@@ -14,6 +15,7 @@ returns c =
     let g = c.args.entry.now in
     let k = c.coupling-coupling.result.now in
     let fits : SFits w64 k.cap = search rules in
+    on_ok_weaker c.push_word-8.result (λ last.
     field_then _ _ _ _ _ _ _ refl c.in_ok-push_word.ensures
     (field_then _ _ _ _ _ _ _ (name_is d.nets g.victim.0 _ _ c.net-victim.ensures.there c.bytes.ensures.value) c.in_ok-push_word-2.ensures
     (field_then _ _ _ _ _ _ _ c.edge_word.ensures c.in_ok-push_word-3.ensures
@@ -22,5 +24,5 @@ returns c =
     (field_then _ _ _ _ _ _ _ refl c.in_ok-push_word-5.ensures
     (field_then _ _ _ _ _ _ _ c.mark_word.ensures c.in_ok-push_word-6.ensures
     (field_then _ _ _ _ _ _ _ refl c.in_ok-push_word-7.ensures
-    (field_last _ _ _ _ _ c.mark_word-2.ensures c.in_ok-push_word-8.ensures))))))))
-    ∙ ap (λ place. c.args.out.now.items ++ line_text (coupling_line d g place)) (sym c.coupling-coupling.ensures.value)
+    (field_last _ _ _ _ _ c.mark_word-2.ensures last))))))))
+    ∙ ap (λ place. c.args.out.now.items ++ line_text (coupling_line d g place)) (sym c.coupling-coupling.ensures.value)) c.push_word-8.ensures

@@ -4,6 +4,7 @@ use mir.Val.{SFits}
 use Rattle.xt_number.specs.Thousandths.{thousandths}
 use Rattle.text_lines.proofs.Pieces.{field_then, field_last}
 use Rattle.report_text.proofs.Pieces.{name_is}
+use Rattle.std.proofs.lemmas.Result.{on_ok_weaker}
 use Rattle.report_text.proofs.paths.push_step.Goals as goal
 
 pub returns : goal.returns
@@ -12,10 +13,11 @@ returns c =
     let s = c.args.step.now in
     let wire : SFits w64 s.wire = search rules in
     let delay : SFits w64 s.delay = search rules in
+    on_ok_weaker c.push_time-2.result (λ last.
     field_then _ _ _ _ _ _ _ refl c.in_ok-push_word.ensures
     (field_then _ _ _ _ _ _ _ (name_is d.nets s.net.0 _ _ c.net-net.ensures.there c.bytes.ensures.value) c.in_ok-push_word-2.ensures
     (field_then _ _ _ _ _ _ _ c.edge_word.ensures c.in_ok-push_word-3.ensures
     (field_then _ _ _ _ _ _ _ refl c.in_ok-push_word-4.ensures
     (field_then _ _ _ _ _ _ _ (ap thousandths (to_z-of_z w64 s.wire wire)) c.in_ok-push_time.ensures
     (field_then _ _ _ _ _ _ _ refl c.in_ok-push_word-5.ensures
-    (field_last _ _ _ _ _ (ap thousandths (to_z-of_z w64 s.delay delay)) c.in_ok-push_time-2.ensures))))))
+    (field_last _ _ _ _ _ (ap thousandths (to_z-of_z w64 s.delay delay)) last))))))) c.push_time-2.ensures

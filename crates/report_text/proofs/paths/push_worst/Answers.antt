@@ -5,6 +5,7 @@ use Rattle.xt_number.specs.Thousandths.{thousandths}
 use Rattle.text_lines.specs.Words.{check_word}
 use Rattle.text_lines.proofs.Pieces.{field_then, field_last}
 use Rattle.report_text.proofs.CheckLines.{worst_line_is}
+use Rattle.std.proofs.lemmas.Result.{on_ok_weaker}
 use Rattle.report_text.proofs.paths.push_worst.Goals as goal
 
 pub returns : goal.returns
@@ -12,9 +13,10 @@ returns c =
     let d = c.args.design.now in
     let s = c.args.slack.now in
     let greatest : SFits w64 s.greatest = search rules in
+    on_ok_weaker c.push_time.result (λ last.
     field_then _ _ _ _ _ _ _ refl c.in_ok-push_word.ensures
     (field_then _ _ _ _ _ _ _ (c.check_word.ensures ∙ ap check_word c.is_hold.ensures) c.in_ok-push_word-2.ensures
     (field_then _ _ _ _ _ _ _ c.point_name.ensures c.in_ok-push_word-3.ensures
     (field_then _ _ _ _ _ _ _ c.edge_word.ensures c.in_ok-push_word-4.ensures
-    (field_last _ _ _ _ _ (ap thousandths (to_z-of_z w64 s.greatest greatest)) c.in_ok-push_time.ensures))))
-    ∙ ap (λ text. c.args.out.now.items ++ text) (sym (worst_line_is d s _ c.point_of-point.ensures.there))
+    (field_last _ _ _ _ _ (ap thousandths (to_z-of_z w64 s.greatest greatest)) last))))
+    ∙ ap (λ text. c.args.out.now.items ++ text) (sym (worst_line_is d s _ c.point_of-point.ensures.there))) c.push_time.ensures
