@@ -2,4 +2,5 @@ mod Taken
 mod Parts
 mod Carried
 mod Looked
+mod Marked
 mod Turned

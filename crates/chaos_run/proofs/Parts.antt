@@ -1,5 +1,5 @@
 -- The parts of a round, joined: passes that were sent out, that workers ran by, and that come back.
-use Rattle.std.proofs.Common.{◌≡◌, ℕ, ◌<◌, sym, ap, subst, ◌∙◌, List, [], ◌∷◌, ◌++◌, length, get_or, vec_capacity, arith}
+use Rattle.std.proofs.Common.{◌≡◌, ℕ, ◌<◌, refl, sym, ap, subst, ◌∙◌, List, [], ◌∷◌, ◌++◌, length, get_or, vec_capacity, arith}
 use Rattle.std.specs.List.{All, AllZip}
 use Rattle.std.proofs.lemmas.List.Elements.{All-push, AllZip-get_or}
 use Rattle.std.proofs.lemmas.Slice.Zip.{AllZip-long}
@@ -82,3 +82,8 @@ roomy_back lists v w worker x pushed popped idle seated room roomy =
       passes = omega (arith, a, b, seated, passes);
       rooms = subst (All (HasRoom lists)) (sym pushed) (All-push (HasRoom lists) v.idle.items worker roomy.rooms room);
     }
+
+-- ---- where none is left
+pub no_items : {A : Type 0} (xs : List A) → length xs ≡ 0 → xs ≡ []
+no_items [] e = refl
+no_items (x ∷ xs) e = absurd (omega (arith, e))

@@ -2,7 +2,7 @@ use Rattle.std.proofs.Common.{rules, w64, ◌∙◌, subst, sym}
 use Rattle.std.proofs.lemmas.Int.{to_z-of_z}
 use mir.Val.{SFits}
 use Rattle.xt_model.specs.Quads.{IsBound}
-use Rattle.window_words.proofs.Holding.{rested}
+use Rattle.window_words.proofs.Holding.{loads_same, rested}
 use Rattle.chaos_run.proofs.Looked.{number_low, bound_found, bound_ranges}
 use Rattle.chaos_run.proofs.look.load_bound.Goals as goal
 
@@ -22,3 +22,15 @@ returns-clause-range c =
 
 pub returns-clause-rested : goal.returns-clause-rested
 returns-clause-rested c = rested c.args.first.now.view c.load.new.pass.view c.args.word c.load.result c.requires.alone c.load.ensures.loaded
+
+pub load-requires-clause-own : goal.load-requires-clause-own
+load-requires-clause-own c = c.requires.own
+
+pub load-requires-clause-word : goal.load-requires-clause-word
+load-requires-clause-word c = c.requires.word
+
+pub returns-clause-own : goal.returns-clause-own
+returns-clause-own c = c.load.ensures.own
+
+pub returns-clause-view : goal.returns-clause-view
+returns-clause-view c = loads_same c.args.first.now.view c.load.new.pass.view c.args.word c.load.result c.requires.alone c.load.ensures.loaded

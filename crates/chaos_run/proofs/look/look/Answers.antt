@@ -1,10 +1,11 @@
-use Rattle.std.proofs.Common.{refl, subst, ◌∙◌, arith}
+use Rattle.std.proofs.Common.{refl, subst, ◌∙◌, arith, ◌<◌, sym, ap, length}
 use Rattle.net_eval.proofs.Steady.{steady_all}
 use Rattle.chaos_core.specs.declared.setting.Setting.{Setting}
 use Rattle.chaos_core.specs.Memories.{AreKept}
 use Rattle.chaos_core.proofs.Starting.{kept_fits}
 use Rattle.chaos_core.proofs.Settling.{closed_from, steady_from, fits_under}
 use Rattle.window_words.specs.declared.view.View.{View}
+use Rattle.xt_model.specs.Parts.{Parts}
 use Rattle.chaos_run.proofs.look.look.Goals as goal
 
 pub closed_from_ends-requires-clause-within : goal.closed_from_ends-requires-clause-within
@@ -46,3 +47,39 @@ returns-clause-closed g c =
 
 pub returns-clause-unmoved : goal.returns-clause-unmoved
 returns-clause-unmoved g c = let u = c.load_all.ensures.unmoved.count in let b = c.requires.before in let n = c.requires.unmoved in omega (arith, u, b, n)
+
+pub load_all-requires-clause-own : goal.load_all-requires-clause-own
+load_all-requires-clause-own g c = c.requires.own
+
+pub load_all-requires-clause-alone : goal.load_all-requires-clause-alone
+load_all-requires-clause-alone g c = c.requires.alone
+
+pub closed_from_ends-requires-clause-groups : goal.closed_from_ends-requires-clause-groups
+closed_from_ends-requires-clause-groups g c = λ _ _. c.requires.groups
+
+pub closed_from_ends-requires-clause-few : goal.closed_from_ends-requires-clause-few
+closed_from_ends-requires-clause-few g c = λ _ _. c.requires.few
+
+pub returns-clause-own : goal.returns-clause-own
+returns-clause-own g c = c.load_all.ensures.own
+
+pub returns-clause-view : goal.returns-clause-view
+returns-clause-view g c = c.load_all.ensures.view
+
+pub returns-clause-numbers : goal.returns-clause-numbers
+returns-clause-numbers g c = c.load_all.ensures.numbers
+
+pub returns-clause-look : goal.returns-clause-look
+returns-clause-look g c = c.closed_from_ends.ensures.look
+
+pub returns-clause-rested : goal.returns-clause-rested
+returns-clause-rested g c = λ some. c.load_all.ensures.rested (subst (λ (x : Parts). 0 < length x.nets) (sym (ap (λ (x : Setting). x.design) c.requires.own.setting ∙ c.requires.design)) some)
+
+pub load_all-requires-clause-count : goal.load_all-requires-clause-count
+load_all-requires-clause-count g c = c.requires.count ∙ sym (ap (λ (x : Setting). length x.design.nets) c.requires.own.setting ∙ ap (λ (x : Parts). length x.nets) c.requires.design)
+
+pub load_all-requires-clause-before : goal.load_all-requires-clause-before
+load_all-requires-clause-before g c = c.requires.before ∙ sym c.requires.count
+
+pub load_all-requires-clause-unmoved : goal.load_all-requires-clause-unmoved
+load_all-requires-clause-unmoved g c = c.requires.unmoved ∙ sym c.requires.count

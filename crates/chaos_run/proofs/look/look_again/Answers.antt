@@ -105,3 +105,36 @@ returns-clause-unmoved g c =
     let k = c.mark_decided.ensures.unmoved in
     let n = c.requires.unmoved in
     omega (arith, a, m, u, k, n)
+
+pub load_all-requires-clause-own : goal.load_all-requires-clause-own
+load_all-requires-clause-own g c = c.requires.own
+
+pub load_all-requires-clause-alone : goal.load_all-requires-clause-alone
+load_all-requires-clause-alone g c = c.requires.alone
+
+pub closed_from_ends-requires-clause-groups : goal.closed_from_ends-requires-clause-groups
+closed_from_ends-requires-clause-groups g c = λ _ _. c.requires.groups
+
+pub closed_from_ends-requires-clause-few : goal.closed_from_ends-requires-clause-few
+closed_from_ends-requires-clause-few g c = λ _ _. c.requires.few
+
+pub returns-clause-own : goal.returns-clause-own
+returns-clause-own g c = c.load_all.ensures.own
+
+pub returns-clause-view : goal.returns-clause-view
+returns-clause-view g c = c.load_all.ensures.view
+
+pub returns-clause-numbers : goal.returns-clause-numbers
+returns-clause-numbers g c = c.load_all.ensures.numbers
+
+pub returns-clause-look : goal.returns-clause-look
+returns-clause-look g c = c.closed_from_ends.ensures.look
+
+pub returns-clause-rested : goal.returns-clause-rested
+returns-clause-rested g c = λ some. c.load_all.ensures.rested (subst (λ (x : Parts). 0 < length x.nets) (sym (ap (λ (x : Setting). x.design) c.requires.own.setting ∙ c.requires.design)) some)
+
+pub mark_decided-requires-clause-unmoved : goal.mark_decided-requires-clause-unmoved
+mark_decided-requires-clause-unmoved g c = λ _ _. c.load_all.ensures.unmoved
+
+pub mark_decided-requires-clause-marks : goal.mark_decided-requires-clause-marks
+mark_decided-requires-clause-marks g c = λ _ _. c.requires.marks

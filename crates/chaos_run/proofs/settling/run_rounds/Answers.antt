@@ -1,4 +1,4 @@
-use Rattle.std.proofs.Common.{◌↔◌, ◌+◌, sym, ap, subst, ◌∙◌, length, List, ℕ, arith}
+use Rattle.std.proofs.Common.{◌↔◌, refl, ◌+◌, sym, ap, subst, ◌∙◌, length, List, ℕ, arith}
 use Rattle.std.specs.Prelude.{IsTrue}
 use Rattle.std.proofs.lemmas.Bool.{both_ways}
 use Rattle.xt_model.specs.declared.direction.Direction.{Direction}
@@ -104,3 +104,127 @@ returns-clause-few g c = λ bound b.
 
 pub returns-clause-turns : goal.returns-clause-turns
 returns-clause-turns g c = c.rounds.invariant.steps
+
+pub overflow_cast-shares : goal.overflow_cast-shares
+overflow_cast-shares g c = let same = ap length c.as_slice.ensures.value in let few = c.requires.few in omega (arith, same, few)
+
+pub look-done-requires-clause-own : goal.look-done-requires-clause-own
+look-done-requires-clause-own g c = λ _ _. c.requires.own
+
+pub look-done-requires-clause-alone : goal.look-done-requires-clause-alone
+look-done-requires-clause-alone g c = λ _ _. c.requires.alone
+
+pub look-done-requires-clause-design : goal.look-done-requires-clause-design
+look-done-requires-clause-design g c = λ _ _. c.requires.run.design
+
+pub look-done-requires-clause-groups : goal.look-done-requires-clause-groups
+look-done-requires-clause-groups g c = λ _ _. c.requires.groups
+
+pub look-done-requires-clause-count : goal.look-done-requires-clause-count
+look-done-requires-clause-count g c = λ _ _. c.requires.count
+
+pub look-done-requires-clause-before : goal.look-done-requires-clause-before
+look-done-requires-clause-before g c = λ _ _. c.requires.before
+
+pub look-done-requires-clause-unmoved : goal.look-done-requires-clause-unmoved
+look-done-requires-clause-unmoved g c = λ _ _. c.requires.unmoved
+
+pub look-done-requires-clause-marks : goal.look-done-requires-clause-marks
+look-done-requires-clause-marks g c = λ _ _. c.requires.marks
+
+pub look-done-requires-clause-few : goal.look-done-requires-clause-few
+look-done-requires-clause-few g c = λ _ _. let same = ap length c.as_slice.ensures.value in let few = c.requires.few in omega (arith, same, few)
+
+pub overflow_add-rounds : goal.overflow_add-rounds
+overflow_add-rounds g c = let below = c.if-prove.false in let fits = c.bound.type_inv in omega (arith, below, fits)
+
+pub round-requires-clause-groups : goal.round-requires-clause-groups
+round-requires-clause-groups g c = λ _ _. c.requires.groups
+
+pub round-requires-clause-run : goal.round-requires-clause-run
+round-requires-clause-run g c = λ _ _. c.requires.run
+
+pub round-requires-clause-own : goal.round-requires-clause-own
+round-requires-clause-own g c = λ _ _. c.rounds.invariant.own
+
+pub round-requires-clause-alone : goal.round-requires-clause-alone
+round-requires-clause-alone g c = λ _ _. c.rounds.invariant.alone
+
+pub round-requires-clause-look : goal.round-requires-clause-look
+round-requires-clause-look g c = λ _ _. c.rounds.invariant.look
+
+pub round-requires-clause-idle : goal.round-requires-clause-idle
+round-requires-clause-idle g c = λ _ _. c.rounds.invariant.idle
+
+pub round-requires-clause-some : goal.round-requires-clause-some
+round-requires-clause-some g c = λ _ _. let same = c.rounds.invariant.count in let some = c.requires.some in omega (arith, same, some)
+
+pub round-requires-clause-few : goal.round-requires-clause-few
+round-requires-clause-few g c = λ _ _. let same = c.rounds.invariant.count in let few = c.requires.few in omega (arith, same, few)
+
+pub look_again-done-requires-clause-own : goal.look_again-done-requires-clause-own
+look_again-done-requires-clause-own g c = λ _ _. c.round.ensures.own
+
+pub look_again-done-requires-clause-alone : goal.look_again-done-requires-clause-alone
+look_again-done-requires-clause-alone g c = λ _ _. c.round.ensures.alone
+
+pub look_again-done-requires-clause-design : goal.look_again-done-requires-clause-design
+look_again-done-requires-clause-design g c = λ _ _. c.requires.run.design
+
+pub look_again-done-requires-clause-groups : goal.look_again-done-requires-clause-groups
+look_again-done-requires-clause-groups g c = λ _ _. c.requires.groups
+
+pub look_again-done-requires-clause-before : goal.look_again-done-requires-clause-before
+look_again-done-requires-clause-before g c = λ _ _. c.rounds.invariant.before
+
+pub look_again-done-requires-clause-unmoved : goal.look_again-done-requires-clause-unmoved
+look_again-done-requires-clause-unmoved g c = λ _ _. c.rounds.invariant.unmoved
+
+pub look_again-done-requires-clause-marks : goal.look_again-done-requires-clause-marks
+look_again-done-requires-clause-marks g c = λ _ _. c.rounds.invariant.look.count
+
+pub look_again-done-requires-clause-few : goal.look_again-done-requires-clause-few
+look_again-done-requires-clause-few g c = λ _ _. let same = ap length c.as_slice.ensures.value in let few = c.requires.few in omega (arith, same, few)
+
+pub rounds-init : goal.rounds-init
+rounds-init g c =
+    let a = c.args.run.now.board.now.setting in
+    let d = c.args.run.now.design.now in
+    let look = c.look-done.ensures in
+    let begin = c.args.first.now.view in
+    let same = ap (λ (v : View). v.seen) look.view in
+    let published = ap (λ (v : View). v.made) look.view in
+    record {
+      own = look.own;
+      alone = subst IsAlone (sym look.view) c.requires.alone;
+      idle = c.requires.idle;
+      count = refl;
+      fits = subst (λ (x : Direction). IsFittingStart x d c.look-done.new.windows) c.requires.run.way look.fits;
+      numbers = look.numbers ∙ sym same;
+      look = look.look;
+      before = c.requires.before;
+      unmoved = look.unmoved ∙ c.requires.unmoved;
+      kept = subst (AreKept a) (sym same) look.kept;
+      closed = subst (λ (ws : List ℕ). IsTrue c.look-done.result ↔ AreClosed d ws) (sym same) look.closed;
+      steps = same;
+      split = λ some. absurd (omega (arith, some));
+      made = omega (arith, published);
+    }
+
+pub returns-clause-own : goal.returns-clause-own
+returns-clause-own g c = c.rounds.invariant.own
+
+pub returns-clause-alone : goal.returns-clause-alone
+returns-clause-alone g c = c.rounds.invariant.alone
+
+pub returns-clause-fits : goal.returns-clause-fits
+returns-clause-fits g c = c.rounds.invariant.fits
+
+pub returns-clause-seen : goal.returns-clause-seen
+returns-clause-seen g c = sym c.rounds.invariant.numbers
+
+pub returns-clause-split : goal.returns-clause-split
+returns-clause-split g c = c.rounds.invariant.split
+
+pub returns-clause-made : goal.returns-clause-made
+returns-clause-made g c = c.rounds.invariant.made
