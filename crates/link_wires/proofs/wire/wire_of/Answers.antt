@@ -1,6 +1,8 @@
-use Rattle.std.proofs.Common.{◌≡◌, ◌∙◌, sym, ap, subst}
-use Rattle.std.specs.Prelude.{is_some, option_map}
+use Rattle.std.proofs.Common.{◌≡◌, ◌∙◌, ◌∷◌, [], Result, Ok, Err, sym, ap, subst}
+use Rattle.std.specs.Prelude.{is_some, option_map, OnOk}
 use Rattle.std.proofs.lemmas.Result.{IfOk-weaker, IfErr-weaker}
+use Rattle.xt_model.specs.Names.{IsName}
+use Rattle.spef_read.specs.declared.parasitics.Parasitics.{Parasitics}
 use Rattle.link_rules.specs.Wires.{names_on, end_nodes, listed, wire_in, wire_of}
 use Rattle.link_wires.specs.Seen.{wire_by}
 use Rattle.link_wires.specs.Wires.{HasNames, HasQuantities, IsNumbered}
@@ -9,6 +11,11 @@ use Rattle.link_wires.proofs.PlaceLaws.{entered}
 use Rattle.link_wires.proofs.SoundLaws.{wire_named, wire_valued}
 use Rattle.link_wires.proofs.NetLaws.{listed_sound, wire_is, nodes_are, net_numbered, is_wire, is_fault}
 use Rattle.link_wires.proofs.wire.wire_of.Goals as goal
+
+-- what holds whatever the result is
+always : {A E : Type 0} (r : Result A E) (X : Type 0) → X → OnOk r X
+always (Ok a) X x = x
+always (Err e) X x = tt
 
 pub take_nodes-requires : goal.take_nodes-requires
 take_nodes-requires c =
@@ -105,3 +112,15 @@ returns-clause-fault c =
     let ns = list ∙ (ap (λ x. entered (end_nodes p.delimiter pins) (names_on x)) (sym (wire_is n p net pins)) ∙ sym (nodes_are p.delimiter pins (wire_of n p net pins))) in
     let here = c.is_some.ensures ∙ (sym (some_mapped (λ t. t.now) c.listed-listed.result) ∙ ap is_some c.listed-listed.ensures) in
     IfErr-weaker c.wire_within.result _ _ (is_fault n p net pins (wire_by nodes.parasitics parts) nodes.list c.is_some.result of_w ns here) c.wire_within.ensures.fault
+
+pub end_nodes-requires : goal.end_nodes-requires
+end_nodes-requires c = subst (λ (p : Parasitics). IsName (p.delimiter ∷ [])) (sym c.parasitics.ensures) c.requires.parasitics.delimiter
+
+pub wire_within-requires-clause-sinks : goal.wire_within-requires-clause-sinks
+wire_within-requires-clause-sinks c = c.requires.sinks
+
+pub returns-clause-nets : goal.returns-clause-nets
+returns-clause-nets c = always c.wire_within.result _ (c.in_ok-parts.ensures.same ∙ c.requires.nets)
+
+pub returns-clause-nodes : goal.returns-clause-nodes
+returns-clause-nodes c = always c.wire_within.result _ (c.in_ok-take_nodes.ensures.same ∙ c.requires.nodes)

@@ -9,3 +9,15 @@ pub check_tree-requires : goal.check_tree-requires
 check_tree-requires c = λ fault cause.
     let h = c.in_ok-tree.ensures.ok in
     fault_there c.args.nodes.now.list c.args.pins.now.sinks (wire_by c.args.nodes.now.parasitics c.args.parts.now) (subst IsSoundTree h.tree h.sound) fault (subst (λ t. IsFaultOf t fault) h.tree cause)
+
+pub tree_within-requires-clause-numbered : goal.tree_within-requires-clause-numbered
+tree_within-requires-clause-numbered c = c.requires.numbered
+
+pub tree_within-requires-clause-sinks : goal.tree_within-requires-clause-sinks
+tree_within-requires-clause-sinks c = c.requires.sinks
+
+pub tree_within-requires-clause-unlisted : goal.tree_within-requires-clause-unlisted
+tree_within-requires-clause-unlisted c = c.requires.unlisted
+
+pub tree_within-requires-clause-wire : goal.tree_within-requires-clause-wire
+tree_within-requires-clause-wire c = c.requires.wire
