@@ -9,8 +9,8 @@ use Rattle.xt_model.specs.declared.net.NetId.{NetId}
 use Rattle.xt_model.specs.Limits.{most_workers}
 use Rattle.xt_model.specs.Parts.{Parts}
 use Rattle.dirty_words.specs.declared.view.DirtyView.{DirtyView}
-use Rattle.dirty_words.specs.Views.{pass_sent, with_pass_out}
-use Rattle.dirty_words.specs.Boards.{DirtyId, DirtyHolding, IsFirst, IsFree}
+use Rattle.dirty_words.specs.Views.{pass_sent, run_of, with_pass_out}
+use Rattle.dirty_words.specs.Boards.{DirtyId, DirtyHolding, IsFirst, IsFree, IsOf}
 use Rattle.dirty_run.specs.declared.notes.Before.{Before}
 use Rattle.dirty_run.specs.declared.worker.Worker.{Worker}
 use Rattle.dirty_run.specs.declared.worker.SeatedWorker.{SeatedWorker}
@@ -18,7 +18,7 @@ use Rattle.dirty_run.specs.declared.worker.Workers.{Workers}
 use Rattle.dirty_run.specs.Notes.{AreNotes}
 use Rattle.dirty_run.specs.Visits.{HasRoom}
 use Rattle.dirty_run.specs.Turns.{with_out, HasRun}
-use Rattle.dirty_run.specs.Rounds.{AreRoomy, IsSent, HasWorked, IsBack}
+use Rattle.dirty_run.specs.Rounds.{AreRoomy, IsReady, IsSent, HasWorked, IsBack}
 
 -- ---- passes sent out
 -- from v to w, this many passes were split off: nothing moved yet, or all of these are out
@@ -123,3 +123,21 @@ roomy_back d lists v w worker x before pushed popped idle seated room roomy =
       before = subst (λ (b : Before). All (AreNotes d lists) b.notes.items) (sym before) roomy.before;
       count = omega (arith, a, b, same, count);
     }
+
+-- ---- passes that were just sent out
+pub all_ready : (board : DirtyId) (d : Parts) (lists : List (List NetId)) (first : DirtyHolding) (xs : List SeatedWorker) → IsOf board first → All (IsSent d lists first) xs → All (IsReady board d lists) xs
+all_ready board d lists first xs own sent k e h =
+    let s = sent k e h in
+    record {
+      own = record { table = s.table ∙ own.table; run = ap run_of s.view ∙ own.run };
+      other = ap (λ (v : DirtyView). v.base.role) s.view;
+      fresh = ap (λ (v : DirtyView). v.base.drawn) s.view;
+      none = ap (λ (v : DirtyView). v.taken) s.view;
+      free = record { flight = ap (λ (v : DirtyView). v.flight) s.view; owed = ap (λ (v : DirtyView). v.owed) s.view };
+      room = s.room;
+    }
+
+-- ---- where none is left
+pub no_items : {A : Type 0} (xs : List A) → length xs ≡ 0 → xs ≡ []
+no_items [] e = refl
+no_items (x ∷ xs) e = absurd (omega (arith, e))

@@ -1,4 +1,4 @@
-use Rattle.std.proofs.Common.{rules, refl, ◌≡◌, ◌+◌, ◌∷◌, [], sym, ap, subst, ◌∙◌, length, length-append, arith}
+use Rattle.std.proofs.Common.{refl, ◌≡◌, ◌+◌, ◌∷◌, [], sym, ap, subst, ◌∙◌, length, length-append, arith}
 use Rattle.std.proofs.lemmas.List.Elements.{All-push, All-pop}
 use Rattle.std.specs.List.{All}
 use Rattle.std.specs.Prelude.{Some}
@@ -69,7 +69,7 @@ pub returns-clause-view : goal.returns-clause-view
 returns-clause-view g c =
     let v = c.args.first.now.view in
     let inv = c.passes.invariant in
-    let none : length c.passes.workers.idle.items ≡ 0 = search rules in
+    let none : length c.passes.workers.idle.items ≡ 0 = sym c.passes.workers.idle.ok.0 ∙ c.in_default.ensures.cases.0 in
     let count = inv.count in
     let some = c.requires.some in
     let all : length c.passes.workers.seated.items ≡ length c.args.workers.now.idle.items = omega (arith, none, count) in

@@ -124,3 +124,75 @@ returns-clause-few g c = λ bound b.
     let own : v.base.setting ≡ a = ap (λ (r : Run). r.setting) c.requires.own.run in
     let begun = subst (λ (x : Setting). AreKept x v.base.seen) own c.look-any.ensures.kept in
     turns_few a c.args.run.now.design.now c.rounds.rounds bound v.base.seen c.rounds.first.view.base.seen c.requires.run.design begun c.rounds.invariant.turns b
+
+pub look-any-requires-clause-own : goal.look-any-requires-clause-own
+look-any-requires-clause-own g c = c.requires.own
+
+pub look-any-requires-clause-alone : goal.look-any-requires-clause-alone
+look-any-requires-clause-alone g c = c.requires.alone
+
+pub look-any-requires-clause-free : goal.look-any-requires-clause-free
+look-any-requires-clause-free g c = c.requires.free
+
+pub look-any-requires-clause-count : goal.look-any-requires-clause-count
+look-any-requires-clause-count g c = ap length c.nets.ensures.value ∙ sym (ap (λ (r : Run). nets_of r.setting) c.requires.own.run ∙ ap (λ (x : Parts). length x.nets) c.requires.run.design)
+
+pub look-any-requires-in-rounds-clause-own : goal.look-any-requires-in-rounds-clause-own
+look-any-requires-in-rounds-clause-own g c = c.round.ensures.own
+
+pub look-any-requires-in-rounds-clause-alone : goal.look-any-requires-in-rounds-clause-alone
+look-any-requires-in-rounds-clause-alone g c = c.round.ensures.alone
+
+pub look-any-requires-in-rounds-clause-free : goal.look-any-requires-in-rounds-clause-free
+look-any-requires-in-rounds-clause-free g c = c.round.ensures.free
+
+pub look-any-requires-in-rounds-clause-count : goal.look-any-requires-in-rounds-clause-count
+look-any-requires-in-rounds-clause-count g c = ap length c.nets.ensures.value ∙ sym (ap (λ (r : Run). nets_of r.setting) c.round.ensures.own.run ∙ ap (λ (x : Parts). length x.nets) c.requires.run.design)
+
+pub overflow_add-rounds : goal.overflow_add-rounds
+overflow_add-rounds g c = let below = c.if-prove.false in let far = c.bound-bound.ensures.below in omega (arith, below, far)
+
+pub round-requires-clause-run : goal.round-requires-clause-run
+round-requires-clause-run g c = λ _ _. c.requires.run
+
+pub round-requires-clause-own : goal.round-requires-clause-own
+round-requires-clause-own g c = λ _ _. c.rounds.invariant.own
+
+pub round-requires-clause-alone : goal.round-requires-clause-alone
+round-requires-clause-alone g c = λ _ _. c.rounds.invariant.alone
+
+pub round-requires-clause-free : goal.round-requires-clause-free
+round-requires-clause-free g c = λ _ _. c.rounds.invariant.free
+
+pub round-requires-clause-idle : goal.round-requires-clause-idle
+round-requires-clause-idle g c = λ _ _. c.rounds.invariant.idle
+
+pub round-requires-clause-some : goal.round-requires-clause-some
+round-requires-clause-some g c = λ _ _. let same = c.rounds.invariant.count in let some = c.requires.some in omega (arith, same, some)
+
+pub round-requires-clause-few : goal.round-requires-clause-few
+round-requires-clause-few g c = λ _ _. let same = c.rounds.invariant.count in let few = c.requires.few in omega (arith, same, few)
+
+pub returns-clause-own : goal.returns-clause-own
+returns-clause-own g c = c.rounds.invariant.own
+
+pub returns-clause-alone : goal.returns-clause-alone
+returns-clause-alone g c = c.rounds.invariant.alone
+
+pub returns-clause-free : goal.returns-clause-free
+returns-clause-free g c = c.rounds.invariant.free
+
+pub returns-clause-kept : goal.returns-clause-kept
+returns-clause-kept g c = c.rounds.invariant.kept
+
+pub returns-clause-closed : goal.returns-clause-closed
+returns-clause-closed g c = c.rounds.invariant.closed c.rounds-test.false
+
+pub returns-clause-split : goal.returns-clause-split
+returns-clause-split g c = c.rounds.invariant.split
+
+pub returns-clause-made : goal.returns-clause-made
+returns-clause-made g c = c.rounds.invariant.made
+
+pub returns-clause-turns : goal.returns-clause-turns
+returns-clause-turns g c = c.rounds.invariant.turns

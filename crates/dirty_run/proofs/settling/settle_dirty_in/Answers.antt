@@ -11,6 +11,7 @@ use Rattle.dirty_words.specs.declared.view.DirtyView.{DirtyView}
 use Rattle.dirty_run.specs.Rounds.{AreMarkedTurns}
 use Rattle.dirty_run.proofs.OneList.{one_list}
 use Rattle.dirty_run.proofs.Ended.{range_found, ends_extreme, ends_fit}
+use Rattle.dirty_words.specs.Boards.{IsAlone, IsFree}
 use Rattle.dirty_run.proofs.settling.settle_dirty_in.Goals as goal
 
 pub run_rounds-rounds-requires-clause-run : goal.run_rounds-rounds-requires-clause-run
@@ -78,3 +79,45 @@ returns-clause-consistent g c = λ narrow xs are.
     let within = fits.within in
     let o = c.requires.lists.ordered.1 in
     within_greatest d o.0 within.top v xs c.requires.lists.sound o.1 within.envelope (subst (λ (way : Direction). IsExtremeFixpoint way d v) narrow extreme) are
+
+pub run_rounds-rounds-requires-clause-own : goal.run_rounds-rounds-requires-clause-own
+run_rounds-rounds-requires-clause-own g c = λ _ _. c.requires.own
+
+pub run_rounds-rounds-requires-clause-alone : goal.run_rounds-rounds-requires-clause-alone
+run_rounds-rounds-requires-clause-alone g c = λ _ _. c.requires.alone
+
+pub run_rounds-rounds-requires-clause-free : goal.run_rounds-rounds-requires-clause-free
+run_rounds-rounds-requires-clause-free g c = λ _ _. c.requires.free
+
+pub run_rounds-rounds-requires-clause-idle : goal.run_rounds-rounds-requires-clause-idle
+run_rounds-rounds-requires-clause-idle g c = λ _ _. c.requires.room.idle
+
+pub run_rounds-rounds-requires-clause-some : goal.run_rounds-rounds-requires-clause-some
+run_rounds-rounds-requires-clause-some g c = λ _ _. c.requires.some
+
+pub run_rounds-rounds-requires-clause-few : goal.run_rounds-rounds-requires-clause-few
+run_rounds-rounds-requires-clause-few g c = λ _ _. c.requires.few
+
+pub load_words-requires-clause-own : goal.load_words-requires-clause-own
+load_words-requires-clause-own g c = c.run_rounds-rounds.ensures.own
+
+pub load_words-requires-clause-alone : goal.load_words-requires-clause-alone
+load_words-requires-clause-alone g c = c.run_rounds-rounds.ensures.alone
+
+pub returns-clause-own : goal.returns-clause-own
+returns-clause-own g c = c.load_words.ensures.own
+
+pub returns-clause-alone : goal.returns-clause-alone
+returns-clause-alone g c = subst IsAlone (sym c.load_words.ensures.view) c.run_rounds-rounds.ensures.alone
+
+pub returns-clause-free : goal.returns-clause-free
+returns-clause-free g c = subst IsFree (sym c.load_words.ensures.view) c.run_rounds-rounds.ensures.free
+
+pub returns-clause-few : goal.returns-clause-few
+returns-clause-few g c = c.run_rounds-rounds.ensures.few
+
+pub returns-clause-split : goal.returns-clause-split
+returns-clause-split g c = λ some. ap (λ (v : DirtyView). v.base.split) c.load_words.ensures.view ∙ c.run_rounds-rounds.ensures.split some
+
+pub returns-clause-made : goal.returns-clause-made
+returns-clause-made g c = let made = ap (λ (v : DirtyView). v.base.made) c.load_words.ensures.view in let most = c.run_rounds-rounds.ensures.made in omega (arith, made, most)
