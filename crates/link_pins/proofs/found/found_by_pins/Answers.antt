@@ -1,6 +1,7 @@
 use Rattle.std.proofs.Common.{◌≡◌, ◌++◌, ◌∷◌, [], ◌∙◌, Vec, Global, ℕ, cond, is_some, get_or, sym, ap}
-use Rattle.std.proofs.lemmas.List.{append-nil}
+use Rattle.std.proofs.lemmas.List.{append-nil, take_all}
 use Rattle.link_pins.specs.Places.{is_sink}
+use Rattle.link_pins.specs.Related.{places_of}
 use Rattle.link_pins.proofs.FoundLaws.{place_next}
 use Rattle.link_pins.proofs.found.found_by_pins.Goals as goal
 use Rattle.link_pins.proofs.found.found_by_pins.Goals.{then-is_some+in_ok-push, else-is_some}
@@ -20,3 +21,9 @@ loop-at-preserved c =
           ∙ (sym (append-nil cur) ∙ ap (λ b. cur ++ cond b (c.loop-at.at ∷ []) []) (sym (sym test ∙ (sym c.is_some.ensures ∙ w.if-is_some.false))))
     ] in
     place_next (is_sink at) c.args.pins.now c.loop-at.at 0 cur c.if-is_some.found.items c.loop-at-test.true c.loop-at.invariant step
+
+pub bounds-pins-at : goal.bounds-pins-at
+bounds-pins-at c = c.loop-at-test.true
+
+pub returns : goal.returns
+returns c = c.loop-at.invariant ∙ ap (places_of (is_sink c.args.places.now.at.items) 0) (take_all c.loop-at.at c.args.pins.now c.loop-at-test.false)

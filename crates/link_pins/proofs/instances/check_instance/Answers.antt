@@ -1,6 +1,8 @@
-use Rattle.std.proofs.Common.{◌∙◌, ℕ, List, sym}
+use Rattle.std.proofs.Common.{◌∙◌, ℕ, List, sym, ap, subst}
+use Rattle.std.specs.List.{All}
 use Rattle.std.proofs.lemmas.Result.{err_from_is_err_and}
 use Rattle.verilog_net.specs.declared.netlist.Wire.{Wire}
+use Rattle.link_rules.specs.Refusals.{pin_fault}
 use Rattle.text_forms.specs.Names.{IsShortName}
 use Rattle.link_pins.proofs.FaultLaws.{found_as, error_tests, cell_is_missing, cell_is_odd, pins_decide, first_name, others, pin_turn, pin_found, no_pins}
 use Rattle.link_pins.proofs.PinLaws.{some_and}
@@ -50,3 +52,15 @@ returns c =
     (sym odd.2 ∙ c.if-is_odd.false)
     ∙ sym (c.pins.invariant.same odd.0 odd.1)
     ∙ no_pins odd.0 c.args.instance.now.name c.pins.rest.now c.in_default-rest.len_below
+
+pub pins-init : goal.pins-init
+pins-init c = record {
+  same = λ x there. ap (pin_fault x c.args.instance.now.name) c.as_slice-rest.ensures;
+  names = subst (All (λ (p : List ℕ × Wire). IsShortName p.0)) (sym c.as_slice-rest.ensures) c.requires.pins;
+}
+
+pub check_pin-requires-clause-cell : goal.check_pin-requires-clause-cell
+check_pin-requires-clause-cell c = c.in-Some.ensures.there
+
+pub check_pin-requires-clause-instance : goal.check_pin-requires-clause-instance
+check_pin-requires-clause-instance c = rw c.bytes-name.ensures c.requires.name.name

@@ -22,3 +22,36 @@ returns c = (
     };
   },
 )
+
+pub drivers_of-requires-clause-sound : goal.drivers_of-requires-clause-sound
+drivers_of-requires-clause-sound c = c.netlist.ensures.sound
+
+pub drivers_of-requires-clause-bits : goal.drivers_of-requires-clause-bits
+drivers_of-requires-clause-bits c = rw c.deref.ensures.value (rw c.netlist.ensures.value at c.in_ok-bits.ensures)
+
+pub drivers_of-requires-clause-pins : goal.drivers_of-requires-clause-pins
+drivers_of-requires-clause-pins c = rw c.deref-2.ensures.value c.in_ok-pins.ensures.all
+
+pub sinks_of-requires-clause-sound : goal.sinks_of-requires-clause-sound
+sinks_of-requires-clause-sound c = c.netlist.ensures.sound
+
+pub sinks_of-requires-clause-bits : goal.sinks_of-requires-clause-bits
+sinks_of-requires-clause-bits c = rw c.deref-3.ensures.value (rw c.netlist.ensures.value at c.in_ok-bits.ensures)
+
+pub sinks_of-requires-clause-pins : goal.sinks_of-requires-clause-pins
+sinks_of-requires-clause-pins c = rw c.deref-4.ensures.value c.in_ok-pins.ensures.all
+
+pub add_all_ports-requires-clause-bits : goal.add_all_ports-requires-clause-bits
+add_all_ports-requires-clause-bits c = rw c.deref-5.ensures.value (rw c.netlist.ensures.value at c.in_ok-bits.ensures)
+
+pub add_all_ports-requires-clause-sinks : goal.add_all_ports-requires-clause-sinks
+add_all_ports-requires-clause-sinks c = rw c.deref-6.ensures.value c.in_ok-sinks.ensures.sinks
+
+pub all_nets-requires-clause-bits : goal.all_nets-requires-clause-bits
+all_nets-requires-clause-bits c = rw c.deref-7.ensures.value (rw c.netlist.ensures.value at c.in_ok-bits.ensures)
+
+pub all_nets-requires-clause-drivers : goal.all_nets-requires-clause-drivers
+all_nets-requires-clause-drivers c = c.in_ok-drivers.ensures.value
+
+pub all_nets-requires-clause-sinks : goal.all_nets-requires-clause-sinks
+all_nets-requires-clause-sinks c = c.in_ok-sinks.ensures.sinks

@@ -1,7 +1,7 @@
-use Rattle.std.proofs.Common.{◌≡◌, ℕ, ◌+◌, ◌<◌, ◌∙◌, [], length, take, set, get_or, Some, refl, sym, ap, subst, arith}
+use Rattle.std.proofs.Common.{◌≡◌, ℕ, ◌+◌, ◌<◌, ◌∙◌, List, [], length, take, set, get_or, Some, refl, sym, ap, subst, arith}
 use Rattle.std.specs.Prelude.{is_some}
 use Rattle.std.specs.List.{slice_get}
-use Rattle.std.proofs.lemmas.List.{length_push}
+use Rattle.std.proofs.lemmas.List.{length_push, take_all}
 use Rattle.std.proofs.lemmas.Option.{same_Some, slice_get-get_or, slice_get_read, slice_get_within}
 use Rattle.link_rules.specs.Pins.{Connected, pins}
 use Rattle.link_pins.specs.declared.sinks.NetSinks.{NetSinks}
@@ -83,3 +83,15 @@ returns-clause-places c =
       count = omega (arith, len, c.loop-pin.invariant.count, c.loop-pin-test.false, c.loop-pin.auto.pin-index-end);
       each = λ k d at. c.loop-pin.invariant.each k d (omega (arith, len, slice_get_within cs k d at, c.loop-pin-test.false)) at;
     }
+
+pub no_sinks-requires-clause-sound : goal.no_sinks-requires-clause-sound
+no_sinks-requires-clause-sound c = c.requires.sound
+
+pub no_sinks-requires-clause-pins : goal.no_sinks-requires-clause-pins
+no_sinks-requires-clause-pins c = c.requires.pins
+
+pub returns-clause-sinks : goal.returns-clause-sinks
+returns-clause-sinks c =
+    let cs = pins c.args.cells.now c.args.nets.now in
+    let len : length c.args.pins.now ≡ length cs = same_length (connected_at c.args.cells.now c.args.nets.now) (λ (x : Connected). Some x) c.args.pins.now cs c.requires.pins in
+    subst (λ (l : List Connected). ArePinSinks c.args.nets.now.nets l c.loop-pin.rows.items) (take_all c.loop-pin.pin-index cs (omega (arith, len, c.loop-pin-test.false))) c.loop-pin.invariant.sinks

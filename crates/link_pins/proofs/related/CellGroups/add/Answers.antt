@@ -26,3 +26,12 @@ returns-clause-groups c = λ x there same are.
     let count : c.in-Ok.number ≡ length c.args.self.now.groups.items = omega (arith, fits, c.len-number.ensures, c.args.self.now.groups.ok.0) in
     own_group x c.args.self.now _ are c.args.place c.requires.count c.index-as_slice-place.result _ (ap (λ (l : List PinParts). slice_get l c.args.place) (sym same) ∙ here)
     (c.in_ok-group.ensures x there) c.in_ok-push-2.ensures.items (c.in_ok-push-3.ensures.items ∙ ap (λ n. c.args.self.now.of.items ++ n ∷ []) count)
+
+pub index-group-requires : goal.index-group-requires
+index-group-requires c = omega (arith, c.if-first-place.true, c.requires.count, c.args.self.now.of.ok.0)
+
+pub returns-then-first-place-clause-count : goal.returns-then-first-place-clause-count
+returns-then-first-place-clause-count c = omega (arith, ap length c.in_ok-push.ensures.items, length_push c.args.self.now.of.items c.index-group.result.now, c.requires.count)
+
+pub bounds-as_slice-place : goal.bounds-as_slice-place
+bounds-as_slice-place c = rw c.as_slice.ensures c.requires.place
