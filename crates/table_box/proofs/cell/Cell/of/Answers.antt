@@ -43,3 +43,30 @@ returns-clause-small c =
       second_second_small = rw most_back at within.fourth;
       rising = c.do_rise-rising.ensures;
     }
+
+pub are_within-requires-clause-rising : goal.are_within-requires-clause-rising
+are_within-requires-clause-rising c = c.do_rise-rising.ensures
+
+pub number_at-first_first-requires-clause-row : goal.number_at-first_first-requires-clause-row
+number_at-first_first-requires-clause-row c = c.requires.slew.first
+
+pub number_at-first_first-requires-clause-column : goal.number_at-first_first-requires-clause-column
+number_at-first_first-requires-clause-column c = c.requires.load.first
+
+pub number_at-first_second-requires-clause-row : goal.number_at-first_second-requires-clause-row
+number_at-first_second-requires-clause-row c = c.requires.slew.first
+
+pub number_at-first_second-requires-clause-column : goal.number_at-first_second-requires-clause-column
+number_at-first_second-requires-clause-column c = c.requires.load.second
+
+pub number_at-second_first-requires-clause-row : goal.number_at-second_first-requires-clause-row
+number_at-second_first-requires-clause-row c = c.requires.slew.second
+
+pub number_at-second_first-requires-clause-column : goal.number_at-second_first-requires-clause-column
+number_at-second_first-requires-clause-column c = c.requires.load.first
+
+pub number_at-second_second-requires-clause-row : goal.number_at-second_second-requires-clause-row
+number_at-second_second-requires-clause-row c = c.requires.slew.second
+
+pub number_at-second_second-requires-clause-column : goal.number_at-second_second-requires-clause-column
+number_at-second_second-requires-clause-column c = c.requires.load.second
