@@ -1,5 +1,5 @@
 -- Why a design does not allow an edit, from what its two nets say.
-use Rattle.std.proofs.Common.{◌≡◌, ℕ, inl, inr, subst, pos, ◌≤ℤ◌, ◌<ℤ◌, List}
+use Rattle.std.proofs.Common.{◌≡◌, ℕ, ◌⊎◌, inl, inr, subst, pos, ◌≤ℤ◌, ◌<ℤ◌, List}
 use Rattle.std.specs.Prelude.{Option, Some, None, IfSome}
 use Rattle.std.specs.List.{slice_get}
 use Rattle.xt_model.specs.declared.net.Net.{Net}
@@ -50,7 +50,7 @@ allowed e nets first second is_first is_second p q l k = record {
   second_load = light (move_of e) (first_of e) (slice_get nets (second_of e)) second is_second k;
 }
 
-pub first_heavy : (e : Edit) (nets : List Net) (first : Net) (f : EditFault)
+first_heavy : (e : Edit) (nets : List Net) (first : Net) (f : EditFault)
     → IfSome (slice_get nets (first_of e)) (λ n. first ≡ net_left (move_of e) (second_of e) n)
     → IfSome (slice_get nets (first_of e)) (IsPossible (move_of e) (second_of e)) → IfSome (slice_get nets (second_of e)) (IsPossible (move_of e) (first_of e))
     → IsLoadOf (first_of e) first f → IsRefusalOf e nets f
@@ -64,7 +64,7 @@ first_heavy e nets first (faults.Load net value) is p q h = record {
   heavy = inl (heavy (move_of e) (first_of e) (second_of e) net.0 value (slice_get nets (first_of e)) first is h.0 h.1 h.2);
 }
 
-pub second_heavy : (e : Edit) (nets : List Net) (first second : Net) (f : EditFault)
+second_heavy : (e : Edit) (nets : List Net) (first second : Net) (f : EditFault)
     → IfSome (slice_get nets (first_of e)) (λ n. first ≡ net_left (move_of e) (second_of e) n) → IfSome (slice_get nets (second_of e)) (λ n. second ≡ net_left (move_of e) (first_of e) n)
     → IfSome (slice_get nets (first_of e)) (IsPossible (move_of e) (second_of e)) → IfSome (slice_get nets (second_of e)) (IsPossible (move_of e) (first_of e))
     → greatest_load first ≤ℤ most_cap → IsLoadOf (second_of e) second f → IsRefusalOf e nets f
@@ -80,3 +80,11 @@ second_heavy e nets first second (faults.Load net value) is_first is p q l h = r
     heavy (move_of e) (second_of e) (first_of e) net.0 value (slice_get nets (second_of e)) second is h.0 h.1 h.2,
   );
 }
+
+-- the load of one of the nets is too great
+pub one_heavy : (e : Edit) (nets : List Net) (first second : Net) (f : EditFault)
+    → IfSome (slice_get nets (first_of e)) (λ n. first ≡ net_left (move_of e) (second_of e) n) → IfSome (slice_get nets (second_of e)) (λ n. second ≡ net_left (move_of e) (first_of e) n)
+    → IfSome (slice_get nets (first_of e)) (IsPossible (move_of e) (second_of e)) → IfSome (slice_get nets (second_of e)) (IsPossible (move_of e) (first_of e))
+    → IsLoadOf (first_of e) first f ⊎ ((greatest_load first ≤ℤ most_cap) × IsLoadOf (second_of e) second f) → IsRefusalOf e nets f
+one_heavy e nets first second f is_first is p q (inl h) = first_heavy e nets first f is_first p q h
+one_heavy e nets first second f is_first is p q (inr h) = second_heavy e nets first second f is_first is p q h.0 h.1

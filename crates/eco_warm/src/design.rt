@@ -1,6 +1,6 @@
 //! A design after an edit.
 
-ghost use Rattle.std.specs.Prelude.{◌≡◌, ◌<◌, ◌≤◌, ◌≤ℤ◌, length, IfOk, IfErr, IfSome, OnOk};
+ghost use Rattle.std.specs.Prelude.{◌≡◌, ◌<◌, ◌≤◌, ◌≤ℤ◌, ◌⊎◌, length, IfOk, IfErr, IfSome, OnOk};
 ghost use Rattle.std.specs.List.{slice_get};
 ghost use Rattle.xt_model.specs.Limits.{most_cap, most_couplings};
 ghost use Rattle.xt_model.specs.Sound.{greatest_load};
@@ -88,6 +88,19 @@ fn check_load(net: NetId, after: &Net) -> Result<(), EditFault>
     Ok(())
 }
 
+/// Refuses two nets of which one has a load past 2^46 aF with every coupling counted twice, the first before the second.
+fn check_loads(a: NetId, first: &Net, b: NetId, second: &Net) -> Result<(), EditFault>
+    requires first { length first.now.couplings ≤ most_couplings }
+    requires second { length second.now.couplings ≤ most_couplings }
+    ensures first { OnOk result (greatest_load first.now ≤ℤ most_cap) }
+    ensures second { OnOk result (greatest_load second.now ≤ℤ most_cap) }
+    ensures heavy { IfErr result (λ e. IsLoadOf a.0 first.now e
+        ⊎ ((greatest_load first.now ≤ℤ most_cap) × IsLoadOf b.0 second.now e)) }
+{
+    check_load(a, first)?;
+    check_load(b, second)
+}
+
 /// The two nets of an edit after it, or why the design does not allow it: first `E4` of both nets, then the load of
 /// the first net, then that of the second.
 pub fn nets_after(alloc: Global, design: &Design, edit: &Edit) -> Result<(Net, Net), EditFault>
@@ -103,8 +116,7 @@ pub fn nets_after(alloc: Global, design: &Design, edit: &Edit) -> Result<(Net, N
     let moving = edit.moving();
     let first = net_after(alloc, design, moving, a, b)?;
     let second = net_after(alloc, design, moving, b, a)?;
-    check_load(a, &first)?;
-    check_load(b, &second)?;
+    check_loads(a, &first, b, &second)?;
     Ok((first, second))
 }
 

@@ -1,5 +1,5 @@
 use Rattle.std.proofs.lemmas.Result.{err_from_is_err_and}
-use Rattle.eco_warm.proofs.Refused.{allowed, first_heavy, first_impossible, second_heavy, second_impossible}
+use Rattle.eco_warm.proofs.Refused.{allowed, first_impossible, one_heavy, second_impossible}
 use Rattle.eco_warm.proofs.design.nets_after.Goals as goal
 
 pub returns-in_err-first-clause-refusal : goal.returns-in_err-first-clause-refusal
@@ -30,35 +30,20 @@ returns-in_err-second-clause-second c = rw (err_from_is_err_and c.from_residual-
 pub returns-in_err-second-clause-allowed : goal.returns-in_err-second-clause-allowed
 returns-in_err-second-clause-allowed c = rw (err_from_is_err_and c.from_residual-in_err-second.result c.from_residual-in_err-second.ensures.1).1 tt
 
-pub returns-in_err-check_load-clause-refusal : goal.returns-in_err-check_load-clause-refusal
-returns-in_err-check_load-clause-refusal c =
-    let failed = err_from_is_err_and c.from_residual-in_err-check_load.result c.from_residual-in_err-check_load.ensures.1 in
-    rw failed.1 (rw failed.2 (first_heavy c.args.edit.now c.args.design.now.nets c.in_ok-first.first c.in_err-check_load.field-0.0 (rw (c.moving-moving.ensures, c.nets.ensures.first, c.nets.ensures.second) at c.in_ok-first.ensures.ok)
-    (rw (c.moving-moving.ensures, c.nets.ensures.first, c.nets.ensures.second) at c.in_ok-first.ensures.possible) (rw (c.moving-moving.ensures, c.nets.ensures.first, c.nets.ensures.second) at c.in_ok-second.ensures.possible) (rw c.nets.ensures.first at c.in_err-check_load.ensures.heavy)))
+pub returns-in_err-check_loads-clause-refusal : goal.returns-in_err-check_loads-clause-refusal
+returns-in_err-check_loads-clause-refusal c =
+    let failed = err_from_is_err_and c.from_residual-in_err-check_loads.result c.from_residual-in_err-check_loads.ensures.1 in
+    rw failed.1 (rw failed.2 (one_heavy c.args.edit.now c.args.design.now.nets c.in_ok-first.first c.in_ok-second.second c.in_err-check_loads.field-0.0 (rw (c.moving-moving.ensures, c.nets.ensures.first, c.nets.ensures.second) at c.in_ok-first.ensures.ok) (rw (c.moving-moving.ensures, c.nets.ensures.first, c.nets.ensures.second) at c.in_ok-second.ensures.ok)
+    (rw (c.moving-moving.ensures, c.nets.ensures.first, c.nets.ensures.second) at c.in_ok-first.ensures.possible) (rw (c.moving-moving.ensures, c.nets.ensures.first, c.nets.ensures.second) at c.in_ok-second.ensures.possible) (rw (c.nets.ensures.first, c.nets.ensures.second) at c.in_err-check_loads.ensures.heavy)))
 
-pub returns-in_err-check_load-clause-first : goal.returns-in_err-check_load-clause-first
-returns-in_err-check_load-clause-first c = rw (err_from_is_err_and c.from_residual-in_err-check_load.result c.from_residual-in_err-check_load.ensures.1).1 tt
+pub returns-in_err-check_loads-clause-first : goal.returns-in_err-check_loads-clause-first
+returns-in_err-check_loads-clause-first c = rw (err_from_is_err_and c.from_residual-in_err-check_loads.result c.from_residual-in_err-check_loads.ensures.1).1 tt
 
-pub returns-in_err-check_load-clause-second : goal.returns-in_err-check_load-clause-second
-returns-in_err-check_load-clause-second c = rw (err_from_is_err_and c.from_residual-in_err-check_load.result c.from_residual-in_err-check_load.ensures.1).1 tt
+pub returns-in_err-check_loads-clause-second : goal.returns-in_err-check_loads-clause-second
+returns-in_err-check_loads-clause-second c = rw (err_from_is_err_and c.from_residual-in_err-check_loads.result c.from_residual-in_err-check_loads.ensures.1).1 tt
 
-pub returns-in_err-check_load-clause-allowed : goal.returns-in_err-check_load-clause-allowed
-returns-in_err-check_load-clause-allowed c = rw (err_from_is_err_and c.from_residual-in_err-check_load.result c.from_residual-in_err-check_load.ensures.1).1 tt
-
-pub returns-in_err-check_load-2-clause-refusal : goal.returns-in_err-check_load-2-clause-refusal
-returns-in_err-check_load-2-clause-refusal c =
-    let failed = err_from_is_err_and c.from_residual-in_err-check_load-2.result c.from_residual-in_err-check_load-2.ensures.1 in
-    rw failed.1 (rw failed.2 (second_heavy c.args.edit.now c.args.design.now.nets c.in_ok-first.first c.in_ok-second.second c.in_err-check_load-2.field-0.0 (rw (c.moving-moving.ensures, c.nets.ensures.first, c.nets.ensures.second) at c.in_ok-first.ensures.ok) (rw (c.moving-moving.ensures, c.nets.ensures.first, c.nets.ensures.second) at c.in_ok-second.ensures.ok)
-    (rw (c.moving-moving.ensures, c.nets.ensures.first, c.nets.ensures.second) at c.in_ok-first.ensures.possible) (rw (c.moving-moving.ensures, c.nets.ensures.first, c.nets.ensures.second) at c.in_ok-second.ensures.possible) c.in_ok-check_load.ensures.kept (rw c.nets.ensures.second at c.in_err-check_load-2.ensures.heavy)))
-
-pub returns-in_err-check_load-2-clause-first : goal.returns-in_err-check_load-2-clause-first
-returns-in_err-check_load-2-clause-first c = rw (err_from_is_err_and c.from_residual-in_err-check_load-2.result c.from_residual-in_err-check_load-2.ensures.1).1 tt
-
-pub returns-in_err-check_load-2-clause-second : goal.returns-in_err-check_load-2-clause-second
-returns-in_err-check_load-2-clause-second c = rw (err_from_is_err_and c.from_residual-in_err-check_load-2.result c.from_residual-in_err-check_load-2.ensures.1).1 tt
-
-pub returns-in_err-check_load-2-clause-allowed : goal.returns-in_err-check_load-2-clause-allowed
-returns-in_err-check_load-2-clause-allowed c = rw (err_from_is_err_and c.from_residual-in_err-check_load-2.result c.from_residual-in_err-check_load-2.ensures.1).1 tt
+pub returns-in_err-check_loads-clause-allowed : goal.returns-in_err-check_loads-clause-allowed
+returns-in_err-check_loads-clause-allowed c = rw (err_from_is_err_and c.from_residual-in_err-check_loads.result c.from_residual-in_err-check_loads.ensures.1).1 tt
 
 pub returns-clause-first : goal.returns-clause-first
 returns-clause-first c = rw (c.moving-moving.ensures, c.nets.ensures.first, c.nets.ensures.second) at c.in_ok-first.ensures.ok
@@ -69,7 +54,7 @@ returns-clause-second c = rw (c.moving-moving.ensures, c.nets.ensures.first, c.n
 pub returns-clause-allowed : goal.returns-clause-allowed
 returns-clause-allowed c =
     allowed c.args.edit.now c.args.design.now.nets c.in_ok-first.first c.in_ok-second.second (rw (c.moving-moving.ensures, c.nets.ensures.first, c.nets.ensures.second) at c.in_ok-first.ensures.ok) (rw (c.moving-moving.ensures, c.nets.ensures.first, c.nets.ensures.second) at c.in_ok-second.ensures.ok)
-    (rw (c.moving-moving.ensures, c.nets.ensures.first, c.nets.ensures.second) at c.in_ok-first.ensures.possible) (rw (c.moving-moving.ensures, c.nets.ensures.first, c.nets.ensures.second) at c.in_ok-second.ensures.possible) c.in_ok-check_load.ensures.kept c.in_ok-check_load-2.ensures.kept
+    (rw (c.moving-moving.ensures, c.nets.ensures.first, c.nets.ensures.second) at c.in_ok-first.ensures.possible) (rw (c.moving-moving.ensures, c.nets.ensures.first, c.nets.ensures.second) at c.in_ok-second.ensures.possible) c.in_ok-check_loads.ensures.first c.in_ok-check_loads.ensures.second
 
 pub returns-clause-refusal : goal.returns-clause-refusal
 returns-clause-refusal c = tt

@@ -30,6 +30,63 @@ returns-in_err-sinks-clause-impossible c =
     let refused : IsImpossible (All HasProducts (map (sink_left c.args.moving c.args.other.0 n.couplings) n.sinks) → ⊥) f = rw (c.as_slice-before.ensures, c.as_slice.ensures) at c.in_err-sinks.ensures.impossible in
     rw (p.1, p.2) (net_stop c.args.moving c.args.other.0 n f refused)
 
+pub returns-in_err-couplings-clause-ok : goal.returns-in_err-couplings-clause-ok
+returns-in_err-couplings-clause-ok c = rw (err_from_is_err_and c.from_residual.result c.from_residual.ensures.1).1 tt
+
+pub returns-in_err-couplings-clause-possible : goal.returns-in_err-couplings-clause-possible
+returns-in_err-couplings-clause-possible c = rw (err_from_is_err_and c.from_residual.result c.from_residual.ensures.1).1 tt
+
+pub returns-in_err-couplings-clause-few : goal.returns-in_err-couplings-clause-few
+returns-in_err-couplings-clause-few c = rw (err_from_is_err_and c.from_residual.result c.from_residual.ensures.1).1 tt
+
+pub returns-in_err-couplings-clause-impossible : goal.returns-in_err-couplings-clause-impossible
+returns-in_err-couplings-clause-impossible c = let p = err_from_is_err_and c.from_residual.result c.from_residual.ensures.1 in rw (p.1, p.2) tt
+
+pub returns-in_err-name-clause-ok : goal.returns-in_err-name-clause-ok
+returns-in_err-name-clause-ok c = rw (err_from_is_err_and c.from_residual-in_err-name.result c.from_residual-in_err-name.ensures.1).1 tt
+
+pub returns-in_err-name-clause-possible : goal.returns-in_err-name-clause-possible
+returns-in_err-name-clause-possible c = rw (err_from_is_err_and c.from_residual-in_err-name.result c.from_residual-in_err-name.ensures.1).1 tt
+
+pub returns-in_err-name-clause-few : goal.returns-in_err-name-clause-few
+returns-in_err-name-clause-few c = rw (err_from_is_err_and c.from_residual-in_err-name.result c.from_residual-in_err-name.ensures.1).1 tt
+
+pub returns-in_err-name-clause-impossible : goal.returns-in_err-name-clause-impossible
+returns-in_err-name-clause-impossible c = let p = err_from_is_err_and c.from_residual-in_err-name.result c.from_residual-in_err-name.ensures.1 in rw (p.1, p.2) tt
+
+pub returns-in_err-given-clause-ok : goal.returns-in_err-given-clause-ok
+returns-in_err-given-clause-ok c = rw (err_from_is_err_and c.from_residual-in_err-given.result c.from_residual-in_err-given.ensures.1).1 tt
+
+pub returns-in_err-given-clause-possible : goal.returns-in_err-given-clause-possible
+returns-in_err-given-clause-possible c = rw (err_from_is_err_and c.from_residual-in_err-given.result c.from_residual-in_err-given.ensures.1).1 tt
+
+pub returns-in_err-given-clause-few : goal.returns-in_err-given-clause-few
+returns-in_err-given-clause-few c = rw (err_from_is_err_and c.from_residual-in_err-given.result c.from_residual-in_err-given.ensures.1).1 tt
+
+pub returns-in_err-given-clause-impossible : goal.returns-in_err-given-clause-impossible
+returns-in_err-given-clause-impossible c = let p = err_from_is_err_and c.from_residual-in_err-given.result c.from_residual-in_err-given.ensures.1 in rw (p.1, p.2) tt
+
+pub returns-in_err-arcs-clause-ok : goal.returns-in_err-arcs-clause-ok
+returns-in_err-arcs-clause-ok c = rw (err_from_is_err_and c.from_residual-in_err-arcs.result c.from_residual-in_err-arcs.ensures.1).1 tt
+
+pub returns-in_err-arcs-clause-possible : goal.returns-in_err-arcs-clause-possible
+returns-in_err-arcs-clause-possible c = rw (err_from_is_err_and c.from_residual-in_err-arcs.result c.from_residual-in_err-arcs.ensures.1).1 tt
+
+pub returns-in_err-arcs-clause-few : goal.returns-in_err-arcs-clause-few
+returns-in_err-arcs-clause-few c = rw (err_from_is_err_and c.from_residual-in_err-arcs.result c.from_residual-in_err-arcs.ensures.1).1 tt
+
+pub returns-in_err-arcs-clause-impossible : goal.returns-in_err-arcs-clause-impossible
+returns-in_err-arcs-clause-impossible c = let p = err_from_is_err_and c.from_residual-in_err-arcs.result c.from_residual-in_err-arcs.ensures.1 in rw (p.1, p.2) tt
+
+pub returns-in_err-sinks-clause-ok : goal.returns-in_err-sinks-clause-ok
+returns-in_err-sinks-clause-ok c = rw (err_from_is_err_and c.from_residual-in_err-sinks.result c.from_residual-in_err-sinks.ensures.1).1 tt
+
+pub returns-in_err-sinks-clause-possible : goal.returns-in_err-sinks-clause-possible
+returns-in_err-sinks-clause-possible c = rw (err_from_is_err_and c.from_residual-in_err-sinks.result c.from_residual-in_err-sinks.ensures.1).1 tt
+
+pub returns-in_err-sinks-clause-few : goal.returns-in_err-sinks-clause-few
+returns-in_err-sinks-clause-few c = rw (err_from_is_err_and c.from_residual-in_err-sinks.result c.from_residual-in_err-sinks.ensures.1).1 tt
+
 pub overflow_cast-result : goal.overflow_cast-result
 overflow_cast-result c =
     let n = c.args.net.now in
