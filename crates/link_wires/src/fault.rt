@@ -43,15 +43,14 @@ pub fn limit_of(
     ensures { IfOk result (λ f. f ≡ limit_by listed net.now nodes load) }
 {
     if listed {
-        let fault = passed(
+        if let Some(fault) = passed(
             alloc,
             LimitKind::Nodes,
             net,
             u128::from(nodes),
             MOST_NODES as u128,
-        )?;
-        if fault.is_some() {
-            return Ok(fault);
+        )? {
+            return Ok(Some(fault));
         }
     }
     passed(alloc, LimitKind::Load, net, load, MOST_CAP as u128)

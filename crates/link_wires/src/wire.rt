@@ -88,9 +88,9 @@ fn wire_within(
     ensures fault { IfErr result
         (IsFaultWithin listed pins.now nodes.now.list (wire_by nodes.now.parasitics parts.now)) }
 {
+    let couplings = couplings_of(alloc, parts)?;
     let tree = tree_within(alloc, pins, listed, nodes, parts)?;
     check_tree(alloc, &pins.name, nodes, &tree)?;
-    let couplings = couplings_of(alloc, parts)?;
     let wire = NetWire {
         couplings: Row::from_vec(couplings),
         tree,

@@ -1,4 +1,4 @@
-use Rattle.std.proofs.Common.{subst}
+use Rattle.std.proofs.Common.{subst, ◌∙◌}
 use Rattle.elmore_tree.specs.Trees.{IsSoundTree}
 use Rattle.elmore_tree.specs.Forms.{IsFaultOf}
 use Rattle.link_wires.specs.Seen.{wire_by}
@@ -21,3 +21,10 @@ tree_within-requires-clause-unlisted c = c.requires.unlisted
 
 pub tree_within-requires-clause-wire : goal.tree_within-requires-clause-wire
 tree_within-requires-clause-wire c = c.requires.wire
+
+pub returns-clause-ok : goal.returns-clause-ok
+returns-clause-ok c = rw c.in_ok-new.ensures (record {
+  couplings = c.from_vec.ensures ∙ c.in_ok-couplings.ensures c.args.nodes.now.parasitics;
+  tree = c.in_ok-tree.ensures.ok;
+  accepted = c.in_ok-check_tree.ensures.ok;
+})
