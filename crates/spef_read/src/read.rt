@@ -25,8 +25,13 @@ fn parasitics(alloc: Global, bytes: &[u8]) -> Result<Parasitics, TextFault>
     }
     let mut state = Progress::new(alloc, TextKey::of(bytes));
     let mut terms = Terms::new(bytes, Rules::Spef);
-    read_all(alloc, Context::Start, &mut terms, &mut state)?;
-    Ok(state.into_parasitics())
+    let read = read_all(alloc, Context::Start, &mut terms, &mut state);
+    // What is left of the state is dropped here alone, whatever was read.
+    let parasitics = state.into_parasitics();
+    match read {
+        Ok(()) => Ok(parasitics),
+        Err(fault) => Err(fault),
+    }
 }
 
 /// The parasitics of a SPEF text (IEEE 1481).
