@@ -1,3 +1,4 @@
+use Rattle.std.proofs.Common.{length-set}
 use Rattle.chaos_core.proofs.Picks.{may_draw}
 use Rattle.chaos_core.proofs.Workers.{one_setting, one_state, one_late, one_fits, picked_here}
 use Rattle.chaos_core.proofs.round.pick.Goals as goal
@@ -33,3 +34,27 @@ returns-clause-late c =
     let order = c.requires.lists.ordered.0 in
     one_late c.args.design.now c.args.lists.now order c.args.board.now c.worker_step.new.board c.args.workers.now c.next_open-place.result c.index-workers-place.result c.worker_step.new.worker c.worker_step.result
     c.requires.design c.next_open-place.ensures.inside (c.worker_step.ensures.step order c.requires.lists.ordered.1) c.requires.late
+
+pub next_open-place-requires-clause-few : goal.next_open-place-requires-clause-few
+next_open-place-requires-clause-few c = c.requires.few
+
+pub next_open-place-requires-clause-open : goal.next_open-place-requires-clause-open
+next_open-place-requires-clause-open c = c.requires.open
+
+pub next_open-place-requires-clause-number : goal.next_open-place-requires-clause-number
+next_open-place-requires-clause-number c = c.draw-number.ensures.below
+
+pub worker_step-requires-clause-design : goal.worker_step-requires-clause-design
+worker_step-requires-clause-design c = c.requires.design
+
+pub worker_step-requires-clause-direction : goal.worker_step-requires-clause-direction
+worker_step-requires-clause-direction c = c.requires.direction
+
+pub worker_step-requires-clause-lists : goal.worker_step-requires-clause-lists
+worker_step-requires-clause-lists c = c.requires.lists
+
+pub worker_step-requires-clause-fits : goal.worker_step-requires-clause-fits
+worker_step-requires-clause-fits c = c.requires.fits c.next_open-place.result c.index-workers-place.result c.next_open-place.ensures.inside
+
+pub returns-clause-count : goal.returns-clause-count
+returns-clause-count c = length-set c.args.workers.now c.next_open-place.result c.worker_step.new.worker

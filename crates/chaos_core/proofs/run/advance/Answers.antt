@@ -1,6 +1,6 @@
 use Rattle.std.proofs.Common.{ℕ, suc, refl, ◌∙◌, sym, ap, subst}
-use Rattle.chaos_core.specs.Tasks.{Task, idle, task_at, task_of}
-use Rattle.chaos_core.specs.Steps.{AreSteps}
+use Rattle.chaos_core.specs.Tasks.{Task, idle, loaded_of, loading, task_at, task_of}
+use Rattle.chaos_core.specs.Steps.{AreSteps, Fits}
 use Rattle.chaos_core.proofs.run.advance.Goals as goal
 
 pub returns-in-Publishing-clause-steps : goal.returns-in-Publishing-clause-steps
@@ -16,3 +16,49 @@ returns-in-Publishing-clause-steps g c = λ order o.
 
 pub returns-in-Idle-clause-steps : goal.returns-in-Idle-clause-steps
 returns-in-Idle-clause-steps g c = λ order o. (0, (g.B.Board.knows c.args.board.now, task_of c.args.worker.now, c.worker_step.result, (refl, refl), c.requires.fits.task, c.worker_step.ensures.step order o))
+
+pub load_on-requires-clause-design : goal.load_on-requires-clause-design
+load_on-requires-clause-design g c = c.requires.design
+
+pub load_on-requires-clause-fits : goal.load_on-requires-clause-fits
+load_on-requires-clause-fits g c = c.requires.fits
+
+pub load_on-requires-clause-groups : goal.load_on-requires-clause-groups
+load_on-requires-clause-groups g c = c.requires.groups
+
+pub load_on-requires-clause-lists : goal.load_on-requires-clause-lists
+load_on-requires-clause-lists g c = c.requires.lists
+
+pub load_on-requires-clause-look : goal.load_on-requires-clause-look
+load_on-requires-clause-look g c = c.requires.look
+
+pub load_on-requires-clause-loading : goal.load_on-requires-clause-loading
+load_on-requires-clause-loading g c =
+    let at = sym (ap task_of c.worker.view_is) ∙ ap (λ s. task_at s c.worker.inside.loaded.items) c.in-Loading.is in
+    at ∙ ap (λ t. loading c.in-Loading.net (loaded_of t)) (sym at)
+
+pub publish_rest-requires-clause-way : goal.publish_rest-requires-clause-way
+publish_rest-requires-clause-way g c = c.requires.direction
+
+pub publish_rest-requires-clause-fits : goal.publish_rest-requires-clause-fits
+publish_rest-requires-clause-fits g c =
+    let at = sym (ap task_of c.worker.view_is) ∙ ap (λ s. task_at s c.worker.inside.loaded.items) c.in-Publishing.is in
+    subst (Fits (g.B.Board.knows c.args.board.now) c.args.lists.now) at c.requires.fits.task
+
+pub returns-in-Idle-clause-fits : goal.returns-in-Idle-clause-fits
+returns-in-Idle-clause-fits g c = c.worker_step.ensures.fits
+
+pub returns-in-Idle-clause-places : goal.returns-in-Idle-clause-places
+returns-in-Idle-clause-places g c = c.worker_step.ensures.places
+
+pub returns-in-Idle-clause-room : goal.returns-in-Idle-clause-room
+returns-in-Idle-clause-room g c = c.worker_step.ensures.room
+
+pub returns-in-Loading-clause-fits : goal.returns-in-Loading-clause-fits
+returns-in-Loading-clause-fits g c = c.load_on.ensures.fits
+
+pub returns-in-Loading-clause-places : goal.returns-in-Loading-clause-places
+returns-in-Loading-clause-places g c = c.load_on.ensures.places
+
+pub returns-in-Loading-clause-room : goal.returns-in-Loading-clause-room
+returns-in-Loading-clause-room g c = c.load_on.ensures.room
