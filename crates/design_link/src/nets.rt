@@ -13,6 +13,7 @@ use link_pins::take_last;
 use link_rules::{NetPins, Sink};
 use link_wires::{KeptWire, form};
 use std::alloc::{AllocError, Global};
+use std::mem;
 use xt_model::{Coupling, Net, Row, SinkPin};
 
 /// A sink with the sums of its wire.
@@ -29,7 +30,7 @@ fn sink_pin(sink: Sink, form: SinkForm) -> SinkPin
     }
 }
 
-/// The sinks of a net with the sums of its wire.
+/// The sinks of a net with the sums of its wire. More sinks than fit 32 bits are out of memory.
 fn sink_pins(
     alloc: Global,
     sinks: Vec<Sink>,
@@ -38,7 +39,11 @@ fn sink_pins(
     requires { length forms.items ≡ length sinks.items }
     ensures value { IfOk result (λ s. s ≡ filled_sinks (map plain_sink sinks.items) forms.items) }
     ensures sums { IfOk result (λ s. All IsSinkSums forms.items) }
+    ensures few { IfOk result (λ _. length sinks.items < 2 ^ 32) }
 {
+    if sinks.len() > u32::MAX as usize {
+        return Err(AllocError);
+    }
     let mut made = Vec::with_capacity(alloc, sinks.len())?;
     let mut left = forms.into_iter();
     let mut rest = sinks.into_iter();
@@ -65,17 +70,15 @@ fn formed_net(
     ensures few { IfOk result (λ _. length pins.sinks < 2 ^ 32) }
 {
     prove!(!pins.name.bytes().is_empty());
-    if pins.sinks.len() > u32::MAX as usize {
-        return Err(AllocError);
-    }
     let NetPins {
         name,
         input,
         given,
-        driver: _,
+        driver,
         sinks,
         arcs,
     } = pins;
+    mem::drop(driver);
     let WireForm { load, sinks: forms } = form;
     let sinks = sink_pins(alloc, sinks.into_vec(), forms.into_vec())?;
     Ok(Net {
