@@ -92,3 +92,60 @@ returns-clause-turn c = λ order place h at.
     let size : length c.of.result.now ≡ length (list_of lists net) = ap length c.of.ensures ∙ sym (ids_count (reads_of lists net)) in
     turn_there c.args.board.now c.args.design.now lists order place net (length c.of.result.now) c.made-pair.result c.args.direction c.args.source.now.state _ _ _ _ c.requires.design c.requires.direction c.requires.lists
     c.requires.lists.sound h c.requires.net at size c.pick_only.ensures c.pick_only-2.ensures c.pick_only-3.ensures c.made-pair.ensures.value c.move_to.ensures.words
+
+pub made-pair-requires-clause-design : goal.made-pair-requires-clause-design
+made-pair-requires-clause-design c = c.requires.design
+
+pub made-pair-requires-clause-groups : goal.made-pair-requires-clause-groups
+made-pair-requires-clause-groups c = c.requires.groups
+
+pub made-pair-requires-clause-net : goal.made-pair-requires-clause-net
+made-pair-requires-clause-net c = c.requires.net
+
+pub made-pair-requires-clause-numbers : goal.made-pair-requires-clause-numbers
+made-pair-requires-clause-numbers c = c.requires.numbers
+
+pub move_to-requires-clause-design : goal.move_to-requires-clause-design
+move_to-requires-clause-design c = c.requires.design
+
+pub move_to-requires-clause-direction : goal.move_to-requires-clause-direction
+move_to-requires-clause-direction c = c.requires.direction
+
+pub move_to-requires-clause-listed : goal.move_to-requires-clause-listed
+move_to-requires-clause-listed c = c.requires.listed
+
+pub move_to-requires-clause-net : goal.move_to-requires-clause-net
+move_to-requires-clause-net c = c.requires.net
+
+pub move_to-requires-clause-numbers : goal.move_to-requires-clause-numbers
+move_to-requires-clause-numbers c = c.requires.numbers
+
+pub move_to-requires-clause-fits : goal.move_to-requires-clause-fits
+move_to-requires-clause-fits c = c.made-pair.ensures.fits
+
+pub move_to-requires-clause-made : goal.move_to-requires-clause-made
+move_to-requires-clause-made c = c.made-pair.ensures.value
+
+pub move_to-requires-clause-windows : goal.move_to-requires-clause-windows
+move_to-requires-clause-windows c = c.made-pair.ensures.windows
+
+pub returns-clause-marks : goal.returns-clause-marks
+returns-clause-marks c = c.move_to.ensures.marks
+
+pub returns-clause-numbers : goal.returns-clause-numbers
+returns-clause-numbers c = c.move_to.ensures.numbers
+
+pub returns-clause-setting : goal.returns-clause-setting
+returns-clause-setting c = c.move_to.ensures.setting
+
+pub returns-then-is_settled-clause-numbers : goal.returns-then-is_settled-clause-numbers
+returns-then-is_settled-clause-numbers c = c.requires.numbers
+
+pub returns-then-is_settled-clause-setting : goal.returns-then-is_settled-clause-setting
+returns-then-is_settled-clause-setting c = refl
+
+pub returns-then-same-clause-numbers : goal.returns-then-same-clause-numbers
+returns-then-same-clause-numbers c = c.requires.numbers
+
+pub returns-then-same-clause-setting : goal.returns-then-same-clause-setting
+returns-then-same-clause-setting c = refl

@@ -71,3 +71,9 @@ returns-clause-extreme g c = c.settle_on.ensures.extreme
 
 pub returns-clause-few : goal.returns-clause-few
 returns-clause-few g c = c.settle_on.ensures.few
+
+pub settle_on-requires-clause-groups : goal.settle_on-requires-clause-groups
+settle_on-requires-clause-groups g c = λ _ _. rw c.as_slice.ensures.value (rw c.tables.ensures.value at c.in_ok-groups.ensures)
+
+pub settle_on-requires-clause-rooms : goal.settle_on-requires-clause-rooms
+settle_on-requires-clause-rooms g c = λ _ _. rw c.as_mut_slice.ensures.value c.in_ok-workers.ensures.rooms
