@@ -8,5 +8,6 @@ mod PathLaws
 mod SumLaws
 mod GatherLaws
 mod QuarterLaws
+mod Marking
 mod FormLaws
 mod UniqueLaws

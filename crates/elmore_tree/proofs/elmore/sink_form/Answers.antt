@@ -1,4 +1,4 @@
-use Rattle.std.proofs.Common.{◌≡◌, ◌≤◌, ◌*◌, ◌∙◌, ap, arith, length, map, get_or, to_z}
+use Rattle.std.proofs.Common.{refl, ◌≡◌, ◌≤◌, ◌*◌, ◌∙◌, ap, arith, length, map, get_or, to_z}
 use Rattle.std.specs.Int.{w128}
 use Rattle.std.specs.Prelude.{pos}
 use Rattle.std.specs.Int.RustNames.{unsigned_abs}
@@ -58,3 +58,36 @@ new-requires c =
     let is = c.requires.base in
     let base : to_z w128 c.args.base ≡ pos (base_of t (path_of c.args.steps.now) c.args.sink) = omega (arith, ints, most, is) in
     rw (base, coefs) (sink_sums_fit t c.args.steps.now c.requires.walk.grown sound c.requires.walk.few c.args.sink)
+
+pub loop-tap-init : goal.loop-tap-init
+loop-tap-init c = c.in_ok-coefs.ensures.items
+
+pub bounds-tap-items-tap-index : goal.bounds-tap-items-tap-index
+bounds-tap-items-tap-index c = c.loop-tap-test.true
+
+pub coefficient-requires-clause-least : goal.coefficient-requires-clause-least
+coefficient-requires-clause-least c =
+    let t = c.args.tree.now in
+    let e = c.taps-tap-items.ensures.value in
+    let sound = c.taps-tap-items.ensures.sound in
+    let fine = sound.taps c.loop-tap.tap-index no_tap (rw (← e) c.loop-tap-test.true) in
+    rw (cap_stored t c.taps-tap-items.result.now c.loop-tap.tap-index no_tap sound e c.loop-tap-test.true, e) fine.least
+
+pub coefficient-requires-clause-most : goal.coefficient-requires-clause-most
+coefficient-requires-clause-most c =
+    let t = c.args.tree.now in
+    let e = c.taps-tap-items.ensures.value in
+    let sound = c.taps-tap-items.ensures.sound in
+    let fine = sound.taps c.loop-tap.tap-index no_tap (rw (← e) c.loop-tap-test.true) in
+    rw (cap_stored t c.taps-tap-items.result.now c.loop-tap.tap-index no_tap sound e c.loop-tap-test.true, e) fine.most
+
+pub returns : goal.returns
+returns c =
+    let t = c.args.tree.now in
+    let f = λ (tap : Tap). pos (coefficient_of t (path_of c.args.steps.now) c.args.sink tap) in
+    let past : length t.taps ≤ c.loop-tap.tap-index = rw (← c.taps-tap-items.ensures.value) c.loop-tap-test.false in
+    let coefs : c.loop-tap.coefs.items ≡ map f t.taps = c.loop-tap.invariant ∙ ap (map f) (take_all c.loop-tap.tap-index t.taps past) in
+    let most = base_fits t c.args.steps.now c.requires.walk.grown c.taps-tap-items.ensures.sound c.requires.walk.few c.args.sink in
+    let is = c.requires.base in
+    let base : to_z w128 c.args.base ≡ pos (base_of t (path_of c.args.steps.now) c.args.sink) = omega (arith, ints, most, is) in
+    c.new.ensures ∙ rw (base, coefs) refl
