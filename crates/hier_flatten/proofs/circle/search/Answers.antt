@@ -15,3 +15,9 @@ returns c =
     let none : c.places.stack ≡ [] = c.in_default.ensures.0 in
     let search : IsSearch c.args.index.now c.places.marks [] = subst (IsSearch c.args.index.now c.places.marks) none c.places.invariant.search in
     (search, finite c.args.index.now c.places.marks c.args.number search c.places.invariant.met)
+
+pub places-preserved : goal.places-preserved
+places-preserved c = record {
+  search = rw c.if-branch.false at c.in_ok-look.ensures.goes;
+  met = c.look.ensures.met c.args.number c.places.invariant.met;
+}

@@ -1,4 +1,5 @@
-use Rattle.std.proofs.Common.{None, refl}
+use Rattle.std.proofs.Common.{None, refl, ap, ◌∙◌, take}
+use Rattle.hier_flatten.specs.Hierarchy.{cells_in}
 use Rattle.hier_flatten.proofs.IndexLaws.{not_cell, has_module, left_first, named, further_linked}
 use Rattle.hier_flatten.proofs.index.Index.next.Goals as goal
 
@@ -30,3 +31,8 @@ returns-clause-next c = record {
       c.cells_in-count.ensures.count c.split_at.ensures.back c.split_at-2.ensures.back _ c.instance-item.result c.in-len1-up.len_at_least c.instance-item.is
       None _ c.in-len1-up-links.len_at_least refl;
 }
+
+pub returns-clause-cells : goal.returns-clause-cells
+returns-clause-cells c =
+    c.split_at.ensures.front
+    ∙ ap (λ n. take n c.args.rest.instances.now) (c.cells_in-count.ensures.count ∙ ap cells_in c.requires)
