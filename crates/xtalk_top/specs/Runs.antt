@@ -1,5 +1,13 @@
--- How workers take their turns by an engine, and how many rounds a run may take.
-use Rattle.std.specs.Prelude.{ℕ, ◌+◌}
+-- How workers take their turns by an engine, how many rounds a run may take, and what it ends in.
+use Rattle.std.specs.Prelude.{◌≡◌, ◌↔◌, ℕ, ◌+◌, ◌≤◌, List}
+use Rattle.xt_model.specs.declared.direction.Direction.{Direction}
+use Rattle.xt_model.specs.declared.quad.Pair.{Pair}
+use Rattle.xt_model.specs.Build.{IsRoundBound}
+use Rattle.xt_model.specs.Parts.{Parts}
+use Rattle.xt_meaning.specs.Fixpoint.{IsFixpoint}
+use Rattle.xt_meaning.specs.Laws.{IsExtremeFixpoint}
+use Rattle.chaos_core.specs.declared.settle.Settled.{Settled}
+use Rattle.chaos_run.specs.declared.both.Both.{Both}
 use Rattle.command_line.specs.declared.values.Engine.{Engine}
 use Rattle.command_line.specs.declared.values.Engine.TheVariants.{Rounds, Marks}
 use Rattle.xtalk_top.specs.declared.runs.Turns.{Turns}
@@ -16,3 +24,17 @@ abbrev pub most_rounds : Turns → ℕ → ℕ
 most_rounds InThreads bound = bound
 most_rounds (Picked number) bound = bound
 most_rounds ByMarks bound = bound + 1
+
+-- what a run from these windows has ended in: the least fixpoint in widening and the greatest in narrowing, after no
+-- more rounds than its turns allow; by rounds in threads after none just where it began at a fixpoint
+pub record IsEndOf (way : Direction) (d : Parts) (turns : Turns) (start : List Pair) (settled : Settled) : Type 0 where
+  pub extreme : IsExtremeFixpoint way d settled.windows
+  pub closed : turns ≡ InThreads → (settled.rounds ≡ 0) ↔ IsFixpoint d start
+  pub few : (bound : ℕ) → IsRoundBound d.nets bound → settled.rounds ≤ most_rounds turns bound
+
+-- what each of two runs has ended in
+abbrev pub low_end : Both → Settled
+low_end found = record { windows = found.low; rounds = found.low_rounds }
+
+abbrev pub high_end : Both → Settled
+high_end found = record { windows = found.high; rounds = found.high_rounds }

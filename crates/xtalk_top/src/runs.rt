@@ -1,18 +1,14 @@
 //! How the runs of a design are made, and the windows in which they end.
 
-ghost use Rattle.std.specs.Prelude.{◌≡◌, ◌↔◌, ℕ, ◌<◌, ◌≤◌, IfOk, IfSome, IsTrue};
+ghost use Rattle.std.specs.Prelude.{◌≡◌, ◌↔◌, ◌<◌, IfOk, IfSome, IsTrue};
 ghost use Rattle.std.specs.Thread.{IsSync};
 ghost use Rattle.xt_model.specs.declared.direction.Direction.TheVariants.{Narrow, Widen};
 ghost use Rattle.xt_model.specs.Parts.{Parts};
-ghost use Rattle.xt_model.specs.Build.{IsRoundBound};
-ghost use Rattle.xt_model.specs.Limits.{most_workers};
 ghost use Rattle.xt_meaning.specs.Barrier.{IsFittingStart};
-ghost use Rattle.xt_meaning.specs.Fixpoint.{IsFixpoint, IsLeastFixpoint, IsGreatestFixpoint};
-ghost use Rattle.xt_meaning.specs.Laws.{IsExtremeFixpoint};
 ghost use Rattle.net_eval.specs.ReadLists.{AreReadLists};
 ghost use Rattle.dirty_words.specs.Readers.{AreReaders};
 ghost use Rattle.command_line.specs.Words.{IsWorkerCount};
-ghost use Rattle.xtalk_top.specs.Runs.{most_rounds, turns_by};
+ghost use Rattle.xtalk_top.specs.Runs.{high_end, low_end, turns_by, IsEndOf};
 ghost use Rattle.xtalk_top.specs.declared.runs.Turns.TheVariants.{InThreads};
 
 use chaos_core::{Gate, Settled, settle_picked};
@@ -23,6 +19,7 @@ use dirty_words::{Readers, readers};
 use net_eval::ReadLists;
 use std::alloc::Global;
 use std::thread::{Threads, join};
+use xt_model::Direction::{Narrow, Widen};
 use xt_model::{Design, Direction, NoMemory, Windows};
 
 /// Where and in which order workers take their turns.
@@ -67,7 +64,8 @@ fn readers_for(alloc: Global, lists: &ReadLists, runs: Runs) -> Result<Option<Re
     }
 }
 
-// A run from a fitting start.
+/// A run from a fitting start, by readers of the read lists where it is by marks and they are known. Fails only for want
+/// of memory.
 fn run_from<R: Threads + Sync, G: Gate>(
     rt: &R,
     alloc: Global,
@@ -83,11 +81,7 @@ fn run_from<R: Threads + Sync, G: Gate>(
     requires lists { AreReadLists design.now lists.now }
     requires readers { IfSome readers (λ some. AreReaders lists.now some.now) }
     requires workers { IsWorkerCount runs.workers }
-    ensures extreme { IfOk result (λ settled. IsExtremeFixpoint direction design.now settled.windows) }
-    ensures closed { runs.turns ≡ InThreads
-        → IfOk result (λ settled. (settled.rounds ≡ 0) ↔ IsFixpoint design.now start.now) }
-    ensures few { IfOk result (λ settled. (bound : ℕ) → IsRoundBound design.now.nets bound
-        → settled.rounds ≤ most_rounds runs.turns bound) }
+    ensures { IfOk result (IsEndOf direction design.now runs.turns start.now) }
 {
     let Runs { workers, turns } = runs;
     match turns {
@@ -104,16 +98,28 @@ fn run_from<R: Threads + Sync, G: Gate>(
     }
 }
 
+/// What a run that widens and one that narrows have ended in.
+fn both_of(least: Settled, greatest: Settled) -> Both
+    ensures low { low_end result ≡ least }
+    ensures high { high_end result ≡ greatest }
+{
+    Both {
+        low: least.windows,
+        high: greatest.windows,
+        low_rounds: least.rounds,
+        high_rounds: greatest.rounds,
+    }
+}
+
 /// Whether both runs are made at the same time: those of several workers by rounds in threads.
 fn are_at_once(runs: Runs) -> bool
-    ensures { IsTrue result → (runs.turns ≡ InThreads) × (1 < runs.workers) }
+    ensures { IsTrue result ↔ ((runs.turns ≡ InThreads) × (1 < runs.workers)) }
 {
     matches!(runs.turns, Turns::InThreads) && 1 < runs.workers
 }
 
-/// Both runs at the same time, each by this many workers in threads of their own: wider from `low` and narrower from
-/// `high`. Where no thread can be had for the wider run, it is made after the narrower one. Fails only for want of
-/// memory, when both have ended.
+/// Both runs at the same time, the wider one in a further thread, each by all workers. Where no thread can be had for
+/// it, it is made after the narrower one. Fails only for want of memory, when both have ended.
 fn both_at_once<R: Threads + Sync, G: Gate>(
     rt: &R,
     alloc: Global,
@@ -122,67 +128,31 @@ fn both_at_once<R: Threads + Sync, G: Gate>(
     lists: &ReadLists,
     low: &Windows,
     high: &Windows,
-    workers: u32,
+    runs: Runs,
 ) -> Result<Both, NoMemory>
     requires low { IsFittingStart Widen design.now low.now }
     requires high { IsFittingStart Narrow design.now high.now }
     requires lists { AreReadLists design.now lists.now }
-    requires several { 1 < workers }
-    requires most { workers ≤ most_workers }
-    ensures least { IfOk result (λ found. IsLeastFixpoint design.now found.low) }
-    ensures greatest { IfOk result (λ found. IsGreatestFixpoint design.now found.high) }
-    ensures low_closed { IfOk result (λ found. (found.low_rounds ≡ 0) ↔ IsFixpoint design.now low.now) }
-    ensures high_closed { IfOk result (λ found. (found.high_rounds ≡ 0) ↔ IsFixpoint design.now high.now) }
-    ensures few { IfOk result (λ found. (bound : ℕ) → IsRoundBound design.now.nets bound
-        → (found.low_rounds ≤ bound) × (found.high_rounds ≤ bound)) }
+    requires workers { IsWorkerCount runs.workers }
+    ensures least { IfOk result (λ found. IsEndOf Widen design.now runs.turns low.now (low_end found)) }
+    ensures greatest { IfOk result (λ found. IsEndOf Narrow design.now runs.turns high.now (high_end found)) }
 {
     let (least, greatest) = join(
         rt,
         move || -> Result<Settled, NoMemory>
             requires { IsSync R.row × IsFittingStart Widen design.now low.now × AreReadLists design.now lists.now
-                × (1 < workers) × (workers ≤ most_workers) }
-            ensures { IfOk result (λ settled. IsLeastFixpoint design.entry.now settled.windows
-                × ((settled.rounds ≡ 0) ↔ IsFixpoint design.entry.now low.entry.now)
-                × ((bound : ℕ) → IsRoundBound design.entry.now.nets bound → settled.rounds ≤ bound)) }
-        {
-            settle_from(
-                rt,
-                alloc,
-                design,
-                lists,
-                Direction::Widen,
-                low,
-                workers,
-                gate,
-            )
-        },
+                × IsWorkerCount runs.workers }
+            ensures { IfOk result (IsEndOf Widen design.entry.now runs.turns low.entry.now) }
+        { run_from(rt, alloc, gate, design, lists, None, Widen, low, runs) },
         move || -> Result<Settled, NoMemory>
             requires { IsSync R.row × IsFittingStart Narrow design.now high.now × AreReadLists design.now lists.now
-                × (1 < workers) × (workers ≤ most_workers) }
-            ensures { IfOk result (λ settled. IsGreatestFixpoint design.entry.now settled.windows
-                × ((settled.rounds ≡ 0) ↔ IsFixpoint design.entry.now high.entry.now)
-                × ((bound : ℕ) → IsRoundBound design.entry.now.nets bound → settled.rounds ≤ bound)) }
-        {
-            settle_from(
-                rt,
-                alloc,
-                design,
-                lists,
-                Direction::Narrow,
-                high,
-                workers,
-                gate,
-            )
-        },
+                × IsWorkerCount runs.workers }
+            ensures { IfOk result (IsEndOf Narrow design.entry.now runs.turns high.entry.now) }
+        { run_from(rt, alloc, gate, design, lists, None, Narrow, high, runs) },
     );
     let least = least?;
     let greatest = greatest?;
-    Ok(Both {
-        low: least.windows,
-        high: greatest.windows,
-        low_rounds: least.rounds,
-        high_rounds: greatest.rounds,
-    })
+    Ok(both_of(least, greatest))
 }
 
 /// Runs twice, wider from `low` and narrower from `high`: to the least and the greatest windows of a design, in rounds
@@ -202,45 +172,15 @@ pub fn both_from<R: Threads + Sync, G: Gate>(
     requires high { IsFittingStart Narrow design.now high.now }
     requires lists { AreReadLists design.now lists.now }
     requires workers { IsWorkerCount runs.workers }
-    ensures least { IfOk result (λ found. IsLeastFixpoint design.now found.low) }
-    ensures greatest { IfOk result (λ found. IsGreatestFixpoint design.now found.high) }
-    ensures low_closed { runs.turns ≡ InThreads
-        → IfOk result (λ found. (found.low_rounds ≡ 0) ↔ IsFixpoint design.now low.now) }
-    ensures high_closed { runs.turns ≡ InThreads
-        → IfOk result (λ found. (found.high_rounds ≡ 0) ↔ IsFixpoint design.now high.now) }
-    ensures few { IfOk result (λ found. (bound : ℕ) → IsRoundBound design.now.nets bound
-        → (found.low_rounds ≤ most_rounds runs.turns bound) × (found.high_rounds ≤ most_rounds runs.turns bound)) }
+    ensures least { IfOk result (λ found. IsEndOf Widen design.now runs.turns low.now (low_end found)) }
+    ensures greatest { IfOk result (λ found. IsEndOf Narrow design.now runs.turns high.now (high_end found)) }
 {
     if are_at_once(runs) {
-        return both_at_once(rt, alloc, gate, design, lists, low, high, runs.workers);
+        return both_at_once(rt, alloc, gate, design, lists, low, high, runs);
     }
     let readers = readers_for(alloc, lists, runs)?;
-    let least = run_from(
-        rt,
-        alloc,
-        gate,
-        design,
-        lists,
-        readers.as_ref(),
-        Direction::Widen,
-        low,
-        runs,
-    )?;
-    let greatest = run_from(
-        rt,
-        alloc,
-        gate,
-        design,
-        lists,
-        readers.as_ref(),
-        Direction::Narrow,
-        high,
-        runs,
-    )?;
-    Ok(Both {
-        low: least.windows,
-        high: greatest.windows,
-        low_rounds: least.rounds,
-        high_rounds: greatest.rounds,
-    })
+    let readers = readers.as_ref();
+    let least = run_from(rt, alloc, gate, design, lists, readers, Widen, low, runs)?;
+    let greatest = run_from(rt, alloc, gate, design, lists, readers, Narrow, high, runs)?;
+    Ok(both_of(least, greatest))
 }

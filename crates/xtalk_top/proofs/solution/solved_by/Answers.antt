@@ -11,5 +11,5 @@ both_from-requires-clause-high g c = λ _ _. narrows_from c.args.design.now c.ar
 
 pub returns : goal.returns
 returns g c =
-    both_ok c.both_from.result _ _ _ (λ found least greatest. found_within c.args.design.now c.args.top.now found.low found.high c.requires.sound c.requires.levelled c.requires.top least greatest)
+    both_ok c.both_from.result _ _ _ (λ found least greatest. found_within c.args.design.now c.args.top.now found.low found.high c.requires.sound c.requires.levelled c.requires.top least.extreme greatest.extreme)
     c.both_from.ensures.least c.both_from.ensures.greatest
