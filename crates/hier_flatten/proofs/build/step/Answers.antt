@@ -1,5 +1,6 @@
-use Rattle.std.proofs.Common.{refl, ap, sym, ◌∙◌}
+use Rattle.std.proofs.Common.{refl, ap, sym, subst, ◌∙◌, length}
 use Rattle.hier_flatten.specs.Hierarchy.{links_of}
+use Rattle.hier_flatten.specs.Walk.{AreNested}
 use Rattle.hier_flatten.proofs.WalkLaws.{linked_on}
 use Rattle.hier_flatten.proofs.RunLaws.{build_ended, build_less, build_passed, build_entered}
 use Rattle.hier_flatten.proofs.build.step.Goals as goal
@@ -54,3 +55,23 @@ returns-clause-linked c =
     linked_on c.args.index.now c.args.frame _ c.in_ok-below.below c.args.stack.now c.push.new.self c.push-2.new.self c.requires.linked (rw c.in-Some.is at c.next.ensures.next).more
     (c.in_ok-below.ensures.links ∙ ((rw c.in-Some.is at c.next.ensures.next).below ∙ ap (links_of c.args.index.now) (sym c.in_ok-below.ensures.frame.rest)))
     c.in_ok-push.ensures c.in_ok-push-2.ensures
+
+pub enter-requires-clause-limit : goal.enter-requires-clause-limit
+enter-requires-clause-limit c = sym c.limit.ensures ∙ c.in_default-limit.is
+
+pub enter-requires-clause-path : goal.enter-requires-clause-path
+enter-requires-clause-path c = ap length c.in_ok-add_cells.ensures.kept ∙ c.requires.path
+
+pub returns-in_default-clause-linked : goal.returns-in_default-clause-linked
+returns-in_default-clause-linked c = c.requires.linked.1
+
+pub returns-in_default-clause-nested : goal.returns-in_default-clause-nested
+returns-in_default-clause-nested c =
+    subst (λ n. AreNested n c.args.stack.now) (sym (ap length c.in_ok-add_cells.ensures.kept ∙ c.requires.path)) c.requires.nested
+
+pub returns-in-Some-limit-clause-linked : goal.returns-in-Some-limit-clause-linked
+returns-in-Some-limit-clause-linked c = c.requires.linked.1
+
+pub returns-in-Some-limit-clause-nested : goal.returns-in-Some-limit-clause-nested
+returns-in-Some-limit-clause-nested c =
+    subst (λ n. AreNested n c.args.stack.now) (sym (ap length c.in_ok-add_cells.ensures.kept ∙ c.requires.path)) c.requires.nested

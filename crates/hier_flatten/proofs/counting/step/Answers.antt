@@ -63,3 +63,9 @@ returns-clause-linked c =
     linked_on c.args.index.now c.args.frame _ c.in_ok-below.below c.args.stack.now c.push.new.self c.push-2.new.self c.requires (rw c.in-Some.is at c.next.ensures.next).more
     (c.in_ok-below.ensures.links ∙ ((rw c.in-Some.is at c.next.ensures.next).below ∙ ap (links_of c.args.index.now) (sym made.rest)))
     c.in_ok-push.ensures c.in_ok-push-2.ensures
+
+pub returns-in_default-clause-linked : goal.returns-in_default-clause-linked
+returns-in_default-clause-linked c = c.requires.1
+
+pub returns-in-Some-limit-clause-linked : goal.returns-in-Some-limit-clause-linked
+returns-in-Some-limit-clause-linked c = c.requires.1
