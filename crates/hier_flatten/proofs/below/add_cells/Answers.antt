@@ -1,4 +1,4 @@
-use Rattle.std.proofs.Common.{◌≡◌, ◌∷◌, [], ◌++◌, ap, ◌∙◌}
+use Rattle.std.proofs.Common.{◌≡◌, ◌∷◌, [], ◌++◌, refl, ap, ◌∙◌}
 use Rattle.hier_flatten.specs.Flat.{Flat, flat_instance, ranges_of}
 use Rattle.hier_flatten.specs.Walk.{scope_of}
 use Rattle.hier_flatten.proofs.SliceLaws.{nothing_left}
@@ -26,3 +26,9 @@ pub returns-clause-cells : goal.returns-clause-cells
 returns-clause-cells c =
     cells_end (flat_instance (ranges_of c.args.growing.now.nets) (scope_of c.args.path.now.items c.args.frame.now)) c.cells.rest.now c.cells.growing _
     (nothing_left c.cells.rest.now c.in_default.len_below) c.cells.invariant.grown
+
+pub cells-init : goal.cells-init
+cells-init c = record { grown = refl; nets = refl; path = refl }
+
+pub returns-clause-kept : goal.returns-clause-kept
+returns-clause-kept c = c.cells.invariant.path

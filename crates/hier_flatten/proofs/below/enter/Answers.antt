@@ -28,3 +28,6 @@ returns-clause-frame c =
     let here : c.ranges-2.result.now ≡ ranges_of c.args.growing.now.nets = c.ranges-2.ensures.ranges ∙ ap (λ (f : Flat). ranges_of f.nets) c.enter.ensures in
     let short : length s.prefix ≡ c.args.frame.now.path = length-take-le c.args.frame.now.path c.args.path.now.items (omega (arith, c.requires.path)) in
     subst (λ r. IsEntered r s c.args.instance.now c.args.inner.now c.in_ok-below.below) here (c.in_ok-below.ensures.frame s.prefix short)
+
+pub returns-clause-links : goal.returns-clause-links
+returns-clause-links c = c.in_ok-below.ensures.links

@@ -1,4 +1,5 @@
-use Rattle.std.proofs.Common.{subst, ◌∙◌}
+use Rattle.std.proofs.Common.{subst, ap, ◌∙◌, length}
+use Rattle.std.proofs.lemmas.List.{length-take-le}
 use Rattle.hier_flatten.specs.Walk.{AreLinked}
 use Rattle.hier_flatten.proofs.WalkLaws.{walk_begun, walk_carried, walk_failed, linked_at_top}
 use Rattle.hier_flatten.proofs.build.add_all.Goals as goal
@@ -30,3 +31,11 @@ pub returns-in-Some-2 : goal.returns-in-Some-2
 returns-in-Some-2 c =
     walk_failed c.args.index.now c.args.top.now c.in-Some.frame c.frames.stack c.pop.new.self c.frames.path.items c.truncate.new.self.items c.frames.growing
     c.in-Some-2.what c.in-Some.ensures c.truncate.ensures.items c.frames.invariant.nested c.frames.invariant.walks (rw c.in-Some-2.is at c.in_ok-what.ensures.goes)
+
+pub step-requires-clause-nested : goal.step-requires-clause-nested
+step-requires-clause-nested c = (rw c.in-Some.ensures at c.frames.invariant.nested).1
+
+pub step-requires-clause-path : goal.step-requires-clause-path
+step-requires-clause-path c =
+    ap length c.truncate.ensures.items
+    ∙ length-take-le c.in-Some.frame.path c.frames.path.items (rw c.in-Some.ensures at c.frames.invariant.nested).0

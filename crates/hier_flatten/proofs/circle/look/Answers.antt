@@ -76,3 +76,9 @@ pub returns-clause-less : goal.returns-clause-less
 returns-clause-less c =
     (goes_on c.args.index.now c.args.marks.now c.args.stack.now c.args.place _ c.instance-item.result c.in-len1-up.len_at_least c.instance-item.is c.requires
     _ c.push-2.new.self refl refl (passed c) c.in_ok-push-2.ensures).1
+
+pub returns-in-Open-clause-met : goal.returns-in-Open-clause-met
+returns-in-Open-clause-met c = λ number met. met
+
+pub returns-clause-met : goal.returns-clause-met
+returns-clause-met c = λ number met. met
