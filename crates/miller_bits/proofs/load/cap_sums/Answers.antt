@@ -1,4 +1,4 @@
-use Rattle.std.proofs.Common.{◌≡◌, ◌<◌, ◌∙◌, ap, arith, length, ℤ, pos, to_z, of_z, w64}
+use Rattle.std.proofs.Common.{◌≡◌, ◌<◌, ◌^◌, ◌∙◌, ap, arith, length, ℤ, pos, ◌+ℤ◌, ◌≤ℤ◌, SFits, to_z, of_z, w64}
 use Rattle.std.proofs.lemmas.Int.{ints}
 use Rattle.xt_model.specs.declared.net.Coupling.{Coupling}
 use Rattle.xt_model.specs.Sound.{IsCap}
@@ -11,8 +11,15 @@ abbrev no_coupling : Coupling
 no_coupling = record { to = record { 0 = 0 }; cap = pos 0 }
 
 -- a capacitance, as it is stored
+kept : (x : ℤ) → IsCap x → to_z w64 (of_z w64 x) ≡ x
+kept x k = omega (arith, ints, k.least, k.most)
+
 stored : (x : ℤ) → IsCap x → IsCap (to_z w64 (of_z w64 x))
-stored x k = record { least = omega (arith, ints, k.least, k.most); most = omega (arith, ints, k.least, k.most) }
+stored x k = rw (kept x k) k
+
+-- one more fits beside a sum so far
+sum_fits : (sum x : ℤ) → pos 0 ≤ℤ sum → sum ≤ℤ pos (2 ^ 50) → pos 0 ≤ℤ x → x ≤ℤ pos (2 ^ 50) → SFits w64 (sum +ℤ to_z w64 (of_z w64 x))
+sum_fits sum x low high x_low x_high = omega (arith, ints, low, high, x_low, x_high)
 
 pub scaled-a_least-requires-clause-cap : goal.scaled-a_least-requires-clause-cap
 scaled-a_least-requires-clause-cap g c =
@@ -43,13 +50,13 @@ loop-index-preserved g c =
     let i = c.loop-index.index in
     let k = cap_at v.design.now v.number.0 v.net.now _ i no_coupling s same c.loop-index-test.true in
     let a_least = cap_turn v.design.now v.number.0 v.net.now c.args.a.now.least ks i no_coupling _ c.scaled-a_least.result _ _ s
-    c.factors-a_low.ensures.few_least same c.loop-index-test.true c.factors-a_low.ensures.least (omega (arith, ints, k.least, k.most)) c.scaled-a_least.ensures.value c.loop-index.invariant.a_least in
+    c.factors-a_low.ensures.few_least same c.loop-index-test.true c.factors-a_low.ensures.least (kept _ k) c.scaled-a_least.ensures.value c.loop-index.invariant.a_least in
     let a_greatest = cap_turn v.design.now v.number.0 v.net.now c.args.a.now.greatest ks i no_coupling _ c.scaled-a_greatest.result _ _ s
-    c.factors-a_low.ensures.few_greatest same c.loop-index-test.true c.factors-a_low.ensures.greatest (omega (arith, ints, k.least, k.most)) c.scaled-a_greatest.ensures.value c.loop-index.invariant.a_greatest in
+    c.factors-a_low.ensures.few_greatest same c.loop-index-test.true c.factors-a_low.ensures.greatest (kept _ k) c.scaled-a_greatest.ensures.value c.loop-index.invariant.a_greatest in
     let b_least = cap_turn v.design.now v.number.0 v.net.now c.args.b.now.least ks i no_coupling _ c.scaled-b_least.result _ _ s
-    c.factors-b_low.ensures.few_least same c.loop-index-test.true c.factors-b_low.ensures.least (omega (arith, ints, k.least, k.most)) c.scaled-b_least.ensures.value c.loop-index.invariant.b_least in
+    c.factors-b_low.ensures.few_least same c.loop-index-test.true c.factors-b_low.ensures.least (kept _ k) c.scaled-b_least.ensures.value c.loop-index.invariant.b_least in
     let b_greatest = cap_turn v.design.now v.number.0 v.net.now c.args.b.now.greatest ks i no_coupling _ c.scaled-b_greatest.result _ _ s
-    c.factors-b_low.ensures.few_greatest same c.loop-index-test.true c.factors-b_low.ensures.greatest (omega (arith, ints, k.least, k.most)) c.scaled-b_greatest.ensures.value c.loop-index.invariant.b_greatest in
+    c.factors-b_low.ensures.few_greatest same c.loop-index-test.true c.factors-b_low.ensures.greatest (kept _ k) c.scaled-b_greatest.ensures.value c.loop-index.invariant.b_greatest in
     record {
       a_least = cap_stored _ _ _ _ _ (stored_64 _ _ c.scaled-a_least.ensures.low c.scaled-a_least.ensures.high a_least.low a_least.high) a_least;
       a_greatest = cap_stored _ _ _ _ _ (stored_64 _ _ c.scaled-a_greatest.ensures.low c.scaled-a_greatest.ensures.high a_greatest.low a_greatest.high) a_greatest;
@@ -116,7 +123,7 @@ scaled-a_least-requires-clause-factor g c = c.factors-a_low.ensures.few_least
 pub overflow_add-a_least : goal.overflow_add-a_least
 overflow_add-a_least g c =
     let sum = c.loop-index.invariant.a_least in
-    omega (arith, ints, sum.low, sum.high, c.loop-index.a_least-is, c.scaled-a_least.ensures.low, c.scaled-a_least.ensures.high)
+    sum_fits _ c.scaled-a_least.result sum.low sum.high c.scaled-a_least.ensures.low c.scaled-a_least.ensures.high
 
 pub scaled-a_greatest-requires-clause-factor : goal.scaled-a_greatest-requires-clause-factor
 scaled-a_greatest-requires-clause-factor g c = c.factors-a_low.ensures.few_greatest
@@ -124,7 +131,7 @@ scaled-a_greatest-requires-clause-factor g c = c.factors-a_low.ensures.few_great
 pub overflow_add-a_greatest : goal.overflow_add-a_greatest
 overflow_add-a_greatest g c =
     let sum = c.loop-index.invariant.a_greatest in
-    omega (arith, ints, sum.low, sum.high, c.loop-index.a_greatest-is, c.scaled-a_greatest.ensures.low, c.scaled-a_greatest.ensures.high)
+    sum_fits _ c.scaled-a_greatest.result sum.low sum.high c.scaled-a_greatest.ensures.low c.scaled-a_greatest.ensures.high
 
 pub scaled-b_least-requires-clause-factor : goal.scaled-b_least-requires-clause-factor
 scaled-b_least-requires-clause-factor g c = c.factors-b_low.ensures.few_least
@@ -132,7 +139,7 @@ scaled-b_least-requires-clause-factor g c = c.factors-b_low.ensures.few_least
 pub overflow_add-b_least : goal.overflow_add-b_least
 overflow_add-b_least g c =
     let sum = c.loop-index.invariant.b_least in
-    omega (arith, ints, sum.low, sum.high, c.loop-index.b_least-is, c.scaled-b_least.ensures.low, c.scaled-b_least.ensures.high)
+    sum_fits _ c.scaled-b_least.result sum.low sum.high c.scaled-b_least.ensures.low c.scaled-b_least.ensures.high
 
 pub scaled-b_greatest-requires-clause-factor : goal.scaled-b_greatest-requires-clause-factor
 scaled-b_greatest-requires-clause-factor g c = c.factors-b_low.ensures.few_greatest
@@ -140,4 +147,4 @@ scaled-b_greatest-requires-clause-factor g c = c.factors-b_low.ensures.few_great
 pub overflow_add-b_greatest : goal.overflow_add-b_greatest
 overflow_add-b_greatest g c =
     let sum = c.loop-index.invariant.b_greatest in
-    omega (arith, ints, sum.low, sum.high, c.loop-index.b_greatest-is, c.scaled-b_greatest.ensures.low, c.scaled-b_greatest.ensures.high)
+    sum_fits _ c.scaled-b_greatest.result sum.low sum.high c.scaled-b_greatest.ensures.low c.scaled-b_greatest.ensures.high
