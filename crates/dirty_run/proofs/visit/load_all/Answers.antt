@@ -123,3 +123,26 @@ returns-clause-loaded c =
       loading = subst (λ k. IsLoading u net (take k items) c.loop-read.pass.view) all c.loop-read.invariant.loading;
       whole = subst (λ ls. length (first_words lists net items) ≡ 8 * length (list_of ls net)) (sym c.requires.lists) count;
     }
+
+pub bounds-reads-read : goal.bounds-reads-read
+bounds-reads-read c = c.loop-read-test.true
+
+pub bounds-loaded-read : goal.bounds-loaded-read
+bounds-loaded-read c =
+    let net = c.args.net.0 in
+    let room = c.requires.room in
+    let kept = c.loop-place.invariant.room in
+    let n = ids_count (reads_of c.args.lists.now net) in
+    let e = ap length c.of-reads.ensures in
+    let in_read = c.loop-read-test.true in
+    let in_place = c.loop-place-test.true in
+    omega (arith, room, kept, n, e, in_read, in_place)
+
+pub load-requires-clause-own : goal.load-requires-clause-own
+load-requires-clause-own c = c.loop-place.invariant.own
+
+pub returns-clause-own : goal.returns-clause-own
+returns-clause-own c = c.loop-read.invariant.own
+
+pub returns-clause-room : goal.returns-clause-room
+returns-clause-room c = c.loop-read.invariant.room
