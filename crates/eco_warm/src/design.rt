@@ -88,7 +88,8 @@ fn check_load(net: NetId, after: &Net) -> Result<(), EditFault>
     Ok(())
 }
 
-/// Refuses two nets of which one has a load past 2^46 aF with every coupling counted twice, the first before the second.
+/// Refuses two nets of which one has a load past 2^46 aF with every coupling counted twice, the first before the
+/// second.
 fn check_loads(a: NetId, first: &Net, b: NetId, second: &Net) -> Result<(), EditFault>
     requires first { length first.now.couplings ≤ most_couplings }
     requires second { length second.now.couplings ≤ most_couplings }

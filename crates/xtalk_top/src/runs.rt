@@ -64,8 +64,8 @@ fn readers_for(alloc: Global, lists: &ReadLists, runs: Runs) -> Result<Option<Re
     }
 }
 
-/// A run from a fitting start, by readers of the read lists where it is by marks and they are known. Fails only for want
-/// of memory.
+/// A run from a fitting start, by readers of the read lists where it is by marks and they are known. Fails only for
+/// want of memory.
 fn run_from<R: Threads + Sync, G: Gate>(
     rt: &R,
     alloc: Global,
