@@ -354,8 +354,10 @@ def completed(at):
         ("eco", ""): "d.xt sub", ("eco", "d.xt", ""): "sub t.edits", ("eco", "d.xt", "t.edits", ""): "--workers --miller",
         ("replay", "d.xt", "--o"): "--order", ("gen", ""): "--number --nets --workers", ("link", "--k"): "",
     }
+    rows = {("./xtalk", *words): wanted for words, wanted in rows.items()}
+    rows["xtalk", ""] = "report link solve eco replay gen"
     for words, wanted in rows.items():
-        run = subprocess.run(["bash", "-c", script, "bash", "./xtalk", *words], cwd=folder, capture_output=True, text=True)
+        run = subprocess.run(["bash", "-c", script, "bash", *words], cwd=folder, capture_output=True, text=True)
         offered = sorted(run.stdout.replace(" ", "_").split())
         assert offered == sorted(wanted.split()) and not run.stderr, (words, offered, run.stderr)
 

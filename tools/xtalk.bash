@@ -3,10 +3,12 @@
 # The words that may come next: commands, options that are not there yet, values, and files by what is to come.
 _xtalk() {
     local now=${COMP_WORDS[COMP_CWORD]} before=${COMP_WORDS[COMP_CWORD - 1]} command=${COMP_WORDS[1]-}
-    local options files=() word number=0 skip=
+    local commands='report link solve eco replay gen' options files=() word number=0 skip=
     COMPREPLY=()
     if [ "$COMP_CWORD" -eq 1 ]; then
-        mapfile -t COMPREPLY < <(compgen -W 'report link solve eco replay gen --help' -- "$now")
+        # Only the launcher takes --help: it is called by a path, the installed program by its name.
+        [[ ${COMP_WORDS[0]} != */* ]] || commands+=' --help'
+        mapfile -t COMPREPLY < <(compgen -W "$commands" -- "$now")
         return
     fi
     case $command in
