@@ -1,0 +1,7 @@
+mod Below
+mod Listed
+mod Lists
+mod Live
+mod Marked
+mod Wires
+mod Worked
