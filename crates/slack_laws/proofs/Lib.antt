@@ -3,5 +3,6 @@ mod Listed
 mod Lists
 mod Live
 mod Marked
+mod Switching
 mod Wires
 mod Worked

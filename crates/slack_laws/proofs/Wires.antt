@@ -21,7 +21,7 @@ use Rattle.run_laws.specs.Laws.{LiesInLive, LieWithin}
 
 -- ---- overlaps
 -- ranges that reach at least as far as two that meet
-meet_around : (period : Option ℤ) (a0 a1 b0 b1 c0 c1 f0 f1 : ℤ) → c0 ≤ℤ a0 → a1 ≤ℤ c1 → f0 ≤ℤ b0 → b1 ≤ℤ f1 → Meet period a0 a1 b0 b1 → Meet period c0 c1 f0 f1
+pub meet_around : (period : Option ℤ) (a0 a1 b0 b1 c0 c1 f0 f1 : ℤ) → c0 ≤ℤ a0 → a1 ≤ℤ c1 → f0 ≤ℤ b0 → b1 ≤ℤ f1 → Meet period a0 a1 b0 b1 → Meet period c0 c1 f0 f1
 meet_around None a0 a1 b0 b1 c0 c1 f0 f1 c a f b m = record { starts = omega (arith, ints, c, b, m.starts); ends = omega (arith, ints, a, f, m.ends) }
 meet_around (Some t) a0 a1 b0 b1 c0 c1 f0 f1 c a f b m = (m.0, moved a0 a1 b0 b1 c0 c1 f0 f1 (m.0 *ℤ t) c a f b m.1) where
   moved : (a0 a1 b0 b1 c0 c1 f0 f1 move : ℤ) → c0 ≤ℤ a0 → a1 ≤ℤ c1 → f0 ≤ℤ b0 → b1 ≤ℤ f1 → MeetMoved a0 a1 b0 b1 move → MeetMoved c0 c1 f0 f1 move

@@ -1,3 +1,4 @@
 pub mod Arrivals
 pub mod Laws
 pub mod Meetings
+pub mod Noise

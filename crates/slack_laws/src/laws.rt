@@ -3,6 +3,7 @@
 ghost use Rattle.slack_laws.specs.Laws.{ConsistentKeepChecks, ConsistentKeepKinds};
 ghost use Rattle.slack_laws.specs.Laws.{ConsistentLeaveSlack, ConsistentLeaveSlacks};
 ghost use Rattle.slack_laws.specs.Meetings.{MeetingsAreMarked};
+ghost use Rattle.slack_laws.specs.Noise.{SwitchingHasPeaks};
 
 /// Where words can hold the envelope, transitions that explain one another leave no less at a check than its slack in
 /// the greatest windows. So where no slack there is below 0, or the worst of a kind is not, they keep all checks, or
@@ -18,4 +19,10 @@ pub fn consistent_keep_checks()
 /// couplings tells.
 pub fn marks_of_meetings()
     ensures { MeetingsAreMarked }
+{}
+
+/// Of what couplings of a net transitions that explain one another switch at one moment, no more capacitance than the
+/// peak in the greatest windows.
+pub fn switching_has_peaks()
+    ensures { SwitchingHasPeaks }
 {}
