@@ -1,5 +1,5 @@
 ghost use Rattle.std.specs.Prelude.{◌≡◌, ◌<◌};
-ghost use Rattle.drawn_numbers.specs.Draws.{next, answer};
+ghost use Rattle.drawn_numbers.specs.Draws.{next, after, answer};
 
 const FACTOR: u128 = 6364136223846793005;
 
@@ -29,6 +29,15 @@ impl Source {
         ensures { self.new.state ≡ next self.old.state }
     {
         self.state = ((u128::from(self.state) * FACTOR + STEP) % MODULUS) as u64;
+    }
+
+    /// Moves the source on by this count of draws, of which none is read. Takes time in proportion to the count.
+    pub fn skip(&mut self, count: u64)
+        ensures { self.new.state ≡ after self.old.state count }
+    {
+        for i in 0..count {
+            self.step();
+        }
     }
 
     /// The next number below `most`.
