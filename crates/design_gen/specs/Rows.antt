@@ -28,15 +28,20 @@ pub record Seed : Type 0 where
   pub number : ℕ
   pub nets : ℕ
 
--- what is drawn for a design: the windows of its sources, the driver of each input pin, the pins on each net and the
--- place of each pin there, and the couplings of each net
-pub record AreDrawn (number nets : ℕ) (windows : List Quad) (drivers : List ℕ) (sinks : List (List ℕ))
-    (places : List ℕ) (couplings : List (List Coupling)) : Type 0 where
+-- what is drawn for the sources and the input pins of a design: the windows of its sources, the driver of each pin,
+-- the pins on each net and the place of each pin there
+pub record AreSourcesAndPins (number nets : ℕ) (windows : List Quad) (drivers : List ℕ) (sinks : List (List ℕ))
+    (places : List ℕ) : Type 0 where
   pub count : IsCount nets
   pub are_windows : windows ≡ each_below (λ n. window_by (drawn number n 2000)) (sources nets)
   pub are_drivers : drivers ≡ each_below (driver_of number nets) (pins nets)
   pub are_sinks : HoldPins sinks (driver_of number nets) (pins nets)
   pub sink_rows : length sinks ≡ nets
   pub are_places : places ≡ each_below (place_of (driver_of number nets)) (pins nets)
+
+-- what is drawn for a design: that, and the couplings of each net
+pub record AreDrawn (number nets : ℕ) (windows : List Quad) (drivers : List ℕ) (sinks : List (List ℕ))
+    (places : List ℕ) (couplings : List (List Coupling)) : Type 0 where
+  pub parts : AreSourcesAndPins number nets windows drivers sinks places
   pub are_couplings : HoldCouplings couplings (couples_of number nets)
   pub coupling_rows : length couplings ≡ nets

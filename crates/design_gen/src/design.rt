@@ -16,6 +16,7 @@ use crate::nets::{couplings_of, net_name, sinks};
 use crate::shares::{joined, part};
 use crate::tables::tables;
 use std::alloc::{AllocError, Global};
+use std::mem;
 use std::thread::{Threads, join};
 use xt_model::{BuildFault, Design, GivenPair, Net, NoMemory, Row};
 
@@ -40,27 +41,35 @@ fn net(alloc: Global, drawn: &Drawn, number: u32) -> Result<Net, AllocError>
     })
 }
 
-/// The nets from number `from` to before number `to`.
-fn nets_within(alloc: Global, drawn: &Drawn, from: u32, to: u32) -> Result<Vec<Net>, AllocError>
+/// The nets from number `from` to before number `to`, in a list with room for `room` nets.
+fn nets_within(
+    alloc: Global,
+    drawn: &Drawn,
+    from: u32,
+    to: u32,
+    room: u32,
+) -> Result<Vec<Net>, AllocError>
     requires order { from ≤ to }
     requires end { to ≤ drawn.now.nets }
     ensures { IfOk result (λ nets.
         nets.items ≡ drop from (each_below (generated_net drawn.now.number drawn.now.nets) to)) }
 {
-    let mut nets = Vec::with_capacity(alloc, (to - from) as usize)?;
+    let mut nets = Vec::with_capacity(alloc, room as usize)?;
     for i in from..to {
         nets.push(net(alloc, drawn, i)?)?;
     }
     Ok(nets)
 }
 
-/// The nets from number `from` to before number `to`, a share of them made by each of this many threads.
+/// The nets from number `from` to before number `to`, in a list with room for `room` nets, a share of them made by each
+/// of this many threads.
 fn nets_by<R: Threads + Sync>(
     rt: &R,
     alloc: Global,
     drawn: &Drawn,
     from: u32,
     to: u32,
+    room: u32,
     shares: u32,
 ) -> Result<Vec<Net>, AllocError>
     requires order { from ≤ to }
@@ -69,7 +78,7 @@ fn nets_by<R: Threads + Sync>(
         nets.items ≡ drop from (each_below (generated_net drawn.now.number drawn.now.nets) to)) }
 {
     if shares <= 1 {
-        return nets_within(alloc, drawn, from, to);
+        return nets_within(alloc, drawn, from, to, room);
     }
     let some = shares / 2;
     let rest = shares - some;
@@ -80,12 +89,12 @@ fn nets_by<R: Threads + Sync>(
             requires { IsSync R.row × (from ≤ middle) × (middle ≤ drawn.now.nets) }
             ensures { IfOk result (λ nets. nets.items
                 ≡ drop from (each_below (generated_net drawn.entry.now.number drawn.entry.now.nets) middle)) }
-        { nets_by(rt, alloc, drawn, from, middle, some) },
+        { nets_by(rt, alloc, drawn, from, middle, room, some) },
         move || -> Result<Vec<Net>, AllocError>
             requires { IsSync R.row × (middle ≤ to) × (to ≤ drawn.now.nets) }
             ensures { IfOk result (λ nets. nets.items
                 ≡ drop middle (each_below (generated_net drawn.entry.now.number drawn.entry.now.nets) to)) }
-        { nets_by(rt, alloc, drawn, middle, to, rest) },
+        { nets_by(rt, alloc, drawn, middle, to, to - middle, rest) },
     );
     joined(left, right)
 }
@@ -105,28 +114,44 @@ fn with_nets(alloc: Global, nets: Vec<Net>) -> Result<Design, NoMemory>
     }
 }
 
+/// The generated design, of its nets.
+fn with_generated(
+    alloc: Global,
+    number: u64,
+    count: u32,
+    nets: Vec<Net>,
+) -> Result<Design, NoMemory>
+    requires count { IsCount count }
+    requires nets { nets.items ≡ each_below (generated_net number count) count }
+    ensures design { IfOk result (λ d. d ≡ generated number count) }
+    ensures sound { IfOk result IsSound }
+{
+    with_nets(alloc, nets)
+}
+
 /// All nets of the design.
 fn all_nets(alloc: Global, number: u64, count: u32) -> Result<Vec<Net>, AllocError>
     requires { IsCount count }
     ensures { IfOk result (λ nets. nets.items ≡ each_below (generated_net number count) count) }
 {
     let drawn = Drawn::new(alloc, number, count)?;
-    nets_within(alloc, &drawn, 0, count)
+    nets_within(alloc, &drawn, 0, count, count)
 }
 
-/// All nets of the design, a share of them by each of this many threads.
+/// All nets of the design, a share of them by each of this many threads, and what was drawn for them.
 fn all_nets_by<R: Threads + Sync>(
     rt: &R,
     alloc: Global,
     number: u64,
     count: u32,
     shares: u32,
-) -> Result<Vec<Net>, AllocError>
+) -> Result<(Drawn, Vec<Net>), AllocError>
     requires { IsCount count }
-    ensures { IfOk result (λ nets. nets.items ≡ each_below (generated_net number count) count) }
+    ensures { IfOk result (λ made. made.1.items ≡ each_below (generated_net number count) count) }
 {
-    let drawn = Drawn::new(alloc, number, count)?;
-    nets_by(rt, alloc, &drawn, 0, count, shares)
+    let drawn = Drawn::new_by(rt, alloc, number, count, shares)?;
+    let nets = nets_by(rt, alloc, &drawn, 0, count, count, shares)?;
+    Ok((drawn, nets))
 }
 
 /// The design of this number and of 1 to 100,000 nets: a tenth of them sources with drawn windows, the others
@@ -137,11 +162,12 @@ pub fn generate(alloc: Global, number: u64, nets: u32) -> Result<Design, NoMemor
     ensures design { IfOk result (λ d. d ≡ generated number nets) }
     ensures sound { IfOk result IsSound }
 {
-    let nets = all_nets(alloc, number, nets)?;
-    with_nets(alloc, nets)
+    let made = all_nets(alloc, number, nets)?;
+    with_generated(alloc, number, nets, made)
 }
 
-/// The design that [`generate`] gives, with its nets made by this many threads, each a share of them.
+/// The design that [`generate`] gives, by this many threads: at most two of them draw, and each makes a share of the
+/// nets.
 pub fn generate_by<R: Threads + Sync>(
     rt: &R,
     alloc: Global,
@@ -153,6 +179,18 @@ pub fn generate_by<R: Threads + Sync>(
     ensures design { IfOk result (λ d. d ≡ generated number nets) }
     ensures sound { IfOk result IsSound }
 {
-    let nets = all_nets_by(rt, alloc, number, nets, workers)?;
-    with_nets(alloc, nets)
+    let (drawn, made) = all_nets_by(rt, alloc, number, nets, workers)?;
+    if workers <= 1 {
+        mem::drop(drawn);
+        return with_generated(alloc, number, nets, made);
+    }
+    let (_, design) = join(
+        rt,
+        move || mem::drop(drawn),
+        move || -> Result<Design, NoMemory>
+            requires { IsCount nets × (made.items ≡ each_below (generated_net number nets) nets) }
+            ensures { IfOk result (λ d. (d ≡ generated number nets) × IsSound d) }
+        { with_generated(alloc, number, nets, made) },
+    );
+    design
 }

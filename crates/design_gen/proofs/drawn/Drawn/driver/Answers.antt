@@ -8,13 +8,13 @@ pub index-requires : goal.index-requires
 index-requires c =
     let P : Seed → Type 0 = λ s. c.args.pin < pins s.nets in
     let h = subst P (sym c.self.view_is) c.requires in
-    let l = as_many c.self.inside.number c.self.inside.nets c.self.invariant.count c.self.inside.drivers.items c.self.invariant.are_drivers in
+    let l = as_many c.self.inside.number c.self.inside.nets c.self.invariant.parts.count c.self.inside.drivers.items c.self.invariant.parts.are_drivers in
     omega (arith, l, h)
 
 pub returns : goal.returns
 returns c =
     let P : Seed → Type 0 = λ s. c.args.pin < pins s.nets in
     let Q : Seed → Type 0 = λ s. c.index.result.now ≡ driver_of s.number s.nets c.args.pin in
-    let e = driver_at c.self.inside.number c.self.inside.nets c.self.invariant.count c.self.inside.drivers.items c.self.invariant.are_drivers c.args.pin
+    let e = driver_at c.self.inside.number c.self.inside.nets c.self.invariant.parts.count c.self.inside.drivers.items c.self.invariant.parts.are_drivers c.args.pin
     c.index.result.now (subst P (sym c.self.view_is) c.requires) in
     subst Q c.self.view_is (c.index.ensures ∙ e)

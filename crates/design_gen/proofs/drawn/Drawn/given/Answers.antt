@@ -12,6 +12,6 @@ use Rattle.design_gen.proofs.drawn.Drawn.given.Goals as goal
 pub returns : goal.returns
 returns c =
     let Q : Seed → Type 0 = λ s. c.given.result ≡ given_of s.number s.nets c.args.net in
-    let w = c.deref.ensures.value ∙ c.self.invariant.are_windows in
+    let w = c.deref.ensures.value ∙ c.self.invariant.parts.are_windows in
     let e = window_there (λ n. window_by (drawn c.self.inside.number n 2000)) (sources c.self.inside.nets) c.args.net in
     subst Q c.self.view_is (c.given.ensures ∙ (ap (λ ws. both_edges (unwrap_or (slice_get ws c.args.net) bottom)) w ∙ ap both_edges e))

@@ -11,10 +11,10 @@ are c =
     let P : Seed → Type 0 = λ s. c.args.net < s.nets in
     let Q : Seed → Type 0 = λ s. c.as_slice.result.now ≡ pins_on (driver_of s.number s.nets) c.args.net (pins s.nets) in
     let h = subst P (sym c.self.view_is) c.requires in
-    let l = c.self.invariant.sink_rows in
+    let l = c.self.invariant.parts.sink_rows in
     let there : c.args.net < length (map (λ r. r.items) c.self.inside.sinks.rows.items) = omega (arith, h, l) in
     let row = row_is (λ r. r.items) c.self.inside.sinks.rows.items c.args.net c.index.result.now c.as_slice.result.now there c.as_slice.ensures c.index.ensures in
-    subst Q c.self.view_is (row ∙ c.self.invariant.are_sinks.each c.args.net there)
+    subst Q c.self.view_is (row ∙ c.self.invariant.parts.are_sinks.each c.args.net there)
 
 pub returns-clause-value : goal.returns-clause-value
 returns-clause-value c = are c
