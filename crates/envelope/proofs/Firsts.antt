@@ -1,8 +1,9 @@
 -- The first of a list of quantities that passes its limit.
 use Rattle.std.proofs.Common.{◌≡◌, ℕ, zero, suc, ◌+◌, ◌<◌, Bool, true, inl, inr, refl, sym, subst, ◌∙◌, List, [], ◌∷◌, ◌++◌, length, ◌^◌, ap, ℤ, pos, ◌+ℤ◌, ◌≤ℤ◌, to_z, of_z, w64, arith}
-use Rattle.std.specs.Prelude.{Option, Some, None, Result, not, cond, slice_index}
+use Rattle.std.specs.Prelude.{Option, Some, None, Result, Ok, Err, not, cond, slice_index}
 use Rattle.std.specs.Int.{w128}
 use Rattle.std.specs.Option.{option_or}
+use Rattle.std.specs.Result.{is_ok}
 use Rattle.std.specs.List.{AllPass, flat_map}
 use Rattle.std.proofs.lemmas.Int.{ints}
 use Rattle.std.proofs.lemmas.Bool.{cases_lt, cases_Bool}
@@ -15,9 +16,9 @@ use Rattle.xt_model.specs.declared.net.Net.{Net}
 use Rattle.xt_model.specs.Miller.{MillerNumbers}
 use Rattle.xt_model.specs.Quads.{IsBound}
 use Rattle.xt_meaning.specs.Wires.{slew_growth}
-use Rattle.xt_meaning.specs.Envelope.{Test, TimeAt, SlewAt, keeps, greatest_wire, sink_tests, all_sink_tests, quad_tests, first_over}
+use Rattle.xt_meaning.specs.Envelope.{Test, TimeAt, SlewAt, keeps, sink_tests, all_sink_tests, quad_tests, first_over}
 use Rattle.envelope.specs.declared.fault.Excess.{Excess}
-use Rattle.envelope.specs.Firsts.{passed_test, driver_tests, pair_tests}
+use Rattle.envelope.specs.Firsts.{passed_test, driver_tests, wire_tests, pair_tests}
 
 abbrev Kept : Test → Type 0
 Kept t = keeps t ≡ true
@@ -49,6 +50,11 @@ none_over [] h = refl
 none_over (t ∷ ts) h =
     let P : Bool → Type 0 = λ b. None ≡ cond (not b) (Some t) (first_over ts) in
     subst P (sym (All-head Kept t ts h)) (none_over ts (All-tail Kept t ts h))
+
+-- where a result is good, no quantity is past its limit
+pub none_passed : (r : Result (Unit {0}) Excess) (o : Option Test) → true ≡ is_ok r → passed_test r ≡ o → None ≡ o
+none_passed (Ok u) o good e = e
+none_passed (Err x) o good e = absurd (cc)
 
 -- ---- lists of many nets
 pub first_of_nets : (f : ℕ → List Test) (ns : List ℕ) (i : ℕ) (t : Test) → i < length ns → ((k : ℕ) → k < i → AllPass keeps (f (slice_index ns k))) → Some t ≡ first_over (f (slice_index ns i))
@@ -100,17 +106,17 @@ driver_stopped n q a b t is_a is_b first second =
     let Q : ℤ → Type 0 = λ x. Some t ≡ first_over (TimeAt n q.tlo ∷ TimeAt n x ∷ last) in
     subst Q is_b (subst P is_a three)
 
-pub sink_tested : (m : MillerNumbers) (n : ℕ) (net : Net) (q : Quad) (sink : ℕ) (a b : ℤ) (r : Result (Unit {0}) Excess) → a ≡ q.thi +ℤ greatest_wire m net sink → b ≡ q.shi +ℤ slew_growth (greatest_wire m net sink)
-    → None ≡ first_over (TimeAt n a ∷ []) → passed_test r ≡ first_over (SlewAt n b ∷ []) → passed_test r ≡ first_over (sink_tests m n net q sink)
-sink_tested m n net q sink a b r is_a is_b first last =
+pub wire_tested : (n : ℕ) (q : Quad) (w a b : ℤ) (r : Result (Unit {0}) Excess) → a ≡ q.thi +ℤ w → b ≡ q.shi +ℤ slew_growth w
+    → None ≡ first_over (TimeAt n a ∷ []) → passed_test r ≡ first_over (SlewAt n b ∷ []) → passed_test r ≡ first_over (wire_tests n q w)
+wire_tested n q w a b r is_a is_b first last =
     let two : passed_test r ≡ first_over (TimeAt n a ∷ SlewAt n b ∷ []) = last ∙ over_on (TimeAt n a ∷ []) (SlewAt n b ∷ []) first in
     let P : ℤ → Type 0 = λ x. passed_test r ≡ first_over (TimeAt n x ∷ SlewAt n b ∷ []) in
-    let Q : ℤ → Type 0 = λ x. passed_test r ≡ first_over (TimeAt n (q.thi +ℤ greatest_wire m net sink) ∷ SlewAt n x ∷ []) in
+    let Q : ℤ → Type 0 = λ x. passed_test r ≡ first_over (TimeAt n (q.thi +ℤ w) ∷ SlewAt n x ∷ []) in
     subst Q is_b (subst P is_a two)
 
-pub sink_stopped : (m : MillerNumbers) (n : ℕ) (net : Net) (q : Quad) (sink : ℕ) (a : ℤ) (t : Test) → a ≡ q.thi +ℤ greatest_wire m net sink → Some t ≡ first_over (TimeAt n a ∷ []) → Some t ≡ first_over (sink_tests m n net q sink)
-sink_stopped m n net q sink a t is_a first =
-    let last = SlewAt n (q.shi +ℤ slew_growth (greatest_wire m net sink)) ∷ [] in
+pub wire_stopped : (n : ℕ) (q : Quad) (w a : ℤ) (t : Test) → a ≡ q.thi +ℤ w → Some t ≡ first_over (TimeAt n a ∷ []) → Some t ≡ first_over (wire_tests n q w)
+wire_stopped n q w a t is_a first =
+    let last = SlewAt n (q.shi +ℤ slew_growth w) ∷ [] in
     let P : ℤ → Type 0 = λ x. Some t ≡ first_over (TimeAt n x ∷ last) in
     subst P is_a (over_at (TimeAt n a ∷ []) last t first)
 
@@ -129,12 +135,14 @@ pair_stopped m n net o p t there rise =
 pub kept : (x y : ℤ) → IsBound x → y ≡ to_z w64 (of_z w64 x) → to_z w128 (of_z w128 y) ≡ x
 kept x y h e = omega (arith, ints, h.low, h.high, e)
 
-pub arrival_kept : (x y wire w : ℤ) → IsBound x → y ≡ to_z w64 (of_z w64 x) → pos 0 ≤ℤ wire → wire ≤ℤ pos (2 ^ 105) → wire ≡ w → to_z w128 (of_z w128 (to_z w128 (of_z w128 y) +ℤ to_z w128 (of_z w128 wire))) ≡ x +ℤ w
-arrival_kept x y wire w h e low high is = omega (arith, ints, h.low, h.high, e, low, high, is)
+pub wire_kept : (wire : ℤ) → pos 0 ≤ℤ wire → wire ≤ℤ pos (2 ^ 105) → to_z w128 (of_z w128 wire) ≡ wire
+wire_kept wire low high = omega (arith, ints, low, high)
 
-pub slew_kept : (x y wire w more : ℤ) → IsBound x → y ≡ to_z w64 (of_z w64 x) → pos 0 ≤ℤ wire → wire ≤ℤ pos (2 ^ 105) → wire ≡ w
-    → pos 0 ≤ℤ more → more ≤ℤ pos (2 ^ 107) → more ≡ slew_growth (to_z w128 (of_z w128 wire)) → to_z w128 (of_z w128 (to_z w128 (of_z w128 y) +ℤ to_z w128 (of_z w128 more))) ≡ x +ℤ slew_growth w
-slew_kept x y wire w more h e low high is more_low more_high more_is =
-    let k : to_z w128 (of_z w128 wire) ≡ w = omega (arith, ints, low, high, is) in
-    let g : more ≡ slew_growth w = more_is ∙ ap (λ z. slew_growth z) k in
+pub arrival_kept : (x y wire : ℤ) → IsBound x → y ≡ to_z w64 (of_z w64 x) → pos 0 ≤ℤ wire → wire ≤ℤ pos (2 ^ 105) → to_z w128 (of_z w128 (to_z w128 (of_z w128 y) +ℤ to_z w128 (of_z w128 wire))) ≡ x +ℤ wire
+arrival_kept x y wire h e low high = omega (arith, ints, h.low, h.high, e, low, high)
+
+pub slew_kept : (x y wire more : ℤ) → IsBound x → y ≡ to_z w64 (of_z w64 x) → pos 0 ≤ℤ wire → wire ≤ℤ pos (2 ^ 105)
+    → pos 0 ≤ℤ more → more ≤ℤ pos (2 ^ 107) → more ≡ slew_growth (to_z w128 (of_z w128 wire)) → to_z w128 (of_z w128 (to_z w128 (of_z w128 y) +ℤ to_z w128 (of_z w128 more))) ≡ x +ℤ slew_growth wire
+slew_kept x y wire more h e low high more_low more_high more_is =
+    let g : more ≡ slew_growth wire = more_is ∙ ap (λ z. slew_growth z) (wire_kept wire low high) in
     omega (arith, ints, h.low, h.high, e, more_low, more_high, g)

@@ -4,3 +4,4 @@ mod Agreement
 pub mod Turns
 pub mod Labels
 mod Anew
+mod Wires

@@ -1,9 +1,11 @@
 -- A window that lies within another one keeps the limits that this one keeps.
-use Rattle.std.proofs.Common.{◌≡◌, ℕ, zero, suc, ◌<◌, inl, inr, Bool, true, refl, sym, subst, ◌∙◌, [], ◌∷◌, length, map, ℤ, pos, neg_ℤ, ◌+ℤ◌, ◌≤ℤ◌, arith}
+use Rattle.std.proofs.Common.{◌≡◌, ℕ, zero, suc, ◌<◌, inl, inr, Bool, true, refl, sym, subst, ◌∙◌, [], ◌∷◌, ◌++◌, length, map, ℤ, pos, neg_ℤ, ◌+ℤ◌, ◌≤ℤ◌, arith}
 use Rattle.std.specs.Prelude.{int_le, Option, Some, None, Ok, cond}
 use Rattle.std.proofs.lemmas.Bool.{cases_Bool}
 use Rattle.std.proofs.lemmas.Int.{ints, clamps}
-use Rattle.std.proofs.lemmas.List.Elements.{All-nil, All-cons}
+use Rattle.std.specs.List.{AllPass, slice_get}
+use Rattle.std.proofs.lemmas.Option.{slice_get_cases}
+use Rattle.std.proofs.lemmas.List.Elements.{All-nil, All-cons, All-head, All-tail}
 use Rattle.xt_model.specs.declared.quad.Quad.{Quad}
 use Rattle.xt_model.specs.declared.quad.Pair.{Pair}
 use Rattle.xt_model.specs.declared.net.Net.{Net}
@@ -11,12 +13,15 @@ use Rattle.xt_model.specs.Quads.{is_live, IsLive, IsWithin, IsInRange, IsPairInR
 use Rattle.xt_model.specs.Limits.{most_time, most_slew}
 use Rattle.xt_model.specs.Miller.{MillerNumbers}
 use Rattle.xt_model.specs.Parts.{Parts}
-use Rattle.xt_model.specs.Sound.{IsSoundNet, IsTime}
+use Rattle.xt_model.specs.Sound.{IsSound, IsSoundNet, IsTime}
 use Rattle.xt_meaning.specs.Wires.{slew_growth}
 use Rattle.xt_meaning.specs.Envelope.{Test, TimeAt, SlewAt, keeps, greatest_wire, sink_tests, all_sink_tests, quad_tests, first_over}
-use Rattle.xt_meaning.proofs.Order.{true_both, test_from_le, ordered_from_live, live_mono, join_left}
+use Rattle.xt_meaning.proofs.Order.{true_both, both_true, test_from_le, le_from_test, ordered_from_live, live_mono, join_left}
+use Rattle.xt_meaning.proofs.Growth.{slew_growth_mono}
 use Rattle.xt_meaning.proofs.Room.{wire_delay_natural, IsAcceptedQuad, accepted_quad}
-use Rattle.envelope.specs.Firsts.{pair_tests}
+use Rattle.miller_bits.proofs.Sums.{found}
+use Rattle.envelope.specs.Firsts.{driver_tests, wire_tests, pair_tests}
+use Rattle.envelope.specs.Longest.{AreWiresToSinksAtMost, AreWiresAtMost}
 use Rattle.envelope.proofs.Firsts.{all_passed, none_over, over_on, pair_tested}
 
 abbrev Kept : Test → Type 0
@@ -27,6 +32,14 @@ time_keeps n t h = true_both (int_le (neg_ℤ most_time) t) (int_le t most_time)
 
 slew_keeps : (n : ℕ) (s : ℤ) → s ≤ℤ most_slew → Kept (SlewAt n s)
 slew_keeps n s h = test_from_le s most_slew h
+
+time_kept : (n : ℕ) (t : ℤ) → Kept (TimeAt n t) → IsTime t
+time_kept n t h =
+    let p = both_true (int_le (neg_ℤ most_time) t) (int_le t most_time) h in
+    record { least = le_from_test (neg_ℤ most_time) t p.0; most = le_from_test t most_time p.1 }
+
+slew_kept : (n : ℕ) (s : ℤ) → Kept (SlewAt n s) → s ≤ℤ most_slew
+slew_kept n s h = le_from_test s most_slew h
 
 -- what the sinks below a number keep, from the time and the slew at each
 sinks_keep : (m : MillerNumbers) (n : ℕ) (net : Net) (q : Quad) (sinks : ℕ)
@@ -59,12 +72,13 @@ live_keeps d n own net q r s w live a =
     (All-cons Kept (TimeAt n q.thi) (SlewAt n q.shi ∷ sinks) thi
     (All-cons Kept (SlewAt n q.shi) sinks shi (all_passed sinks all))))
 
-quad_keeps : (d : Parts) (n own : ℕ) (net : Net) (q r : Quad) → IsSoundNet d own net → IsWithin q r → None ≡ first_over (quad_tests d.miller n net r) → None ≡ first_over (quad_tests d.miller n net q)
-quad_keeps d n own net q r s w h =
+-- what a window keeps that lies within one of which the limits are known where it is live
+quad_kept : (d : Parts) (n own : ℕ) (net : Net) (q r : Quad) → IsSoundNet d own net → IsWithin q r → (IsLive r → IsAcceptedQuad d.miller net r) → None ≡ first_over (quad_tests d.miller n net q)
+quad_kept d n own net q r s w accepted =
     let ts = TimeAt n q.tlo ∷ TimeAt n q.thi ∷ SlewAt n q.shi ∷ all_sink_tests d.miller n net q (length net.sinks) in
     let P : Bool → Type 0 = λ b. None ≡ first_over (cond b ts []) in
     elim (cases_Bool (is_live q)) [
-      | inl live ↦ subst P (sym live) (live_keeps d n own net q r s w live (accepted_quad d.miller n net r (live_mono q r w live) (all_passed (quad_tests d.miller n net r) h)))
+      | inl live ↦ subst P (sym live) (live_keeps d n own net q r s w live (accepted (live_mono q r w live)))
       | inr dead ↦ subst P (sym dead) refl
     ]
 
@@ -83,8 +97,45 @@ join_in_range p h =
     }
 
 -- where the least window that both of a net lie within keeps the limits, both do
+pair_kept : (d : Parts) (n own : ℕ) (net : Net) (o : Option Net) (p : Pair) → o ≡ Some net → IsSoundNet d own net
+    → (IsLive (join_of p.rise p.fall) → IsAcceptedQuad d.miller net (join_of p.rise p.fall)) → None ≡ first_over (pair_tests d.miller n o p)
+pair_kept d n own net o p there s h =
+    let both = join_of p.rise p.fall in
+    pair_tested d.miller n net o p (Ok tt) there (quad_kept d n own net p.rise both s (join_left p.rise p.fall) h) (quad_kept d n own net p.fall both s (join_right p.rise p.fall) h)
+
 pub pair_keeps : (d : Parts) (n own : ℕ) (net : Net) (o : Option Net) (p : Pair) → o ≡ Some net → IsSoundNet d own net
     → None ≡ first_over (quad_tests d.miller n net (join_of p.rise p.fall)) → None ≡ first_over (pair_tests d.miller n o p)
 pair_keeps d n own net o p there s h =
     let both = join_of p.rise p.fall in
-    pair_tested d.miller n net o p (Ok tt) there (quad_keeps d n own net p.rise both s (join_left p.rise p.fall) h) (quad_keeps d n own net p.fall both s (join_right p.rise p.fall) h)
+    pair_kept d n own net o p there s (λ live. accepted_quad d.miller n net both live (all_passed (quad_tests d.miller n net both) h))
+
+-- behind a wire that is at least as long as each of a net's a window keeps the limits that it keeps behind these
+behind_accepted : (m : MillerNumbers) (n : ℕ) (net : Net) (q : Quad) (wire : ℤ) → AreWiresToSinksAtMost m net (length net.sinks) wire → None ≡ first_over (driver_tests n q ++ wire_tests n q wire)
+    → IsAcceptedQuad m net q
+behind_accepted m n net q wire longest h =
+    let k1 : AllPass keeps (TimeAt n q.tlo ∷ TimeAt n q.thi ∷ SlewAt n q.shi ∷ TimeAt n (q.thi +ℤ wire) ∷ SlewAt n (q.shi +ℤ slew_growth wire) ∷ []) = all_passed (driver_tests n q ++ wire_tests n q wire) h in
+    let k2 = All-tail Kept (TimeAt n q.tlo) (TimeAt n q.thi ∷ SlewAt n q.shi ∷ TimeAt n (q.thi +ℤ wire) ∷ SlewAt n (q.shi +ℤ slew_growth wire) ∷ []) k1 in
+    let k3 = All-tail Kept (TimeAt n q.thi) (SlewAt n q.shi ∷ TimeAt n (q.thi +ℤ wire) ∷ SlewAt n (q.shi +ℤ slew_growth wire) ∷ []) k2 in
+    let k4 = All-tail Kept (SlewAt n q.shi) (TimeAt n (q.thi +ℤ wire) ∷ SlewAt n (q.shi +ℤ slew_growth wire) ∷ []) k3 in
+    let k5 = All-tail Kept (TimeAt n (q.thi +ℤ wire)) (SlewAt n (q.shi +ℤ slew_growth wire) ∷ []) k4 in
+    let arrival = time_kept n (q.thi +ℤ wire) (All-head Kept (TimeAt n (q.thi +ℤ wire)) (SlewAt n (q.shi +ℤ slew_growth wire) ∷ []) k4) in
+    let slew = slew_kept n (q.shi +ℤ slew_growth wire) (All-head Kept (SlewAt n (q.shi +ℤ slew_growth wire)) [] k5) in
+    record {
+      tlo = time_kept n q.tlo (All-head Kept (TimeAt n q.tlo) (TimeAt n q.thi ∷ SlewAt n q.shi ∷ TimeAt n (q.thi +ℤ wire) ∷ SlewAt n (q.shi +ℤ slew_growth wire) ∷ []) k1);
+      thi = time_kept n q.thi (All-head Kept (TimeAt n q.thi) (SlewAt n q.shi ∷ TimeAt n (q.thi +ℤ wire) ∷ SlewAt n (q.shi +ℤ slew_growth wire) ∷ []) k2);
+      shi = slew_kept n q.shi (All-head Kept (SlewAt n q.shi) (TimeAt n (q.thi +ℤ wire) ∷ SlewAt n (q.shi +ℤ slew_growth wire) ∷ []) k3);
+      pin_times = λ sink p. let g = longest.each sink p in omega (arith, ints, g, arrival.most);
+      pin_slews = λ sink p. let g = slew_growth_mono (greatest_wire m net sink) wire (longest.each sink p) in omega (arith, ints, g, slew);
+    }
+
+-- where that window keeps the limits behind the longest wire of the design, both do
+pub pair_keeps_behind : (d : Parts) (n : ℕ) (p : Pair) (wire : ℤ) → IsSound d → n < length d.nets → AreWiresAtMost d wire
+    → None ≡ first_over (driver_tests n (join_of p.rise p.fall) ++ wire_tests n (join_of p.rise p.fall) wire) → None ≡ first_over (pair_tests d.miller n (slice_get d.nets n) p)
+pair_keeps_behind d n p wire s inside longest h = elim (slice_get_cases d.nets n).1 [
+  | inl e ↦
+      let net = e.0 in
+      let sound = found (IsSoundNet d n) (slice_get d.nets n) net e.2 (s.nets n) in
+      let wires = found (λ x. AreWiresToSinksAtMost d.miller x (length x.sinks) wire) (slice_get d.nets n) net e.2 (longest.each n (omega arith) inside) in
+      pair_kept d n n net (slice_get d.nets n) p e.2 sound (λ live. behind_accepted d.miller n net (join_of p.rise p.fall) wire wires h)
+  | inr e ↦ let P : Option Net → Type 0 = λ o. None ≡ first_over (pair_tests d.miller n o p) in subst P (sym e.1) refl
+]

@@ -1,11 +1,12 @@
 -- The first limit that is passed.
-use Rattle.std.specs.Prelude.{◌≡◌, ℕ, ℤ, List, [], ◌∷◌, ◌++◌, map, Option, Some, None, Result, Ok, Err}
+use Rattle.std.specs.Prelude.{◌≡◌, ℕ, ℤ, ◌+ℤ◌, List, [], ◌∷◌, ◌++◌, map, Option, Some, None, Result, Ok, Err}
 use Rattle.xt_model.specs.declared.quad.Quad.{Quad}
 use Rattle.xt_model.specs.declared.quad.Pair.{Pair}
 use Rattle.xt_model.specs.declared.net.Net.{Net}
 use Rattle.xt_model.specs.Miller.{MillerNumbers}
 use Rattle.xt_model.specs.Parts.{Parts}
 use Rattle.xt_model.specs.Levels.{IsOrder}
+use Rattle.xt_meaning.specs.Wires.{slew_growth}
 use Rattle.xt_meaning.specs.Envelope.{IsWidest, Test, TimeAt, SlewAt, quad_tests, first_passed}
 use Rattle.miller_bits.specs.Victims.{VictimEdge}
 use Rattle.envelope.specs.declared.fault.What.{What}
@@ -30,6 +31,11 @@ passed_test (Err x) = Some (excess_test x)
 -- what has a limit in a live window at the driver of net number n
 abbrev pub driver_tests : ℕ → Quad → List Test
 driver_tests n q = TimeAt n q.tlo ∷ TimeAt n q.thi ∷ SlewAt n q.shi ∷ []
+
+-- what has a limit in a live window of net number n behind a wire of this delay in fs: the latest arrival, and the
+-- greatest slew
+abbrev pub wire_tests : ℕ → Quad → ℤ → List Test
+wire_tests n q wire = TimeAt n (q.thi +ℤ wire) ∷ SlewAt n (q.shi +ℤ slew_growth wire) ∷ []
 
 -- what has a limit in the windows of net number n, where there is such a net
 abbrev pub pair_tests : MillerNumbers → ℕ → Option Net → Pair → List Test

@@ -4,11 +4,12 @@
 
 mod fault;
 mod limits;
+mod longest;
 mod pass;
 mod renewal;
 mod start;
 
 pub use fault::{EnvelopeFault, What};
-pub use pass::envelope;
+pub use pass::{envelope, envelope_by};
 pub use renewal::renewed;
 pub use start::quiet;

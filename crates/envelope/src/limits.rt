@@ -1,12 +1,14 @@
 //! The limits on the times and slews of a net: of its driver, and of each sink after its slowest wire.
 
-ghost use Rattle.std.specs.Prelude.{◌≡◌, ◌<◌, ◌≤◌, ◌^◌, [], ◌∷◌, length, pos, ◌≤ℤ◌};
+ghost use Rattle.std.specs.Prelude.{◌≡◌, ◌<◌, ◌≤◌, ◌^◌, [], ◌∷◌, ◌++◌, length, pos, ◌≤ℤ◌, IfSome};
 ghost use Rattle.std.specs.List.{slice_get};
 ghost use Rattle.xt_model.specs.Quads.{IsInRange, IsPairInRange};
+ghost use Rattle.xt_model.specs.Sound.{IsSound};
 ghost use Rattle.xt_meaning.specs.Wires.{slew_growth};
 ghost use Rattle.xt_meaning.specs.Envelope.{TimeAt, SlewAt, first_over};
 ghost use Rattle.xt_meaning.specs.Envelope.{sink_tests, all_sink_tests, quad_tests};
-ghost use Rattle.envelope.specs.Firsts.{passed_test, driver_tests, pair_tests, AreHighest};
+ghost use Rattle.envelope.specs.Firsts.{passed_test, driver_tests, wire_tests, pair_tests, AreHighest};
+ghost use Rattle.envelope.specs.Longest.{IsWireDelay, AreWiresAtMost};
 
 use crate::fault::{Excess, What};
 use miller_bits::{Overlaps, Victim};
@@ -67,6 +69,26 @@ fn slew_growth(wire: i128) -> i128
     fifths.div_euclid(5)
 }
 
+/// Tests the latest arrival behind a wire of this delay in fs, and the greatest slew there.
+fn test_wire(net: NetId, quad: &Quad, wire: i128) -> Result<(), Excess>
+    requires range { IsInRange quad.now }
+    requires wire { IsWireDelay wire }
+    ensures { passed_test result ≡ first_over (wire_tests net.0 quad.now wire) }
+{
+    test_time(net, i128::from(quad.thi) + wire)?;
+    test_slew(net, i128::from(quad.shi) + slew_growth(wire))
+}
+
+/// Tests a window at the driver of a net, and behind a wire of this delay in fs.
+fn test_with_wire(net: NetId, quad: &Quad, wire: i128) -> Result<(), Excess>
+    requires range { IsInRange quad.now }
+    requires wire { IsWireDelay wire }
+    ensures { passed_test result ≡ first_over (driver_tests net.0 quad.now ++ wire_tests net.0 quad.now wire) }
+{
+    test_driver(net, quad)?;
+    test_wire(net, quad, wire)
+}
+
 /// Tests the latest arrival at a sink after its slowest wire, and the greatest slew there.
 fn test_sink(victim: &Victim<Windows>, quad: &Quad, sink: usize) -> Result<(), Excess>
     requires highest { AreHighest victim.now }
@@ -76,8 +98,7 @@ fn test_sink(victim: &Victim<Windows>, quad: &Quad, sink: usize) -> Result<(), E
         passed_test result ≡ first_over (sink_tests v.miller v.number v.net quad.now sink) }
 {
     let (_, wire) = victim.wire_range(sink);
-    test_time(victim.number(), i128::from(quad.thi) + wire)?;
-    test_slew(victim.number(), i128::from(quad.shi) + slew_growth(wire))
+    test_wire(victim.number(), quad, wire)
 }
 
 /// Tests the sinks of a net, this many, in order.
@@ -145,4 +166,31 @@ pub(crate) fn test_pair(
         Ok(()) => Ok(()),
         Err(_) => test_each(design, windows, net, pair),
     }
+}
+
+/// Tests the two windows of a net, as [`test_pair`] does, in a design of which no wire takes longer than this delay in
+/// fs, where one is known. It goes over the coefficients of the net only where the least window that both lie within
+/// does not keep the limits behind such a wire.
+pub(crate) fn test_pair_by(
+    design: &Design,
+    windows: &Windows,
+    net: NetId,
+    pair: &Pair,
+    longest: Option<i128>,
+) -> Result<(), Excess>
+    requires sound { IsSound design.now }
+    requires count { length windows.now ≡ length design.now.nets }
+    requires net { net.0 < length design.now.nets }
+    requires range { IsPairInRange pair.now }
+    requires longest { IfSome longest (AreWiresAtMost design.now) }
+    ensures { let driven = slice_get design.now.nets net.0 in
+        passed_test result ≡ first_over (pair_tests design.now.miller net.0 driven pair.now) }
+{
+    if let Some(wire) = longest {
+        let both = pair.rise.join(&pair.fall);
+        if test_with_wire(net, &both, wire).is_ok() {
+            return Ok(());
+        }
+    }
+    test_pair(design, windows, net, pair)
 }

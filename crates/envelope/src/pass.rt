@@ -1,6 +1,6 @@
 //! The envelope, by one pass over the nets in order of level.
 
-ghost use Rattle.std.specs.Prelude.{◌≡◌, List, IfOk, IfErr};
+ghost use Rattle.std.specs.Prelude.{◌≡◌, List, IfOk, IfErr, IfSome};
 ghost use Rattle.xt_model.specs.declared.direction.Direction.{Direction};
 ghost use Rattle.xt_model.specs.declared.quad.Pair.{Pair};
 ghost use Rattle.xt_model.specs.Assign.{assigned};
@@ -8,15 +8,54 @@ ghost use Rattle.xt_meaning.specs.Operator.{step};
 ghost use Rattle.xt_meaning.specs.Fixpoint.{IsContained};
 ghost use Rattle.xt_meaning.specs.Envelope.{IsWidest, IsEnvelope, IsAccepted};
 ghost use Rattle.xt_meaning.specs.Barrier.{IsFittingStart};
+ghost use Rattle.xt_meaning.specs.Laws.{quiet_windows};
 ghost use Rattle.envelope.specs.Firsts.{IsFaultOfEnvelope};
+ghost use Rattle.envelope.specs.Longest.{AreWiresAtMost};
 
 use crate::fault::EnvelopeFault;
-use crate::limits::test_pair;
+use crate::limits::test_pair_by;
+use crate::longest::longest_wire;
 use crate::start::quiet;
 use net_eval::eval_widest_grouped;
 use std::alloc::Global;
+use std::thread::Threads;
 use table_box::table_groups;
 use xt_model::{Design, Direction, NetId, Windows};
+
+/// The pass that [`envelope`] makes, from windows in which nothing switches, with the delay in fs that no wire of the
+/// design passes, where one is known.
+fn one_pass(
+    alloc: Global,
+    design: &Design,
+    start: Windows,
+    longest: Option<i128>,
+) -> Result<Windows, EnvelopeFault>
+    requires start { start ≡ quiet_windows design.now }
+    requires longest { IfSome longest (AreWiresAtMost design.now) }
+    ensures envelope { IfOk result (IsEnvelope design.now) }
+    ensures accepted { IfOk result (IsAccepted design.now) }
+    ensures contains { IfOk
+        result
+        (λ top. (v : List Pair)
+        → IsContained (assigned v) (step design.now v)
+        → IsContained (assigned v) (assigned top)) }
+    ensures itself { IfOk result (λ top. IsContained (step design.now top) (assigned top)) }
+    ensures starts { IfOk result (IsFittingStart Direction.Narrow design.now) }
+    ensures limit { IfErr result (IsFaultOfEnvelope design.now) }
+    ensures complete { (top : List Pair)
+        → IsWidest design.now top
+        → IsAccepted design.now top
+        → IfErr result (λ fault. fault ≡ EnvelopeFault.NoMemory) }
+{
+    let mut windows = start;
+    let groups = table_groups(alloc, design.tables())?;
+    for net in design.order() {
+        let pair = eval_widest_grouped(design, groups.as_slice(), NetId(*net), &windows);
+        test_pair_by(design, &windows, NetId(*net), &pair, longest)?;
+        windows.set(*net as usize, pair);
+    }
+    Ok(windows)
+}
 
 /// The windows that the operator gives back where everything overlaps, or the first limit that they pass, with
 /// the nets in order of level and then of number. All windows that the operator does not narrow lie within
@@ -37,12 +76,37 @@ pub fn envelope(alloc: Global, design: &Design) -> Result<Windows, EnvelopeFault
         → IsAccepted design.now top
         → IfErr result (λ fault. fault ≡ EnvelopeFault.NoMemory) }
 {
-    let mut windows = quiet(alloc, design)?;
-    let groups = table_groups(alloc, design.tables())?;
-    for net in design.order() {
-        let pair = eval_widest_grouped(design, groups.as_slice(), NetId(*net), &windows);
-        test_pair(design, &windows, NetId(*net), &pair)?;
-        windows.set(*net as usize, pair);
+    let start = quiet(alloc, design)?;
+    one_pass(alloc, design, start, None)
+}
+
+/// The windows or the limit that [`envelope`] gives. Two or more threads first find the longest wire of the design,
+/// each over a share of the nets; the pass then adds up the wires of those nets alone that come near a limit.
+pub fn envelope_by<R: Threads + Sync>(
+    rt: &R,
+    alloc: Global,
+    design: &Design,
+    threads: u32,
+) -> Result<Windows, EnvelopeFault>
+    ensures envelope { IfOk result (IsEnvelope design.now) }
+    ensures accepted { IfOk result (IsAccepted design.now) }
+    ensures contains { IfOk
+        result
+        (λ top. (v : List Pair)
+        → IsContained (assigned v) (step design.now v)
+        → IsContained (assigned v) (assigned top)) }
+    ensures itself { IfOk result (λ top. IsContained (step design.now top) (assigned top)) }
+    ensures starts { IfOk result (IsFittingStart Direction.Narrow design.now) }
+    ensures limit { IfErr result (IsFaultOfEnvelope design.now) }
+    ensures complete { (top : List Pair)
+        → IsWidest design.now top
+        → IsAccepted design.now top
+        → IfErr result (λ fault. fault ≡ EnvelopeFault.NoMemory) }
+{
+    if threads <= 1 {
+        return envelope(alloc, design);
     }
-    Ok(windows)
+    let start = quiet(alloc, design)?;
+    let longest = longest_wire(rt, design, &start, threads);
+    one_pass(alloc, design, start, Some(longest))
 }
