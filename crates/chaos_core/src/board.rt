@@ -31,6 +31,10 @@ pub trait Board {
         ensures publishes { Publishes (knows self.old) word result (max result value) (knows self.new) }
         ensures seen { IsSeen (knows self.new).setting (knows self.new).seen };
 
+    /// Reads a word and tells nothing, so that the cache can have it when it is loaded.
+    fn touch(&self, word: usize)
+        requires word { word < 8 * nets_of (knows self.now).setting };
+
     /// A number greater than every number that this holder drew since the last restart.
     fn draw(&mut self) -> u64
         requires { 0 < (knows self.old).late }

@@ -2,6 +2,7 @@
 //! words in memory for them.
 #![tactic(auto)]
 
+mod ahead;
 mod alike;
 mod alone;
 mod answers;

@@ -60,7 +60,8 @@ impl MemoryBoard {
     {
         let pairs = start.pairs();
         prove!(pairs.len() == design.nets().len());
-        let mut words = Vec::new(alloc);
+        // One word more than the nets have: boards that threads share append the word from which numbers are drawn.
+        let mut words = Vec::with_capacity(alloc, 8 * pairs.len() + 1)?;
         push_numbers(&mut words, pairs)?;
         Ok(MemoryBoard {
             words,
@@ -77,6 +78,14 @@ impl MemoryBoard {
         ensures kept { IsKept self.now }
     {
         self.words.as_slice()
+    }
+
+    /// The number in each word, of a board that is not needed any more. Takes no memory.
+    pub fn into_words(self) -> Vec<u64>
+        ensures value { result.items ≡ self.words }
+        ensures kept { IsKept self }
+    {
+        self.words
     }
 
     /// The windows whose bounds are in the words. A run in the same direction can start at them.
@@ -127,6 +136,8 @@ impl Board for MemoryBoard {
         self.words[word] = before.max(value);
         before
     }
+
+    fn touch(&self, word: usize) {}
 
     fn draw(&mut self) -> u64 {
         let number = self.next;

@@ -1,17 +1,20 @@
 //! A worker's run over a board.
 
 ghost use Rattle.std.specs.Prelude.{◌≡◌, ℕ, suc, ◌↔◌, ◌<◌, ◌%◌, List, [], length, IfSome, IsTrue};
+ghost use Rattle.std.specs.List.{All};
 ghost use Rattle.xt_model.specs.declared.net.NetId.{NetId};
 ghost use Rattle.xt_model.specs.Levels.{IsOrder};
 ghost use Rattle.xt_model.specs.Parts.{Parts};
 ghost use Rattle.table_box.specs.Groups.{AreGroups};
 ghost use Rattle.net_eval.specs.ReadLists.{AreReadLists};
+ghost use Rattle.chaos_core.specs.Boards.{nets_of};
 ghost use Rattle.chaos_core.specs.Tasks.{done, idle, loaded_of, loading, places_of, publishing};
 ghost use Rattle.chaos_core.specs.Tasks.{room_of, task_of};
 ghost use Rattle.chaos_core.specs.Steps.{AreSteps, FitsPublishing, IsFitting};
 ghost use Rattle.chaos_core.specs.Looks.{IsLook};
 ghost use Rattle.chaos_core.specs.Runs.{IsDone, Ran};
 
+use crate::ahead::read_ahead;
 use crate::board::Board;
 use crate::looked::{Looked, evaluate_by};
 use crate::steps::{load_step, publish, worker_step};
@@ -26,6 +29,15 @@ pub(crate) fn is_done(worker: &Worker) -> bool
     ensures { IsTrue result ↔ IsDone (task_of worker.now) }
 {
     matches!(worker.stage, Stage::Finished)
+}
+
+/// Touches the first word of each of these nets. All are then asked for at once, before they are loaded one by one.
+fn touch_words<B: Board>(board: &B, nets: &[NetId])
+    requires nets { All (λ (net : NetId). net.0 < nets_of (B.knows board.now).setting) nets.now }
+{
+    for net in nets {
+        board.touch(8 * net.0 as usize);
+    }
 }
 
 /// Makes the steps in which a worker loads the rest of the words of the read list of its net, one a step, from the
@@ -53,6 +65,7 @@ fn load_rest<B: Board>(
     ensures places { places_of worker.new ≡ places_of worker.old }
 {
     let reads = lists.of(net);
+    touch_words(board, reads);
     let alloc = *worker.loaded.allocator();
     // Taken out of the worker until all is loaded, so that its end and its room need not be read again at each load.
     let mut loaded = mem::replace(&mut worker.loaded, Vec::new(alloc));
@@ -100,6 +113,7 @@ fn load_on<B: Board>(
     ensures places { places_of worker.new ≡ places_of worker.old }
 {
     if worker.loaded.as_slice().len() % 8 == 0 {
+        read_ahead(worker, design, net, look);
         load_rest(board, worker, design, groups, lists, net, look);
     } else {
         load_step(board, worker, design, lists, net);

@@ -29,12 +29,14 @@ pub enum Moved {
 
 /// One of those who evaluate the nets of a design over shared words, with room for the words of the longest read
 /// list, and for each net a number: its place in the read list that is evaluated, where it is read. Contracts see
-/// what it is at, for how many numbers it has room, and for how many nets it has a place.
+/// what it is at, for how many numbers it has room, and for how many nets it has a place, and not whether it has read a
+/// 0 ahead of an evaluation.
 #[derive(Debug, Drop)]
 pub struct Worker {
     pub(crate) stage: Stage,
     pub(crate) loaded: Vec<u64>,
     pub(crate) places: Vec<u32>,
+    pub(crate) has_read_zero: bool,
 }
 
 impl Model for Worker {
@@ -67,6 +69,7 @@ impl Worker {
             stage: Stage::Idle,
             loaded,
             places,
+            has_read_zero: false,
         })
     }
 

@@ -1,12 +1,15 @@
 -- Eight words of each net, one step each.
 use Rattle.std.proofs.Common.{◌≡◌, ℕ, suc, ◌+◌, ◌*◌, ◌/◌, ◌%◌, ◌<◌, get_or, refl, ◌∙◌, sym, ap, subst, List, [], ◌∷◌, length, length-append, arith}
+use Rattle.std.specs.List.{All}
+use Rattle.std.proofs.lemmas.List.Elements.{Contains-get_or}
 use Rattle.xt_model.specs.declared.net.NetId.{NetId}
-use Rattle.net_eval.specs.ReadLists.{reads_of}
-use Rattle.chaos_core.specs.Boards.{Knowledge}
+use Rattle.xt_model.specs.Parts.{Parts}
+use Rattle.net_eval.specs.ReadLists.{ids, reads_of}
+use Rattle.chaos_core.specs.Boards.{nets_of, Knowledge}
 use Rattle.chaos_core.specs.Tasks.{Task, evaluated, list_of, loaded_of, loading, places_of, publishing, room_of, task_of, with_loaded, word_to_load}
 use Rattle.chaos_core.specs.Steps.{AreLoaded, AreSteps, Fits}
 use Rattle.chaos_core.proofs.Listing.{rows_back}
-use Rattle.chaos_core.proofs.Places.{ids_count}
+use Rattle.chaos_core.proofs.Places.{ids_count, nets_placed, read_there}
 use Rattle.chaos_core.proofs.Stages.{load_word, loads_there, places_stay, room_stays}
 use Rattle.chaos_core.proofs.Several.{all_now, inside_now, loaded_then, none_more, publishes_now, some_steps, steps_then, whole_now}
 use Rattle.chaos_core.proofs.run.load_rest.Goals as goal
@@ -25,6 +28,19 @@ more_of : (lists : List (List NetId)) (net : ℕ) (reads : List NetId) (items be
 more_of lists net reads items before place side same at more low within =
     let size : length reads ≡ length (list_of lists net) = ap length same ∙ sym (ids_count (reads_of lists net)) in
     omega (arith, size, at, more, low, within)
+
+pub touch_words-requires : goal.touch_words-requires
+touch_words-requires g c =
+    let k = g.B.Board.knows c.args.board.now in
+    let d = c.args.design.now in
+    let lists = c.args.lists.now in
+    let net = c.args.net.0 in
+    let fits = subst (Fits k lists) c.requires.loading c.requires.fits.task in
+    let count : length d.nets ≡ nets_of k.setting = ap (λ (x : Parts). length x.nets) (sym c.requires.design) in
+    let there : net < length d.nets = let low = fits.there in omega (arith, count, low) in
+    let each : All (λ m. m < nets_of k.setting) (ids (reads_of lists net)) =
+    λ i m h. subst (λ n. get_or (ids (reads_of lists net)) i m < n) count (read_there d net _ _ c.requires.lists.sound (c.requires.lists.each net there) (Contains-get_or (ids (reads_of lists net)) i m h)) in
+    record { nets = rw c.of-reads.ensures (nets_placed (reads_of lists net) (nets_of k.setting) (nets_of k.setting) each (omega arith)) }
 
 pub loop-place-init : goal.loop-place-init
 loop-place-init g c =
