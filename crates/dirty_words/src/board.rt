@@ -99,8 +99,8 @@ impl DirtyBoard {
     {
         let nets = design.nets().len();
         let opening = MemoryBoard::new(alloc, design, direction, start)?;
-        let mut words = Vec::with_capacity(alloc, opening.words().len() + nets + 1)?;
-        words.extend_from_slice(opening.words())?;
+        let mut words = opening.into_words();
+        words.reserve_exact(nets + 1)?;
         let marks = vec![in alloc; 1; nets]?;
         words.extend_from_slice(marks.as_slice())?;
         words.push(0)?;

@@ -79,8 +79,7 @@ impl SharedBoard {
             ≡ first_view (record { design = design.now; way = direction; start = start.now })) }
     {
         let opening = MemoryBoard::new(alloc, design, direction, start)?;
-        let mut words = Vec::with_capacity(alloc, opening.words().len() + 1)?;
-        words.extend_from_slice(opening.words())?;
+        let mut words = opening.into_words();
         words.push(0)?;
         let key = Key {
             design: Snapshot::of(design),
@@ -100,6 +99,13 @@ impl SharedBoard {
         ensures loaded { Loaded pass.old.view word result pass.new.view }
     {
         self.table.shared.load::<Load>(&mut pass.seat, word)
+    }
+
+    /// Reads a word and tells nothing, so that the cache can have it when it is loaded. Takes no pass.
+    pub fn touch(&self, word: usize)
+        requires word { word < 8 * nets_of self.now.setting }
+    {
+        let _number = self.table.shared.peek(word);
     }
 
     /// Leaves the least of the number in a word and `value` there, and answers the number before.

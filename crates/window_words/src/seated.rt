@@ -30,6 +30,10 @@ impl<'a> Board for Seated<'a> {
         self.board.raise(&mut self.pass, word, value)
     }
 
+    fn touch(&self, word: usize) {
+        self.board.touch(word);
+    }
+
     fn draw(&mut self) -> u64 {
         self.board.draw(&mut self.pass)
     }

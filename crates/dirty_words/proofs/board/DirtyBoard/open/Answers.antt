@@ -19,15 +19,14 @@ of_words-requires c =
     let m : Memory = c.in_ok-opening.opening in
     let start = c.args.start.now in
     let nets = length c.args.design.now.nets in
-    let none : c.in_ok-words.words.items ≡ [] = c.in_ok-words.ensures.items in
-    let made = c.words-2.ensures.value ∙ ap (λ (b : Memory). b.words) c.in_ok-opening.ensures in
-    let begun = c.in_ok-extend_from_slice.ensures.items ∙ (ap (λ (xs : List ℕ). xs ++ c.words-2.result.now) none ∙ made) in
+    let made = c.into_words-words.ensures.value ∙ ap (λ (b : Memory). b.words) c.in_ok-opening.ensures in
+    let begun = c.in_ok-reserve_exact.ensures.items ∙ made in
     let count : length c.nets-nets.result.now ≡ nets = ap length c.nets-nets.ensures.value in
     let marks : c.as_slice.result.now ≡ replicate nets 1 = c.as_slice.ensures.value ∙ (c.in_ok-marks.ensures.items_if_clones_equal (λ y e. e) ∙ ap (λ n. replicate n 1) count) in
-    let more = c.in_ok-extend_from_slice-2.ensures.items ∙ (ap (λ (xs : List ℕ). xs ++ c.as_slice.result.now) begun ∙ ap (λ (xs : List ℕ). numbers_of start ++ xs) marks) in
+    let more = c.in_ok-extend_from_slice.ensures.items ∙ (ap (λ (xs : List ℕ). xs ++ c.as_slice.result.now) begun ∙ ap (λ (xs : List ℕ). numbers_of start ++ xs) marks) in
     let words : c.as_slice-2.result.now ≡ numbers_of start ++ (replicate nets 1 ++ 0 ∷ []) =
     c.as_slice-2.ensures.value ∙ (c.in_ok-push.ensures.items ∙ (ap (λ (xs : List ℕ). xs ++ 0 ∷ []) more ∙ append_assoc (numbers_of start) (replicate nets 1) (0 ∷ []))) in
-    opened_there m c.args.design.now c.of.result.value c.args.direction start c.of-2.result.value c.args.lists.now c.of-3.result.value c.as_slice-2.result.now c.in_ok-opening.ensures c.words.ensures.kept c.of.ensures c.of-2.ensures
+    opened_there m c.args.design.now c.of.result.value c.args.direction start c.of-2.result.value c.args.lists.now c.of-3.result.value c.as_slice-2.result.now c.in_ok-opening.ensures c.into_words-words.ensures.kept c.of.ensures c.of-2.ensures
     c.of-3.ensures c.requires.lists words
 
 pub invariant_of-result : goal.invariant_of-result
@@ -36,21 +35,20 @@ invariant_of-result c =
     let about : Key = record { design = c.of.result; way = c.args.direction; start = c.of-2.result; lists = c.of-3.result } in
     let r : Run = run_with d c.args.direction c.args.start.now c.args.lists.now in
     let is : run_at about ≡ r = λ i. run_with (c.of.ensures i) c.args.direction (c.of-2.ensures i) (c.of-3.ensures i) in
-    let l1 = ap length c.in_ok-words.ensures.items in
-    let l2 = ap length c.in_ok-extend_from_slice.ensures.items ∙ length-append c.in_ok-words.words.items c.words-2.result.now in
-    let l3 = ap length (c.words-2.ensures.value ∙ ap (λ (b : Memory). b.words) c.in_ok-opening.ensures) in
+    let l1 = ap length (c.into_words-words.ensures.value ∙ ap (λ (b : Memory). b.words) c.in_ok-opening.ensures) in
+    let l2 = ap length c.in_ok-reserve_exact.ensures.items in
     let n = numbers_count c.args.start.now in
     let count = c.requires.start.windows.count in
-    let l4 = ap length c.in_ok-extend_from_slice-2.ensures.items ∙ length-append c.extend_from_slice.new.self.items c.as_slice.result.now in
-    let l5 = ap length c.as_slice.ensures.value in
+    let l3 = ap length c.in_ok-extend_from_slice.ensures.items ∙ length-append c.reserve_exact.new.self.items c.as_slice.result.now in
+    let l4 = ap length c.as_slice.ensures.value in
     let many = c.in_ok-marks.ensures.len in
     let ok = c.in_ok-marks.marks.ok.0 in
     let nets = ap length c.nets-nets.ensures.value in
-    let l6 = ap length c.in_ok-push.ensures.items ∙ length-append c.extend_from_slice-2.new.self.items (0 ∷ []) in
-    let l7 = ap length c.as_slice-2.ensures.value in
+    let l5 = ap length c.in_ok-push.ensures.items ∙ length-append c.extend_from_slice.new.self.items (0 ∷ []) in
+    let l6 = ap length c.as_slice-2.ensures.value in
     let made = c.in_ok-table.ensures.0 in
     let t : TableId = c.in_ok-table.table.shared.table_id in
-    let words : t.words ≡ 9 * length d.nets + 1 = omega (arith, l1, l2, l3, n, count, l4, l5, many, ok, nets, l6, l7, made) in
+    let words : t.words ≡ 9 * length d.nets + 1 = omega (arith, l1, l2, n, count, l3, l4, many, ok, nets, l5, l6, made) in
     let P : Run → Type 0 = λ x. HasWords t x.setting × (length c.nets-nets.result.now ≡ nets_of x.setting) × AreReadLists x.setting.design x.lists in
     subst P (sym (ap run_at c.in_ok-table.ensures.5 ∙ is)) (words, nets, c.requires.lists)
 
@@ -60,26 +58,25 @@ invariant_of-result-2 c =
     let about : Key = record { design = c.of.result; way = c.args.direction; start = c.of-2.result; lists = c.of-3.result } in
     let r : Run = run_with d c.args.direction c.args.start.now c.args.lists.now in
     let is : run_at about ≡ r = λ i. run_with (c.of.ensures i) c.args.direction (c.of-2.ensures i) (c.of-3.ensures i) in
-    let l1 = ap length c.in_ok-words.ensures.items in
-    let l2 = ap length c.in_ok-extend_from_slice.ensures.items ∙ length-append c.in_ok-words.words.items c.words-2.result.now in
-    let l3 = ap length (c.words-2.ensures.value ∙ ap (λ (b : Memory). b.words) c.in_ok-opening.ensures) in
+    let l1 = ap length (c.into_words-words.ensures.value ∙ ap (λ (b : Memory). b.words) c.in_ok-opening.ensures) in
+    let l2 = ap length c.in_ok-reserve_exact.ensures.items in
     let n = numbers_count c.args.start.now in
     let count = c.requires.start.windows.count in
-    let l4 = ap length c.in_ok-extend_from_slice-2.ensures.items ∙ length-append c.extend_from_slice.new.self.items c.as_slice.result.now in
-    let l5 = ap length c.as_slice.ensures.value in
+    let l3 = ap length c.in_ok-extend_from_slice.ensures.items ∙ length-append c.reserve_exact.new.self.items c.as_slice.result.now in
+    let l4 = ap length c.as_slice.ensures.value in
     let many = c.in_ok-marks.ensures.len in
     let ok = c.in_ok-marks.marks.ok.0 in
     let nets = ap length c.nets-nets.ensures.value in
-    let l6 = ap length c.in_ok-push.ensures.items ∙ length-append c.extend_from_slice-2.new.self.items (0 ∷ []) in
-    let l7 = ap length c.as_slice-2.ensures.value in
+    let l5 = ap length c.in_ok-push.ensures.items ∙ length-append c.extend_from_slice.new.self.items (0 ∷ []) in
+    let l6 = ap length c.as_slice-2.ensures.value in
     let made = c.in_ok-table.ensures.0 in
     let t : TableId = c.in_ok-table.seat.table_id in
     let same = ap (λ (x : TableId). x.words) c.in_ok-table.ensures.2 in
-    let kept = subst IsKept c.in_ok-opening.ensures c.words.ensures.kept in
+    let kept = subst IsKept c.in_ok-opening.ensures c.into_words-words.ensures.kept in
     let held : IsHeld t (first_dirty r, []) = record {
       bare = refl;
       live = tt;
-      sized = omega (arith, same, l1, l2, l3, n, count, l4, l5, many, ok, nets, l6, l7, made);
+      sized = omega (arith, same, l1, l2, n, count, l3, l4, many, ok, nets, l5, l6, made);
       seen = kept.words.seen;
       owing = λ net owed. let none = owed.1 in absurd (omega (arith, none));
     } in
