@@ -13,9 +13,10 @@ ghost use Rattle.run_laws.specs.Transitions.{Transition, AreConsistent};
 ghost use Rattle.run_laws.specs.Laws.{LieWithin};
 ghost use Rattle.net_eval.specs.ReadLists.{AreReadLists};
 ghost use Rattle.chaos_core.specs.Rounds.{AreTurns};
-ghost use Rattle.chaos_run.specs.Rounds.{SettlesAlone};
+ghost use Rattle.chaos_run.specs.Rounds.{IsRoomFor, SettlesAlone, workers_in};
 
-use crate::settling::settle;
+use crate::settling::settle_in;
+use crate::workers::RunRoom;
 use chaos_core::{Gate, Settled, settle_picked};
 use envelope::quiet;
 use net_eval::ReadLists;
@@ -31,6 +32,36 @@ pub struct Both {
     pub high: Windows,
     pub low_rounds: u64,
     pub high_rounds: u64,
+}
+
+/// A run as by [`settle_from`] of several workers, in a room that is there already. Fails only for want of memory, and
+/// takes none but for its words.
+pub fn settle_from_in<R: Threads + Sync, G: Gate>(
+    rt: &R,
+    alloc: Global,
+    room: RunRoom<'_>,
+    design: &Design,
+    lists: &ReadLists,
+    direction: Direction,
+    start: &Windows,
+    gate: &G,
+) -> Result<Settled, NoMemory>
+    requires room { IsRoomFor design.now lists.now room }
+    requires start { IsFittingStart direction design.now start.now }
+    requires lists { AreReadLists design.now lists.now }
+    requires some { 1 ≤ workers_in room }
+    requires few { workers_in room ≤ most_workers }
+    ensures extreme { IfOk result (λ settled. IsExtremeFixpoint direction design.now settled.windows) }
+    ensures closed { IfOk result (λ settled. (settled.rounds ≡ 0) ↔ IsFixpoint design.now start.now) }
+    ensures few { IfOk result (λ settled. (bound : ℕ) → IsRoundBound design.now.nets bound → settled.rounds ≤ bound) }
+    ensures turns { IfOk result (λ settled. AreTurns
+        (record { design = design.now; way = direction; start = start.now }) settled.rounds
+        (numbers_of start.now) (numbers_of settled.windows)) }
+    ensures consistent { direction ≡ Narrow → IfOk result (λ settled. (xs : List Transition)
+        → AreConsistent design.now xs → LieWithin (assigned settled.windows) xs) }
+{
+    let (board, mut first) = SharedBoard::open(alloc, design, direction, start)?;
+    Ok(settle_in(rt, room, &board, &mut first, design, lists, direction, gate))
 }
 
 /// A run from a fitting start on words of its own, with this many workers: several run in threads of their own on a
@@ -67,10 +98,8 @@ pub fn settle_from<R: Threads + Sync, G: Gate>(
     if workers == 1 {
         return settle_picked(alloc, design, lists, direction, start, 1, 0);
     }
-    let (board, mut first) = SharedBoard::open(alloc, design, direction, start)?;
-    settle(
-        rt, alloc, &board, &mut first, design, lists, direction, workers, gate,
-    )
+    let room = RunRoom::new(alloc, design, lists, workers)?;
+    settle_from_in(rt, alloc, room, design, lists, direction, start, gate)
 }
 
 /// Runs twice, each time with this many workers: wider from windows in which nothing switches, and narrower from `top`.

@@ -8,6 +8,6 @@ mod round;
 mod settling;
 mod workers;
 
-pub use both::{Both, run_both, settle_from};
+pub use both::{Both, run_both, settle_from, settle_from_in};
 pub use settling::{settle, settle_in};
 pub use workers::RunRoom;
