@@ -9,12 +9,13 @@ ghost use Rattle.call_meaning.specs.Call.{IsStop};
 ghost use Rattle.call_meaning.specs.Eco.{AreFound, HasEnvelope};
 
 use crate::runs::Runs;
-use crate::solution::{envelope_of, solved_within};
+use crate::solution::{solved, solved_within};
 use call_meaning::Stop;
 use chaos_core::Gate;
 use chaos_run::Both;
 use report_text::{ReportKind, write_report};
 use std::alloc::Global;
+use std::mem;
 use std::thread::Threads;
 use xt_model::{Design, NoMemory, Windows};
 
@@ -73,6 +74,7 @@ pub fn report<R: Threads + Sync, G: Gate>(
     ensures ok { IfOk result (λ text. DesignMeans kind design.now (prints text.items)) }
     ensures stop { IfErr result (IsStop (DesignMeans kind design.now) (λ _. ⊥)) }
 {
-    let top = envelope_of(alloc, design)?;
-    report_within(rt, alloc, gate, design, &top, kind, runs)
+    let (found, lists) = solved(rt, alloc, gate, design, runs)?;
+    mem::drop(lists);
+    report_in(alloc, design, &found, kind)
 }

@@ -141,7 +141,7 @@ pub fn report_of_edits<R: Threads + Sync, G: Gate>(
     ensures ok { IfOk result (λ report. EditsMean file.now text.now design (prints report.items)) }
     ensures stop { IfErr result (IsStop (EditsMean file.now text.now design) (λ _. ⊥)) }
 {
-    let top = match envelope_of(alloc, &design) {
+    let top = match envelope_of(rt, alloc, &design, workers) {
         Ok(top) => top,
         Err(stop) => {
             mem::drop(design);

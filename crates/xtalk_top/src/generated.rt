@@ -13,7 +13,7 @@ ghost use Rattle.call_meaning.specs.Call.{IsStop};
 ghost use Rattle.call_meaning.specs.Gen.{GenMeans, SummaryMeans};
 
 use crate::runs::{Runs, Turns};
-use crate::solution::{envelope_and_lists, solved_by};
+use crate::solution::solved;
 use call_meaning::Stop;
 use chaos_core::Gate;
 use command_line::GenJob;
@@ -38,6 +38,7 @@ fn written<R: Threads + Sync>(
 ) -> Result<Vec<u8>, NoMemory>
     requires low { length low.now ≡ length design.now.nets }
     requires high { length high.now ≡ length design.now.nets }
+    requires workers { IsWorkerCount workers }
     ensures { IfOk result (λ text. (pairs : ℕ) × (depth : ℕ)
         × IsPairCount design.now.nets pairs × IsDepth design.now.nets depth
         × (text.items ≡ text_of (summary design.now pairs depth low.now high.now))) }
@@ -45,6 +46,8 @@ fn written<R: Threads + Sync>(
     if workers <= 1 {
         return write_summary(alloc, design, low, high);
     }
+    // Shares are uneven: with four for each worker the last thread is not long alone.
+    let shares = 4 * workers;
     let (text, ()) = join(
         rt,
         move || -> Result<Vec<u8>, NoMemory>
@@ -53,7 +56,7 @@ fn written<R: Threads + Sync>(
             ensures { IfOk result (λ text. (pairs : ℕ) × (depth : ℕ)
                 × IsPairCount design.entry.now.nets pairs × IsDepth design.entry.now.nets depth
                 × (text.items ≡ text_of (summary design.entry.now pairs depth low.entry.now high.entry.now))) }
-        { write_summary_by(rt, alloc, design, low, high, workers) },
+        { write_summary_by(rt, alloc, design, low, high, shares) },
         move || mem::drop(lists),
     );
     text
@@ -73,10 +76,7 @@ fn summary<R: Threads + Sync, G: Gate>(
     ensures ok { IfOk result (λ text. SummaryMeans design.now (prints text.items)) }
     ensures stop { IfErr result (IsStop (SummaryMeans design.now) (λ _. ⊥)) }
 {
-    let (top, lists) = envelope_and_lists(rt, alloc, design, runs.workers)?;
-    let Ok(found) = solved_by(rt, alloc, gate, design, &lists, &top, runs) else {
-        return Err(Stop::NoMemory);
-    };
+    let (found, lists) = solved(rt, alloc, gate, design, runs)?;
     match written(
         rt,
         alloc,

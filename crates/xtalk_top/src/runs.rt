@@ -8,11 +8,11 @@ ghost use Rattle.xt_meaning.specs.Barrier.{IsFittingStart};
 ghost use Rattle.net_eval.specs.ReadLists.{AreReadLists};
 ghost use Rattle.dirty_words.specs.Readers.{AreReaders};
 ghost use Rattle.command_line.specs.Words.{IsWorkerCount};
-ghost use Rattle.xtalk_top.specs.Runs.{high_end, low_end, turns_by, IsEndOf};
+ghost use Rattle.xtalk_top.specs.Runs.{high_end, low_end, turns_by, IsEndOf, IsRoomOf};
 ghost use Rattle.xtalk_top.specs.declared.runs.Turns.TheVariants.{InThreads};
 
 use chaos_core::{Gate, Settled, settle_picked};
-use chaos_run::{Both, settle_from};
+use chaos_run::{Both, RunRoom, settle_from, settle_from_in};
 use command_line::Engine;
 use dirty_run::{settle_dirty_among, settle_dirty_from};
 use dirty_words::{Readers, readers};
@@ -64,6 +64,31 @@ fn readers_for(alloc: Global, lists: &ReadLists, runs: Runs) -> Result<Option<Re
     }
 }
 
+/// A run from a fitting start by this many workers in threads, by rounds, in a room where there is one for it. Fails
+/// only for want of memory.
+fn run_in_threads<R: Threads + Sync, G: Gate>(
+    rt: &R,
+    alloc: Global,
+    gate: &G,
+    design: &Design,
+    lists: &ReadLists,
+    room: Option<RunRoom<'_>>,
+    direction: Direction,
+    start: &Windows,
+    workers: u32,
+) -> Result<Settled, NoMemory>
+    requires start { IsFittingStart direction design.now start.now }
+    requires lists { AreReadLists design.now lists.now }
+    requires room { IfSome room (IsRoomOf design.now lists.now workers) }
+    requires workers { IsWorkerCount workers }
+    ensures { IfOk result (IsEndOf direction design.now InThreads start.now) }
+{
+    match room {
+        Some(room) => settle_from_in(rt, alloc, room, design, lists, direction, start, gate),
+        None => settle_from(rt, alloc, design, lists, direction, start, workers, gate),
+    }
+}
+
 /// A run from a fitting start, by readers of the read lists where it is by marks and they are known. Fails only for
 /// want of memory.
 fn run_from<R: Threads + Sync, G: Gate>(
@@ -85,7 +110,9 @@ fn run_from<R: Threads + Sync, G: Gate>(
 {
     let Runs { workers, turns } = runs;
     match turns {
-        Turns::InThreads => settle_from(rt, alloc, design, lists, direction, start, workers, gate),
+        Turns::InThreads => run_in_threads(
+            rt, alloc, gate, design, lists, None, direction, start, workers,
+        ),
         Turns::Picked(number) => settle_picked(
             alloc, design, lists, direction, start, workers, number,
         ),
@@ -112,43 +139,56 @@ fn both_of(least: Settled, greatest: Settled) -> Both
 }
 
 /// Whether both runs are made at the same time: those of several workers by rounds in threads.
-fn are_at_once(runs: Runs) -> bool
+pub fn are_at_once(runs: Runs) -> bool
     ensures { IsTrue result ↔ ((runs.turns ≡ InThreads) × (1 < runs.workers)) }
 {
     matches!(runs.turns, Turns::InThreads) && 1 < runs.workers
 }
 
-/// Both runs at the same time, the wider one in a further thread, each by all workers. Where no thread can be had for
-/// it, it is made after the narrower one. Fails only for want of memory, when both have ended.
-fn both_at_once<R: Threads + Sync, G: Gate>(
+/// Both runs by rounds in threads at the same time, the wider one in a further thread, each by all workers, and in a
+/// room where there is one for it. Where no thread can be had for it, it is made after the narrower one. Fails only for
+/// want of memory, when both have ended.
+pub fn both_at_once<R: Threads + Sync, G: Gate>(
     rt: &R,
     alloc: Global,
     gate: &G,
     design: &Design,
     lists: &ReadLists,
+    rooms: (Option<RunRoom<'_>>, Option<RunRoom<'_>>),
     low: &Windows,
     high: &Windows,
-    runs: Runs,
+    workers: u32,
 ) -> Result<Both, NoMemory>
     requires low { IsFittingStart Widen design.now low.now }
     requires high { IsFittingStart Narrow design.now high.now }
     requires lists { AreReadLists design.now lists.now }
-    requires workers { IsWorkerCount runs.workers }
-    ensures least { IfOk result (λ found. IsEndOf Widen design.now runs.turns low.now (low_end found)) }
-    ensures greatest { IfOk result (λ found. IsEndOf Narrow design.now runs.turns high.now (high_end found)) }
+    requires workers { IsWorkerCount workers }
+    requires low_room { IfSome rooms.0 (IsRoomOf design.now lists.now workers) }
+    requires high_room { IfSome rooms.1 (IsRoomOf design.now lists.now workers) }
+    ensures least { IfOk result (λ found. IsEndOf Widen design.now InThreads low.now (low_end found)) }
+    ensures greatest { IfOk result (λ found. IsEndOf Narrow design.now InThreads high.now (high_end found)) }
 {
+    let (low_room, high_room) = rooms;
     let (least, greatest) = join(
         rt,
         move || -> Result<Settled, NoMemory>
             requires { IsSync R.row × IsFittingStart Widen design.now low.now × AreReadLists design.now lists.now
-                × IsWorkerCount runs.workers }
-            ensures { IfOk result (IsEndOf Widen design.entry.now runs.turns low.entry.now) }
-        { run_from(rt, alloc, gate, design, lists, None, Widen, low, runs) },
+                × IsWorkerCount workers × IfSome low_room (IsRoomOf design.now lists.now workers) }
+            ensures { IfOk result (IsEndOf Widen design.entry.now InThreads low.entry.now) }
+        {
+            run_in_threads(
+                rt, alloc, gate, design, lists, low_room, Widen, low, workers,
+            )
+        },
         move || -> Result<Settled, NoMemory>
             requires { IsSync R.row × IsFittingStart Narrow design.now high.now × AreReadLists design.now lists.now
-                × IsWorkerCount runs.workers }
-            ensures { IfOk result (IsEndOf Narrow design.entry.now runs.turns high.entry.now) }
-        { run_from(rt, alloc, gate, design, lists, None, Narrow, high, runs) },
+                × IsWorkerCount workers × IfSome high_room (IsRoomOf design.now lists.now workers) }
+            ensures { IfOk result (IsEndOf Narrow design.entry.now InThreads high.entry.now) }
+        {
+            run_in_threads(
+                rt, alloc, gate, design, lists, high_room, Narrow, high, workers,
+            )
+        },
     );
     let least = least?;
     let greatest = greatest?;
@@ -176,7 +216,17 @@ pub fn both_from<R: Threads + Sync, G: Gate>(
     ensures greatest { IfOk result (λ found. IsEndOf Narrow design.now runs.turns high.now (high_end found)) }
 {
     if are_at_once(runs) {
-        return both_at_once(rt, alloc, gate, design, lists, low, high, runs);
+        return both_at_once(
+            rt,
+            alloc,
+            gate,
+            design,
+            lists,
+            (None, None),
+            low,
+            high,
+            runs.workers,
+        );
     }
     let readers = readers_for(alloc, lists, runs)?;
     let readers = readers.as_ref();
