@@ -39,7 +39,7 @@ fn begins_by_zero(nets: &[Net], arc: &TimingArc) -> bool {
 /// Whether a number is 0 among the first of the rows that an evaluation of a net goes over: the couplings of the net
 /// and of its inputs, and the coefficients of the wires from these; of arcs from one net in a row, those of the first.
 #[inline(always)]
-fn reads_zero(nets: &[Net], net: NetId) -> bool {
+pub(crate) fn reads_zero(nets: &[Net], net: NetId) -> bool {
     let Some(own) = nets.get(net.0 as usize) else {
         return false;
     };

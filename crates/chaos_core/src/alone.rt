@@ -139,6 +139,7 @@ fn turn(
     if marks.is_settled(net, design.net(net.0 as usize)) {
         return;
     }
+    marks.read_ahead(design, net);
     let pair = made(board, windows, design, groups, net);
     if windows.pair(net.0 as usize).same(&pair) {
         marks.note_look(net);

@@ -5,17 +5,20 @@ ghost use Rattle.std.specs.Prelude.{◌≡◌, ◌<◌, ◌≤◌, length, repli
 ghost use Rattle.std.specs.List.{All};
 ghost use Rattle.chaos_core.specs.TurnMarks.{IsOld, IsSettledNet};
 
+use crate::ahead::reads_zero;
 use std::alloc::Global;
 use std::marker::Model;
-use xt_model::{Net, NetId, NoMemory};
+use xt_model::{Design, Net, NetId, NoMemory};
 
-/// The number of the last turn, and for each net the three turns; 0 for none.
+/// The number of the last turn, and for each net the three turns; 0 for none. Contracts do not see whether a 0 was read
+/// ahead of an evaluation.
 #[derive(Drop)]
 pub(crate) struct TurnMarks {
     turn: u32,
     moved: Vec<u32>,
     answers: Vec<u32>,
     seen: Vec<u32>,
+    has_read_zero: bool,
 }
 
 impl Model for TurnMarks {
@@ -49,6 +52,7 @@ impl TurnMarks {
             moved,
             answers,
             seen,
+            has_read_zero: false,
         })
     }
 
@@ -58,6 +62,13 @@ impl TurnMarks {
         ensures rest { self.new ≡ record self.old { turn = self.new.turn } }
     {
         self.turn = self.turn.saturating_add(1);
+    }
+
+    /// Reads ahead what an evaluation of a net goes over, as a worker in a thread does.
+    pub fn read_ahead(&mut self, design: &Design, net: NetId)
+        ensures { self.new ≡ self.old }
+    {
+        self.has_read_zero = reads_zero(design.nets(), net);
     }
 
     /// Notes that a net is evaluated in this turn.

@@ -59,7 +59,7 @@ pub pair-requires : goal.pair-requires
 pair-requires c = let n = c.made-pair.ensures.windows.count in let h = c.requires.net in omega (arith, n, h)
 
 pub note_look-requires : goal.note_look-requires
-note_look-requires c = let n = (marks_begun c.args.design.now c.args.board.now.words c.args.marks.now c.begin_turn.new.self c.begin_turn.ensures.later c.begin_turn.ensures.rest c.requires.marks).counts.seen in let h = c.requires.net in omega (arith, n, h)
+note_look-requires c = let e = ap (λ (m : Marks). length m.seen) c.read_ahead.ensures in let n = (marks_begun c.args.design.now c.args.board.now.words c.args.marks.now c.begin_turn.new.self c.begin_turn.ensures.later c.begin_turn.ensures.rest c.requires.marks).counts.seen in let h = c.requires.net in omega (arith, e, n, h)
 
 pub returns-then-same-clause-turn : goal.returns-then-same-clause-turn
 returns-then-same-clause-turn c = λ order place h at.
@@ -77,13 +77,13 @@ returns-then-same-clause-marks c =
     let words = c.args.board.now.words in
     let net = c.args.net.0 in
     let hold : HoldPair words net (made_of d words net) = subst (λ (p : Pair). HoldPair words net p) c.made-pair.ensures.value (same_held c.args.board.now.words c.args.windows.now c.args.net.0 c.pair.result c.made-pair.result c.made-pair.ensures.windows.in_range c.requires.numbers c.pair.ensures.value (c.same.ensures.0 c.if-same.true)) in
-    subst (AreMarks d words) (sym c.note_look.ensures) (marks_seen d words c.begin_turn.new.self net (marks_begun c.args.design.now c.args.board.now.words c.args.marks.now c.begin_turn.new.self c.begin_turn.ensures.later c.begin_turn.ensures.rest c.requires.marks) (record { hold = hold; range = subst IsPairInRange c.made-pair.ensures.value c.made-pair.ensures.fits.range }))
+    subst (AreMarks d words) (sym c.note_look.ensures) (marks_seen d words c.read_ahead.new.self net (subst (AreMarks d words) (sym c.read_ahead.ensures) (marks_begun c.args.design.now c.args.board.now.words c.args.marks.now c.begin_turn.new.self c.begin_turn.ensures.later c.begin_turn.ensures.rest c.requires.marks)) (record { hold = hold; range = subst IsPairInRange c.made-pair.ensures.value c.made-pair.ensures.fits.range }))
 
 pub move_to-requires-clause-kept : goal.move_to-requires-clause-kept
 move_to-requires-clause-kept c = c.made-pair.ensures.kept
 
 pub move_to-requires-clause-marks : goal.move_to-requires-clause-marks
-move_to-requires-clause-marks c = marks_begun c.args.design.now c.args.board.now.words c.args.marks.now c.begin_turn.new.self c.begin_turn.ensures.later c.begin_turn.ensures.rest c.requires.marks
+move_to-requires-clause-marks c = subst (AreMarks c.args.design.now c.args.board.now.words) (sym c.read_ahead.ensures) (marks_begun c.args.design.now c.args.board.now.words c.args.marks.now c.begin_turn.new.self c.begin_turn.ensures.later c.begin_turn.ensures.rest c.requires.marks)
 
 pub returns-clause-turn : goal.returns-clause-turn
 returns-clause-turn c = λ order place h at.
