@@ -21,7 +21,7 @@ use Rattle.xt_meaning.proofs.Growth.{slew_growth_mono}
 use Rattle.xt_meaning.proofs.Room.{wire_delay_natural, IsAcceptedQuad, accepted_quad}
 use Rattle.miller_bits.proofs.Sums.{found}
 use Rattle.envelope.specs.Firsts.{driver_tests, wire_tests, pair_tests}
-use Rattle.envelope.specs.Longest.{AreWiresToSinksAtMost, AreWiresAtMost}
+use Rattle.envelope.specs.Greatest.{AreWiresToSinksAtMost, AreWiresAtMost}
 use Rattle.envelope.proofs.Firsts.{all_passed, none_over, over_on, pair_tested}
 
 abbrev Kept : Test → Type 0
@@ -109,10 +109,10 @@ pair_keeps d n own net o p there s h =
     let both = join_of p.rise p.fall in
     pair_kept d n own net o p there s (λ live. accepted_quad d.miller n net both live (all_passed (quad_tests d.miller n net both) h))
 
--- behind a wire that is at least as long as each of a net's a window keeps the limits that it keeps behind these
+-- where a window keeps the limits behind a wire delay that none of a net's is greater than, it keeps them behind these
 behind_accepted : (m : MillerNumbers) (n : ℕ) (net : Net) (q : Quad) (wire : ℤ) → AreWiresToSinksAtMost m net (length net.sinks) wire → None ≡ first_over (driver_tests n q ++ wire_tests n q wire)
     → IsAcceptedQuad m net q
-behind_accepted m n net q wire longest h =
+behind_accepted m n net q wire greatest h =
     let k1 : AllPass keeps (TimeAt n q.tlo ∷ TimeAt n q.thi ∷ SlewAt n q.shi ∷ TimeAt n (q.thi +ℤ wire) ∷ SlewAt n (q.shi +ℤ slew_growth wire) ∷ []) = all_passed (driver_tests n q ++ wire_tests n q wire) h in
     let k2 = All-tail Kept (TimeAt n q.tlo) (TimeAt n q.thi ∷ SlewAt n q.shi ∷ TimeAt n (q.thi +ℤ wire) ∷ SlewAt n (q.shi +ℤ slew_growth wire) ∷ []) k1 in
     let k3 = All-tail Kept (TimeAt n q.thi) (SlewAt n q.shi ∷ TimeAt n (q.thi +ℤ wire) ∷ SlewAt n (q.shi +ℤ slew_growth wire) ∷ []) k2 in
@@ -124,18 +124,18 @@ behind_accepted m n net q wire longest h =
       tlo = time_kept n q.tlo (All-head Kept (TimeAt n q.tlo) (TimeAt n q.thi ∷ SlewAt n q.shi ∷ TimeAt n (q.thi +ℤ wire) ∷ SlewAt n (q.shi +ℤ slew_growth wire) ∷ []) k1);
       thi = time_kept n q.thi (All-head Kept (TimeAt n q.thi) (SlewAt n q.shi ∷ TimeAt n (q.thi +ℤ wire) ∷ SlewAt n (q.shi +ℤ slew_growth wire) ∷ []) k2);
       shi = slew_kept n q.shi (All-head Kept (SlewAt n q.shi) (TimeAt n (q.thi +ℤ wire) ∷ SlewAt n (q.shi +ℤ slew_growth wire) ∷ []) k3);
-      pin_times = λ sink p. let g = longest.each sink p in omega (arith, ints, g, arrival.most);
-      pin_slews = λ sink p. let g = slew_growth_mono (greatest_wire m net sink) wire (longest.each sink p) in omega (arith, ints, g, slew);
+      pin_times = λ sink p. let g = greatest.each sink p in omega (arith, ints, g, arrival.most);
+      pin_slews = λ sink p. let g = slew_growth_mono (greatest_wire m net sink) wire (greatest.each sink p) in omega (arith, ints, g, slew);
     }
 
--- where that window keeps the limits behind the longest wire of the design, both do
+-- where that window keeps the limits behind the greatest wire delay of the design, both do
 pub pair_keeps_behind : (d : Parts) (n : ℕ) (p : Pair) (wire : ℤ) → IsSound d → n < length d.nets → AreWiresAtMost d wire
     → None ≡ first_over (driver_tests n (join_of p.rise p.fall) ++ wire_tests n (join_of p.rise p.fall) wire) → None ≡ first_over (pair_tests d.miller n (slice_get d.nets n) p)
-pair_keeps_behind d n p wire s inside longest h = elim (slice_get_cases d.nets n).1 [
+pair_keeps_behind d n p wire s inside greatest h = elim (slice_get_cases d.nets n).1 [
   | inl e ↦
       let net = e.0 in
       let sound = found (IsSoundNet d n) (slice_get d.nets n) net e.2 (s.nets n) in
-      let wires = found (λ x. AreWiresToSinksAtMost d.miller x (length x.sinks) wire) (slice_get d.nets n) net e.2 (longest.each n (omega arith) inside) in
+      let wires = found (λ x. AreWiresToSinksAtMost d.miller x (length x.sinks) wire) (slice_get d.nets n) net e.2 (greatest.each n (omega arith) inside) in
       pair_kept d n n net (slice_get d.nets n) p e.2 sound (λ live. behind_accepted d.miller n net (join_of p.rise p.fall) wire wires h)
   | inr e ↦ let P : Option Net → Type 0 = λ o. None ≡ first_over (pair_tests d.miller n o p) in subst P (sym e.1) refl
 ]

@@ -1,4 +1,4 @@
--- The longest wire of some nets, one sink and one net after another.
+-- The greatest wire delay of some nets, one sink and one net after another.
 use Rattle.std.proofs.Common.{◌≡◌, ℕ, ◌+◌, ◌<◌, ◌^◌, inl, inr, sym, subst, ℤ, pos, ◌≤ℤ◌, length, to_z, of_z, arith}
 use Rattle.std.specs.Prelude.{Option, Some, None, IfSome}
 use Rattle.std.specs.Int.{int_max, w128}
@@ -12,10 +12,10 @@ use Rattle.xt_model.specs.Parts.{Parts}
 use Rattle.xt_meaning.specs.Envelope.{greatest_wire}
 use Rattle.miller_bits.proofs.Sums.{found}
 use Rattle.envelope.proofs.Firsts.{wire_kept}
-use Rattle.envelope.specs.Longest.{IsWireDelay, AreWiresToSinksAtMost, AreWiresOfNetsAtMost}
+use Rattle.envelope.specs.Greatest.{IsWireDelay, AreWiresToSinksAtMost, AreWiresOfNetsAtMost}
 
 -- the greater of two delays
-record IsLonger (a b most : ℤ) : Type 0 where
+record IsGreater (a b most : ℤ) : Type 0 where
   pub delay : IsWireDelay most
   pub first : a ≤ℤ most
   pub second : b ≤ℤ most
@@ -23,11 +23,11 @@ record IsLonger (a b most : ℤ) : Type 0 where
 pub delay_kept : (a : ℤ) → IsWireDelay a → to_z w128 (of_z w128 a) ≡ a
 delay_kept a h = wire_kept a h.low h.high
 
-longer : (a b most : ℤ) → IsWireDelay a → IsWireDelay b → most ≡ int_max a b → IsLonger a b (to_z w128 (of_z w128 most))
-longer a b most h k is =
+greater : (a b most : ℤ) → IsWireDelay a → IsWireDelay b → most ≡ int_max a b → IsGreater a b (to_z w128 (of_z w128 most))
+greater a b most h k is =
     let low : pos 0 ≤ℤ most = omega (arith, ints, clamps, is, h.low, k.low) in
     let high : most ≤ℤ pos (2 ^ 105) = omega (arith, ints, clamps, is, h.high, k.high) in
-    let P : ℤ → Type 0 = λ z. IsLonger a b z in
+    let P : ℤ → Type 0 = λ z. IsGreater a b z in
     subst P (sym (wire_kept most low high)) (record { delay = record { low = low; high = high }; first = omega (arith, ints, clamps, is); second = omega (arith, ints, clamps, is) })
 
 sinks_wider : (m : MillerNumbers) (net : Net) (sinks : ℕ) (a b : ℤ) → a ≤ℤ b → IsWireDelay b → AreWiresToSinksAtMost m net sinks a → AreWiresToSinksAtMost m net sinks b
@@ -38,10 +38,10 @@ net_wider : (m : MillerNumbers) (o : Option Net) (a b : ℤ) → a ≤ℤ b → 
 net_wider m None a b most delay before = tt
 net_wider m (Some net) a b most delay before = sinks_wider m net (length net.sinks) a b most delay before
 
-pub sinks_more : (m : MillerNumbers) (net : Net) (sink : ℕ) (wire longest most : ℤ) → wire ≡ greatest_wire m net sink → IsWireDelay wire → AreWiresToSinksAtMost m net sink longest
-    → most ≡ int_max wire longest → AreWiresToSinksAtMost m net (sink + 1) (to_z w128 (of_z w128 most))
-sinks_more m net sink wire longest most is delay before e =
-    let l = longer wire longest most delay before.delay e in
+pub sinks_more : (m : MillerNumbers) (net : Net) (sink : ℕ) (wire greatest most : ℤ) → wire ≡ greatest_wire m net sink → IsWireDelay wire → AreWiresToSinksAtMost m net sink greatest
+    → most ≡ int_max wire greatest → AreWiresToSinksAtMost m net (sink + 1) (to_z w128 (of_z w128 most))
+sinks_more m net sink wire greatest most is delay before e =
+    let l = greater wire greatest most delay before.delay e in
     record {
       delay = l.delay;
       each = λ k p. elim (cases_lt k sink) [
@@ -58,7 +58,7 @@ sinks_more m net sink wire longest most is delay before e =
 pub nets_joined : (d : Parts) (from middle to : ℕ) (a b most : ℤ) → AreWiresOfNetsAtMost d from middle a → AreWiresOfNetsAtMost d middle to b
     → most ≡ int_max a b → AreWiresOfNetsAtMost d from to (to_z w128 (of_z w128 most))
 nets_joined d from middle to a b most left right e =
-    let l = longer a b most left.delay right.delay e in
+    let l = greater a b most left.delay right.delay e in
     record {
       delay = l.delay;
       each = λ n low high. elim (cases_lt n middle) [

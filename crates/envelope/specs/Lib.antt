@@ -1,3 +1,3 @@
 pub mod Firsts
 pub mod Renewal
-pub mod Longest
+pub mod Greatest

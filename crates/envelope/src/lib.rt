@@ -3,8 +3,8 @@
 #![tactic(auto)]
 
 mod fault;
+mod greatest;
 mod limits;
-mod longest;
 mod pass;
 mod renewal;
 mod start;

@@ -1,4 +1,4 @@
-//! The limits on the times and slews of a net: of its driver, and of each sink after its slowest wire.
+//! The limits on the times and slews of a net: at its driver, and at each sink after the greatest delay of its wire.
 
 ghost use Rattle.std.specs.Prelude.{◌≡◌, ◌<◌, ◌≤◌, ◌^◌, [], ◌∷◌, ◌++◌, length, pos, ◌≤ℤ◌, IfSome};
 ghost use Rattle.std.specs.List.{slice_get};
@@ -8,7 +8,7 @@ ghost use Rattle.xt_meaning.specs.Wires.{slew_growth};
 ghost use Rattle.xt_meaning.specs.Envelope.{TimeAt, SlewAt, first_over};
 ghost use Rattle.xt_meaning.specs.Envelope.{sink_tests, all_sink_tests, quad_tests};
 ghost use Rattle.envelope.specs.Firsts.{passed_test, driver_tests, wire_tests, pair_tests, AreHighest};
-ghost use Rattle.envelope.specs.Longest.{IsWireDelay, AreWiresAtMost};
+ghost use Rattle.envelope.specs.Greatest.{IsWireDelay, AreWiresAtMost};
 
 use crate::fault::{Excess, What};
 use miller_bits::{Overlaps, Victim};
@@ -89,7 +89,7 @@ fn test_with_wire(net: NetId, quad: &Quad, wire: i128) -> Result<(), Excess>
     test_wire(net, quad, wire)
 }
 
-/// Tests the latest arrival at a sink after its slowest wire, and the greatest slew there.
+/// Tests the latest arrival at a sink after the greatest delay of its wire, and the greatest slew there.
 fn test_sink(victim: &Victim<Windows>, quad: &Quad, sink: usize) -> Result<(), Excess>
     requires highest { AreHighest victim.now }
     requires sink { sink < length victim.now.net.sinks }
@@ -168,25 +168,25 @@ pub(crate) fn test_pair(
     }
 }
 
-/// Tests the two windows of a net, as [`test_pair`] does, in a design of which no wire takes longer than this delay in
-/// fs, where one is known. It goes over the coefficients of the net only where the least window that both lie within
+/// Tests the two windows of a net, as [`test_pair`] does, in a design of which no wire delay is greater than this one
+/// in fs, where one is known. It goes over the coefficients of the net only where the least window that both lie within
 /// does not keep the limits behind such a wire.
 pub(crate) fn test_pair_by(
     design: &Design,
     windows: &Windows,
     net: NetId,
     pair: &Pair,
-    longest: Option<i128>,
+    greatest: Option<i128>,
 ) -> Result<(), Excess>
     requires sound { IsSound design.now }
     requires count { length windows.now ≡ length design.now.nets }
     requires net { net.0 < length design.now.nets }
     requires range { IsPairInRange pair.now }
-    requires longest { IfSome longest (AreWiresAtMost design.now) }
+    requires greatest { IfSome greatest (AreWiresAtMost design.now) }
     ensures { let driven = slice_get design.now.nets net.0 in
         passed_test result ≡ first_over (pair_tests design.now.miller net.0 driven pair.now) }
 {
-    if let Some(wire) = longest {
+    if let Some(wire) = greatest {
         let both = pair.rise.join(&pair.fall);
         if test_with_wire(net, &both, wire).is_ok() {
             return Ok(());

@@ -10,11 +10,11 @@ ghost use Rattle.xt_meaning.specs.Envelope.{IsWidest, IsEnvelope, IsAccepted};
 ghost use Rattle.xt_meaning.specs.Barrier.{IsFittingStart};
 ghost use Rattle.xt_meaning.specs.Laws.{quiet_windows};
 ghost use Rattle.envelope.specs.Firsts.{IsFaultOfEnvelope};
-ghost use Rattle.envelope.specs.Longest.{AreWiresAtMost};
+ghost use Rattle.envelope.specs.Greatest.{AreWiresAtMost};
 
 use crate::fault::EnvelopeFault;
+use crate::greatest::greatest_of_design;
 use crate::limits::test_pair_by;
-use crate::longest::longest_wire;
 use crate::start::quiet;
 use net_eval::eval_widest_grouped;
 use std::alloc::Global;
@@ -28,10 +28,10 @@ fn one_pass(
     alloc: Global,
     design: &Design,
     start: Windows,
-    longest: Option<i128>,
+    greatest: Option<i128>,
 ) -> Result<Windows, EnvelopeFault>
     requires start { start ≡ quiet_windows design.now }
-    requires longest { IfSome longest (AreWiresAtMost design.now) }
+    requires greatest { IfSome greatest (AreWiresAtMost design.now) }
     ensures envelope { IfOk result (IsEnvelope design.now) }
     ensures accepted { IfOk result (IsAccepted design.now) }
     ensures contains { IfOk
@@ -51,7 +51,7 @@ fn one_pass(
     let groups = table_groups(alloc, design.tables())?;
     for net in design.order() {
         let pair = eval_widest_grouped(design, groups.as_slice(), NetId(*net), &windows);
-        test_pair_by(design, &windows, NetId(*net), &pair, longest)?;
+        test_pair_by(design, &windows, NetId(*net), &pair, greatest)?;
         windows.set(*net as usize, pair);
     }
     Ok(windows)
@@ -80,8 +80,8 @@ pub fn envelope(alloc: Global, design: &Design) -> Result<Windows, EnvelopeFault
     one_pass(alloc, design, start, None)
 }
 
-/// The windows or the limit that [`envelope`] gives. Two or more threads first find the longest wire of the design,
-/// each over a share of the nets; the pass then adds up the wires of those nets alone that come near a limit.
+/// The windows or the limit that [`envelope`] gives. Two or more threads first find the greatest wire delay of the
+/// design, each over a share of the nets; the pass then adds up the wires of those nets alone that come near a limit.
 pub fn envelope_by<R: Threads + Sync>(
     rt: &R,
     alloc: Global,
@@ -107,6 +107,6 @@ pub fn envelope_by<R: Threads + Sync>(
         return envelope(alloc, design);
     }
     let start = quiet(alloc, design)?;
-    let longest = longest_wire(rt, design, &start, threads);
-    one_pass(alloc, design, start, Some(longest))
+    let greatest = greatest_of_design(rt, design, &start, threads);
+    one_pass(alloc, design, start, Some(greatest))
 }

@@ -5,7 +5,7 @@ use Rattle.xt_model.specs.Quads.{IsInRange}
 use Rattle.xt_meaning.specs.Envelope.{first_over}
 use Rattle.miller_bits.proofs.Sums.{found}
 use Rattle.envelope.specs.Firsts.{driver_tests, wire_tests}
-use Rattle.envelope.specs.Longest.{AreWiresAtMost}
+use Rattle.envelope.specs.Greatest.{AreWiresAtMost}
 use Rattle.envelope.proofs.Firsts.{wire_kept, none_passed}
 use Rattle.envelope.proofs.Wider.{join_in_range, pair_keeps_behind}
 use Rattle.envelope.proofs.limits.test_pair_by.Goals as goal
@@ -19,9 +19,9 @@ returns-then-is_ok c =
     let n = c.args.net.0 in
     let wire = c.in-Some.wire in
     let both = c.join-both.result in
-    let longest = found (AreWiresAtMost d) c.args.longest wire c.in-Some.is c.requires.longest in
+    let greatest = found (AreWiresAtMost d) c.args.greatest wire c.in-Some.is c.requires.greatest in
     let P : ℤ → Type 0 = λ w. None ≡ first_over (driver_tests n both ++ wire_tests n both w) in
     let Q : Quad → Type 0 = λ q. None ≡ first_over (driver_tests n q ++ wire_tests n q wire) in
-    pair_keeps_behind d n c.args.pair.now wire c.requires.sound c.requires.net longest
-    (subst Q c.join-both.ensures (subst P (wire_kept wire longest.delay.low longest.delay.high)
+    pair_keeps_behind d n c.args.pair.now wire c.requires.sound c.requires.net greatest
+    (subst Q c.join-both.ensures (subst P (wire_kept wire greatest.delay.low greatest.delay.high)
     (none_passed c.test_with_wire.result _ (sym c.if-is_ok.true ∙ c.is_ok.ensures.value) c.test_with_wire.ensures)))

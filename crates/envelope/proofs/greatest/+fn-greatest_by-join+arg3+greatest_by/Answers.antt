@@ -1,5 +1,5 @@
 use Rattle.envelope.proofs.Wires.{delay_kept, nets_joined}
-use Rattle.envelope.proofs.longest.+fn-longest_by-join+arg3+longest_by.Goals as goal
+use Rattle.envelope.proofs.greatest.+fn-greatest_by-join+arg3+greatest_by.Goals as goal
 
 pub returns : goal.returns
 returns g t c =
