@@ -22,6 +22,9 @@ use std::thread::Threads;
 use table_box::table_groups;
 use xt_model::{Design, Direction, NetId, Windows};
 
+/// The fewest nets in a thread's share: to begin a thread takes as long as to add up the wires of some hundred nets.
+const LEAST_SHARE: u32 = 1_024;
+
 /// The pass that [`envelope`] makes, from windows in which nothing switches, with the delay in fs that no wire of the
 /// design passes, where one is known.
 fn one_pass(
@@ -80,8 +83,9 @@ pub fn envelope(alloc: Global, design: &Design) -> Result<Windows, EnvelopeFault
     one_pass(alloc, design, start, None)
 }
 
-/// The windows or the limit that [`envelope`] gives. Two or more threads first find the greatest wire delay of the
-/// design, each over a share of the nets; the pass then adds up the wires of those nets alone that come near a limit.
+/// The windows or the limit that [`envelope`] gives. Several threads first find the greatest wire delay of the design,
+/// each over a share of 1,024 nets or more; the pass then adds up the wires of those nets alone that come near a limit.
+/// Of fewer than two such shares this thread makes the pass as [`envelope`] does.
 pub fn envelope_by<R: Threads + Sync>(
     rt: &R,
     alloc: Global,
@@ -103,10 +107,11 @@ pub fn envelope_by<R: Threads + Sync>(
         → IsAccepted design.now top
         → IfErr result (λ fault. fault ≡ EnvelopeFault.NoMemory) }
 {
-    if threads <= 1 {
+    let shares = threads.min(design.nets().len() as u32 / LEAST_SHARE);
+    if shares <= 1 {
         return envelope(alloc, design);
     }
     let start = quiet(alloc, design)?;
-    let greatest = greatest_of_design(rt, design, &start, threads);
+    let greatest = greatest_of_design(rt, design, &start, shares);
     one_pass(alloc, design, start, Some(greatest))
 }

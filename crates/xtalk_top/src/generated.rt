@@ -25,8 +25,11 @@ use std::mem;
 use std::thread::{Threads, join};
 use xt_model::{Design, NoMemory, Windows};
 
+/// The fewest nets in a share that a thread counts: to begin a thread takes as long as to count some tens of nets.
+const LEAST_SHARE: u32 = 256;
+
 /// The text of the summary of a design and of its least and greatest windows. The read lists, which are not needed any
-/// more, are given back: by one worker after that, by several beside it.
+/// more, are given back: by one worker, or where the nets are few, after that, by several beside it.
 fn written<R: Threads + Sync>(
     rt: &R,
     alloc: Global,
@@ -43,11 +46,11 @@ fn written<R: Threads + Sync>(
         × IsPairCount design.now.nets pairs × IsDepth design.now.nets depth
         × (text.items ≡ text_of (summary design.now pairs depth low.now high.now))) }
 {
-    if workers <= 1 {
+    // Shares are uneven: with four for each worker the last thread is not long alone.
+    let shares = (4 * workers).min(design.nets().len() as u32 / LEAST_SHARE);
+    if workers <= 1 || shares <= 1 {
         return write_summary(alloc, design, low, high);
     }
-    // Shares are uneven: with four for each worker the last thread is not long alone.
-    let shares = 4 * workers;
     let (text, ()) = join(
         rt,
         move || -> Result<Vec<u8>, NoMemory>
