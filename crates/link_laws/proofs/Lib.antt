@@ -1,0 +1,4 @@
+mod Levels
+mod Blocks
+mod Ways
+mod Worked
