@@ -10,6 +10,7 @@ ghost use Rattle.sdc_read.specs.Sound.{AreSoundConstraints};
 ghost use Rattle.spef_read.specs.Sound.{AreSoundParasitics};
 ghost use Rattle.liberty_cells.specs.Sound.{IsSoundLibrary};
 ghost use Rattle.verilog_net.specs.Sound.{IsSoundNetlist};
+ghost use Rattle.command_line.specs.Words.{Text};
 ghost use Rattle.call_meaning.specs.Call.{Answers, IsStop};
 ghost use Rattle.call_meaning.specs.FailureWords.{most_bytes};
 ghost use Rattle.call_meaning.specs.Opened.{HasValue, OpensFirst, block_files};
@@ -216,6 +217,7 @@ fn finish_block<F: Files>(
         (F.faults files.old)
         (F.faults files.new) }
     ensures opened { OpensFirst (spef ∷ sdc ∷ []) (HasValue result) (F.opened files.old) (F.opened files.new) }
+    ensures content { (m : Text) → F.content files.new m ≡ F.content files.old m }
 {
     let parasitics = parasitics(alloc, files, spef)?;
     let constraints = constraints(alloc, files, sdc, library, netlist)?;
@@ -231,6 +233,7 @@ pub fn read_block<F: Files>(alloc: Global, files: &mut F, block: BlockFiles) -> 
         let IsValue = MakeDesign block (F.content files.old) in
         Answers result IsValue Meant (F.faults files.old) (F.faults files.new) }
     ensures opened { OpensFirst (block_files block) (HasValue result) (F.opened files.old) (F.opened files.new) }
+    ensures content { (m : Text) → F.content files.new m ≡ F.content files.old m }
 {
     let BlockFiles {
         lib,

@@ -5,8 +5,9 @@ use Rattle.command_line.specs.Words.{Text}
 use Rattle.call_meaning.specs.Outcome.{Contents}
 use Rattle.call_meaning.specs.Call.{AreKnown, IsCall, Means}
 
--- the outside of a call at one moment: how many faults its files had, its output and its error stream
+-- the outside of a call at one moment: what its files hold, how many faults they had, its output and its error stream
 pub record Outside (O E : Type 0) : Type 0 where
+  pub content : Contents
   pub faults : ℕ
   pub out : StreamState O
   pub err : StreamState E
@@ -23,20 +24,22 @@ abbrev pub sink_faults : {W : Type 0} → StreamState W → ℕ
 sink_faults sink = sink.faults
 
 -- what a call with these words does
-abbrev pub IsCallOf : {O E : Type 0} → List Text → Contents → Outside O E → Outside O E → ℕ → Type 0
-IsCallOf words content before after status =
-    IsCall written_by sink_faults written_by sink_faults (Means words content) (AreKnown words content)
+abbrev pub IsCallOf : {O E : Type 0} → List Text → Outside O E → Outside O E → ℕ → Type 0
+IsCallOf words before after status =
+    IsCall written_by sink_faults written_by sink_faults (Means words before.content) (AreKnown words before.content)
     (faults_of before) (faults_of after) before.out after.out before.err after.err status
 
--- 9 where no words are given, and all is as it was; else another status, and what a call with the words does
-abbrev pub EndsAs : {O E : Type 0} → Option (List Text) → Contents → Outside O E → Outside O E → ℕ → Type 0
-EndsAs given content before after status =
+-- 9 where no words are given, and all is as it was; else another status, and what a call with the words does, while all
+-- files hold what they held
+abbrev pub EndsAs : {O E : Type 0} → Option (List Text) → Outside O E → Outside O E → ℕ → Type 0
+EndsAs given before after status =
     MatchOption given ((status ≡ 9) × (after ≡ before))
-    (λ words. (status ≢ 9) × IsCallOf words content before after status)
+    (λ words. (status ≢ 9) × IsCallOf words before after status
+    × ((file : Text) → after.content file ≡ before.content file))
 
 -- a run: what is done with the words that are given, if any are, which are those that are known to be
-pub record IsRun {O E : Type 0} (known : Option (Option (List Text))) (content : Contents)
-    (before after : Outside O E) (status : ℕ) : Type 0 where
+pub record IsRun {O E : Type 0} (known : Option (Option (List Text))) (before after : Outside O E) (status : ℕ)
+    : Type 0 where
   pub given : Option (List Text)
   pub as_known : IfSome known (λ words. given ≡ words)
-  pub ended : EndsAs given content before after status
+  pub ended : EndsAs given before after status

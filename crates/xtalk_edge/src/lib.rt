@@ -35,9 +35,19 @@ where
     D: Directory + Drop,
     O: Stream + Drop,
     E: Stream + Drop,
-    ensures { IsRun (C.given command_line) (D.content directory)
-        (record { faults = 0; out = fresh_stream O.known O.contents out; err = fresh_stream E.known E.contents err })
-        (record { faults = result.files.faults; out = result.out; err = result.err }) result.status }
+    ensures { IsRun (C.given command_line)
+        (record {
+          content = D.content directory;
+          faults = 0;
+          out = fresh_stream O.known O.contents out;
+          err = fresh_stream E.known E.contents err;
+        })
+        (record {
+          content = D.content result.files.directory;
+          faults = result.files.faults;
+          out = result.out;
+          err = result.err;
+        }) result.status }
 {
     let mut files = DirectoryFiles::new(directory);
     let mut out = HostStream::new(out);
@@ -61,9 +71,19 @@ fn status<R: Threads + Sync, D: Directory, O: Stream, E: Stream>(
     out: &mut HostStream<O>,
     err: &mut HostStream<E>,
 ) -> u8
-    ensures { EndsAs (option_map (λ all. bytes_of all.items) words.now) (D.content files.old.directory)
-        (record { faults = files.old.faults; out = out.old; err = err.old })
-        (record { faults = files.new.faults; out = out.new; err = err.new }) result }
+    ensures { EndsAs (option_map (λ all. bytes_of all.items) words.now)
+        (record {
+          content = D.content files.old.directory;
+          faults = files.old.faults;
+          out = out.old;
+          err = err.old;
+        })
+        (record {
+          content = D.content files.new.directory;
+          faults = files.new.faults;
+          out = out.new;
+          err = err.new;
+        }) result }
 {
     match words {
         Some(words) => xtalk(rt, alloc, words, files, out, err),

@@ -1,7 +1,7 @@
 //! The command `eco`.
 
-ghost use Rattle.std.specs.Prelude.{[], ◌∷◌};
-ghost use Rattle.command_line.specs.Words.{IsWorkerCount};
+ghost use Rattle.std.specs.Prelude.{◌≡◌, [], ◌∷◌};
+ghost use Rattle.command_line.specs.Words.{Text, IsWorkerCount};
 ghost use Rattle.call_meaning.specs.Outcome.{prints};
 ghost use Rattle.call_meaning.specs.Opened.{HasValue, OpensFirst};
 ghost use Rattle.call_meaning.specs.Call.{Answers};
@@ -33,6 +33,7 @@ pub fn eco<R: Threads + Sync, F: Files, G: Gate>(
         Answers result (λ text. Meant (prints text.items)) Meant (F.faults files.old) (F.faults files.new) }
     ensures opened { OpensFirst (job.file ∷ job.edits ∷ []) (HasValue result)
         (F.opened files.old) (F.opened files.new) }
+    ensures content { (m : Text) → F.content files.new m ≡ F.content files.old m }
 {
     let EcoJob {
         file,

@@ -3,6 +3,7 @@
 ghost use Rattle.std.specs.Prelude.{◌≡◌, IfOk, IfErr};
 ghost use Rattle.text_lines.specs.Lines.{text_of};
 ghost use Rattle.linked_text.specs.Linked.{linked};
+ghost use Rattle.command_line.specs.Words.{Text};
 ghost use Rattle.call_meaning.specs.Outcome.{prints};
 ghost use Rattle.call_meaning.specs.Opened.{HasValue, OpensFirst, block_files};
 ghost use Rattle.call_meaning.specs.Call.{Answers, IsStop};
@@ -35,6 +36,7 @@ pub fn text_of_block<F: Files>(alloc: Global, files: &mut F, job: LinkJob) -> Re
     ensures means { let Meant = LinkMeans job (F.content files.old) in
         Answers result (λ text. Meant (prints text.items)) Meant (F.faults files.old) (F.faults files.new) }
     ensures opened { OpensFirst (block_files job.files) (HasValue result) (F.opened files.old) (F.opened files.new) }
+    ensures content { (m : Text) → F.content files.new m ≡ F.content files.old m }
 {
     let LinkJob {
         files: block,

@@ -1,6 +1,7 @@
 //! The command `report`.
 
-ghost use Rattle.command_line.specs.Words.{IsWorkerCount};
+ghost use Rattle.std.specs.Prelude.{◌≡◌};
+ghost use Rattle.command_line.specs.Words.{Text, IsWorkerCount};
 ghost use Rattle.call_meaning.specs.Outcome.{prints};
 ghost use Rattle.call_meaning.specs.Opened.{HasValue, OpensFirst, block_files};
 ghost use Rattle.call_meaning.specs.Call.{Answers};
@@ -31,6 +32,7 @@ pub fn report_of_block<R: Threads + Sync, F: Files, G: Gate>(
     ensures means { let Meant = ReportMeans job (F.content files.old) in
         Answers result (λ text. Meant (prints text.items)) Meant (F.faults files.old) (F.faults files.new) }
     ensures opened { OpensFirst (block_files job.files) (HasValue result) (F.opened files.old) (F.opened files.new) }
+    ensures content { (m : Text) → F.content files.new m ≡ F.content files.old m }
 {
     let ReportJob {
         files: block,

@@ -1,8 +1,8 @@
 //! The command `solve`.
 
-ghost use Rattle.std.specs.Prelude.{[], ◌∷◌};
+ghost use Rattle.std.specs.Prelude.{◌≡◌, [], ◌∷◌};
 ghost use Rattle.xt_io.specs.Outside.{AreOpened};
-ghost use Rattle.command_line.specs.Words.{IsWorkerCount};
+ghost use Rattle.command_line.specs.Words.{Text, IsWorkerCount};
 ghost use Rattle.call_meaning.specs.Outcome.{prints};
 ghost use Rattle.call_meaning.specs.Call.{Answers};
 ghost use Rattle.call_meaning.specs.Solve.{SolveMeans};
@@ -29,6 +29,7 @@ pub fn solve<R: Threads + Sync, F: Files, G: Gate>(
     ensures means { let Meant = SolveMeans job (F.content files.old) in
         Answers result (λ text. Meant (prints text.items)) Meant (F.faults files.old) (F.faults files.new) }
     ensures opened { AreOpened (job.file ∷ []) (F.opened files.old) (F.opened files.new) }
+    ensures content { (m : Text) → F.content files.new m ≡ F.content files.old m }
 {
     let SolveJob {
         file,

@@ -1,8 +1,8 @@
 //! The report of the design in a linked text.
 
-ghost use Rattle.std.specs.Prelude.{[], ◌∷◌};
+ghost use Rattle.std.specs.Prelude.{◌≡◌, [], ◌∷◌};
 ghost use Rattle.xt_io.specs.Outside.{AreOpened};
-ghost use Rattle.command_line.specs.Words.{IsWorkerCount};
+ghost use Rattle.command_line.specs.Words.{Text, IsWorkerCount};
 ghost use Rattle.call_meaning.specs.Outcome.{TextReportMeans, prints};
 ghost use Rattle.call_meaning.specs.Call.{Answers};
 
@@ -36,6 +36,7 @@ pub fn report_of_text<R: Threads + Sync, F: Files, G: Gate>(
     ensures means { let Meant = TextReportMeans file miller kind (F.content files.old) in
         Answers result (λ text. Meant (prints text.items)) Meant (F.faults files.old) (F.faults files.new) }
     ensures opened { AreOpened (file ∷ []) (F.opened files.old) (F.opened files.new) }
+    ensures content { (m : Text) → F.content files.new m ≡ F.content files.old m }
 {
     let (file, bytes) = read_file(alloc, files, file)?;
     let design = read_design(alloc, file, bytes)?;

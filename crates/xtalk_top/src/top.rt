@@ -76,6 +76,9 @@ pub fn xtalk<R: Threads + Sync, F: Files, O: Sink, E: Sink>(
     // A first part of the files that the words name was opened, each once, in their order; all of them for 0 and 7.
     ensures opened { OpensFirst (files_named (job_of (bytes_of words.now))) ((result ≡ 0) ⊎ (result ≡ 7))
         (F.opened files.old) (F.opened files.new) }
+
+    // All files hold what they held.
+    ensures content { (m : Text) → F.content files.new m ≡ F.content files.old m }
 {
     xtalk_gated(rt, alloc, &OpenGate, words, files, out, err)
 }
@@ -98,6 +101,7 @@ pub fn xtalk_gated<R: Threads + Sync, F: Files, O: Sink, E: Sink, G: Gate>(
         out.old out.new err.old err.new result }
     ensures opened { OpensFirst (files_named (job_of (bytes_of words.now))) ((result ≡ 0) ⊎ (result ≡ 7))
         (F.opened files.old) (F.opened files.new) }
+    ensures content { (m : Text) → F.content files.new m ≡ F.content files.old m }
 {
     match text_of(rt, alloc, gate, words, files) {
         Ok(text) => write_text(out, err, &text),
@@ -132,6 +136,7 @@ fn text_of<R: Threads + Sync, F: Files, G: Gate>(
         Answers result (λ text. Meant (prints text.items)) Meant (F.faults files.old) (F.faults files.new) }
     ensures opened { OpensFirst (files_named (job_of (bytes_of words.now))) (HasValue result)
         (F.opened files.old) (F.opened files.new) }
+    ensures content { (m : Text) → F.content files.new m ≡ F.content files.old m }
 {
     match parse_words(alloc, words) {
         Ok(job) => job_text(rt, alloc, gate, files, job),
@@ -152,6 +157,7 @@ fn job_text<R: Threads + Sync, F: Files, G: Gate>(
     ensures means { let Meant = JobMeans job (F.content files.old) in
         Answers result (λ text. Meant (prints text.items)) Meant (F.faults files.old) (F.faults files.new) }
     ensures opened { OpensFirst (files_of job) (HasValue result) (F.opened files.old) (F.opened files.new) }
+    ensures content { (m : Text) → F.content files.new m ≡ F.content files.old m }
 {
     match job {
         Job::Report(job) => report_of_block(rt, alloc, gate, files, job),

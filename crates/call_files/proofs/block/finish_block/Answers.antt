@@ -3,7 +3,7 @@ use Rattle.link_rules.specs.Bare.{Inputs}
 use Rattle.call_meaning.specs.Linking.{FileAndText, FinishDesign, LastFilesMean, LinkingMeans, ConstraintsIn, ParasiticsIn}
 use Rattle.call_meaning.proofs.Blocks.{holds_as, text_as, text_leads, text_stops}
 use Rattle.call_meaning.proofs.Lifts.{answers_unread, kept_trans, stops_first, stops_later}
-use Rattle.std.proofs.Common.{[], ◌∷◌}
+use Rattle.std.proofs.Common.{[], ◌∷◌, ◌∙◌}
 use Rattle.call_meaning.proofs.Openings.{opened_then, opens_all, opens_part}
 use Rattle.call_files.proofs.block.finish_block.Goals as goal
 
@@ -72,3 +72,12 @@ returns-clause-opened g c =
     let opened = g.F.Files.opened in
     opens_all (c.args.spef ∷ c.args.sdc ∷ []) _ (opened c.args.files.now) (opened c.constraints.new.files)
     (opened_then (c.args.spef ∷ []) (c.args.sdc ∷ []) (opened c.args.files.now) (opened c.parasitics.new.files) (opened c.constraints.new.files) c.parasitics.ensures.read.once c.constraints.ensures.read.once)
+
+pub returns-in_err-parasitics-clause-content : goal.returns-in_err-parasitics-clause-content
+returns-in_err-parasitics-clause-content g c = c.parasitics.ensures.read.kept
+
+pub returns-in_err-constraints-clause-content : goal.returns-in_err-constraints-clause-content
+returns-in_err-constraints-clause-content g c = λ m. c.constraints.ensures.read.kept m ∙ c.parasitics.ensures.read.kept m
+
+pub returns-clause-content : goal.returns-clause-content
+returns-clause-content g c = λ m. c.constraints.ensures.read.kept m ∙ c.parasitics.ensures.read.kept m

@@ -91,3 +91,12 @@ returns-clause-opened g c =
     let block = c.args.block in
     opens_more (block.lib ∷ block.netlist ∷ []) (block.spef ∷ block.sdc ∷ []) _ (opened c.args.files.now) (opened c.netlist.new.files) (opened c.finish_block-design.new.files)
     (opened_then (block.lib ∷ []) (block.netlist ∷ []) (opened c.args.files.now) (opened c.library.new.files) (opened c.netlist.new.files) c.library.ensures.read.once c.netlist.ensures.read.once) c.finish_block-design.ensures.opened
+
+pub returns-in_err-library-clause-content : goal.returns-in_err-library-clause-content
+returns-in_err-library-clause-content g c = c.library.ensures.read.kept
+
+pub returns-in_err-netlist-clause-content : goal.returns-in_err-netlist-clause-content
+returns-in_err-netlist-clause-content g c = λ m. c.netlist.ensures.read.kept m ∙ c.library.ensures.read.kept m
+
+pub returns-clause-content : goal.returns-clause-content
+returns-clause-content g c = λ m. c.finish_block-design.ensures.content m ∙ (c.netlist.ensures.read.kept m ∙ c.library.ensures.read.kept m)

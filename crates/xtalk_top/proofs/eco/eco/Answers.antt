@@ -1,4 +1,4 @@
-use Rattle.std.proofs.Common.{◌≡◌, [], ◌∷◌, inr, subst, IfSome}
+use Rattle.std.proofs.Common.{◌≡◌, ◌∙◌, [], ◌∷◌, inr, subst, IfSome}
 use Rattle.std.proofs.lemmas.Result.{err_from_is_err_and}
 use Rattle.xt_model.specs.Parts.{Parts}
 use Rattle.call_meaning.specs.Outcome.{FileMeans, LinkedMeans, Outcome, counted_by, prints}
@@ -92,3 +92,15 @@ returns-in-Ok-clause-opened g c =
     let opened = g.F.Files.opened in
     opens_all (c.args.job.file ∷ c.args.job.edits ∷ []) _ (opened c.args.files.now) (opened c.read_file-2.new.files)
     (opened_then (c.args.job.file ∷ []) (c.args.job.edits ∷ []) (opened c.args.files.now) (opened c.read_file.new.files) (opened c.read_file-2.new.files) c.read_file.ensures.opened c.read_file-2.ensures.opened)
+
+pub returns-in_err-file-clause-content : goal.returns-in_err-file-clause-content
+returns-in_err-file-clause-content g c = c.read_file.ensures.content
+
+pub returns-in_err-design-clause-content : goal.returns-in_err-design-clause-content
+returns-in_err-design-clause-content g c = c.read_file.ensures.content
+
+pub returns-in-Err-clause-content : goal.returns-in-Err-clause-content
+returns-in-Err-clause-content g c = λ m. c.read_file-2.ensures.content m ∙ c.read_file.ensures.content m
+
+pub returns-in-Ok-clause-content : goal.returns-in-Ok-clause-content
+returns-in-Ok-clause-content g c = λ m. c.read_file-2.ensures.content m ∙ c.read_file.ensures.content m

@@ -38,3 +38,9 @@ pub returns-clause-opened : goal.returns-clause-opened
 returns-clause-opened g c =
     let opened = g.F.Files.opened in
     opens_same (block_files c.args.job.files) _ _ (opened c.args.files.now) (opened c.read_block.new.files) (λ _. tt) c.in_ok-design.ensures.opened
+
+pub returns-in_err-design-clause-content : goal.returns-in_err-design-clause-content
+returns-in_err-design-clause-content g c = c.read_block.ensures.content
+
+pub returns-clause-content : goal.returns-clause-content
+returns-clause-content g c = c.read_block.ensures.content

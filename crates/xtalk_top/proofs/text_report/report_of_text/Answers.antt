@@ -46,3 +46,12 @@ returns-in_err-design-clause-opened g c = c.read_file.ensures.opened
 
 pub returns-clause-opened : goal.returns-clause-opened
 returns-clause-opened g c = c.read_file.ensures.opened
+
+pub returns-in_err-file-clause-content : goal.returns-in_err-file-clause-content
+returns-in_err-file-clause-content g c = c.read_file.ensures.content
+
+pub returns-in_err-design-clause-content : goal.returns-in_err-design-clause-content
+returns-in_err-design-clause-content g c = c.read_file.ensures.content
+
+pub returns-clause-content : goal.returns-clause-content
+returns-clause-content g c = c.read_file.ensures.content

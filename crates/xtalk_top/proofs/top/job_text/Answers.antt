@@ -54,3 +54,21 @@ pub returns-in-Gen-clause-opened : goal.returns-in-Gen-clause-opened
 returns-in-Gen-clause-opened g c =
     let at = g.F.Files.opened c.args.files.now in
     rw c.in-Gen.is (opens_all [] _ at at (none_opened at))
+
+pub returns-in-Report-clause-content : goal.returns-in-Report-clause-content
+returns-in-Report-clause-content g c = c.report_of_block.ensures.content
+
+pub returns-in-Solve-clause-content : goal.returns-in-Solve-clause-content
+returns-in-Solve-clause-content g c = c.solve.ensures.content
+
+pub returns-in-Replay-clause-content : goal.returns-in-Replay-clause-content
+returns-in-Replay-clause-content g c = c.replay.ensures.content
+
+pub returns-in-Eco-clause-content : goal.returns-in-Eco-clause-content
+returns-in-Eco-clause-content g c = c.eco.ensures.content
+
+pub returns-in-Link-clause-content : goal.returns-in-Link-clause-content
+returns-in-Link-clause-content g c = c.text_of_block.ensures.content
+
+pub returns-in-Gen-clause-content : goal.returns-in-Gen-clause-content
+returns-in-Gen-clause-content g c = λ m. refl

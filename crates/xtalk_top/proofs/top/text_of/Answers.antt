@@ -49,3 +49,12 @@ pub returns-in-Err-NoMemory-clause-opened : goal.returns-in-Err-NoMemory-clause-
 returns-in-Err-NoMemory-clause-opened g c =
     let at = g.F.Files.opened c.args.files.now in
     opens_part [] (files_named (job_of (bytes_of c.args.words.now))) ⊥ at at (none_opened at) (λ w. w)
+
+pub returns-in-Ok-clause-content : goal.returns-in-Ok-clause-content
+returns-in-Ok-clause-content g c = c.job_text.ensures.content
+
+pub returns-in-Err-Bad-clause-content : goal.returns-in-Err-Bad-clause-content
+returns-in-Err-Bad-clause-content g c = λ m. refl
+
+pub returns-in-Err-NoMemory-clause-content : goal.returns-in-Err-NoMemory-clause-content
+returns-in-Err-NoMemory-clause-content g c = λ m. refl

@@ -20,3 +20,6 @@ returns-clause-opened g c = c.xtalk_gated.ensures.opened
 
 pub returns-clause-only : goal.returns-clause-only
 returns-clause-only g c = c.xtalk_gated.ensures.call.only
+
+pub returns-clause-content : goal.returns-clause-content
+returns-clause-content g c = c.xtalk_gated.ensures.content

@@ -121,3 +121,9 @@ returns-in-Err-clause-opened g c =
       | inl at ↦ absurd (not_zero c.in-Err.stop c.refuse.result c.refuse.ensures.status at)
       | inr at ↦ absurd (not_seven c.in-Err.stop c.refuse.result c.refuse.ensures.status at)
     ]) c.in-Err.ensures.opened
+
+pub returns-in-Ok-clause-content : goal.returns-in-Ok-clause-content
+returns-in-Ok-clause-content g c = c.text_of.ensures.content
+
+pub returns-in-Err-clause-content : goal.returns-in-Err-clause-content
+returns-in-Err-clause-content g c = c.text_of.ensures.content
