@@ -13,13 +13,14 @@ ghost use Rattle.verilog_net.specs.Sound.{IsSoundNetlist};
 ghost use Rattle.command_line.specs.Words.{Text};
 ghost use Rattle.call_meaning.specs.Call.{Answers, IsStop};
 ghost use Rattle.call_meaning.specs.FailureWords.{most_bytes};
-ghost use Rattle.call_meaning.specs.Opened.{HasValue, OpensFirst, block_files};
+ghost use Rattle.call_meaning.specs.Opened.{FailsAfter, HasValue, OpensFirst, block_files};
 ghost use Rattle.call_meaning.specs.Linking;
 ghost use Rattle.call_meaning.specs.Linking.{BlockMeans, LinkingMeans, MakeDesign};
 ghost use Rattle.call_meaning.specs.Linking.{FinishDesign, LastFilesMean, TextMeans};
 ghost use Rattle.call_meaning.specs.Linking.{ConstraintsIn, LibraryIn, NetlistIn, ParasiticsIn};
 ghost use Rattle.call_files.specs.Texts;
 ghost use Rattle.call_files.specs.Texts.{ReadsText};
+ghost use Rattle.call_meaning.specs.declared.refusal.Failure.TheVariants.{NoText};
 ghost use Rattle.call_meaning.specs.declared.refusal.Stop.TheVariants.{Refused};
 ghost use Rattle.call_meaning.specs.declared.refusal.Refusal.TheVariants.{File};
 ghost use Rattle.call_meaning.specs.declared.refusal.FileRefusal.TheVariants.{Content};
@@ -217,6 +218,8 @@ fn finish_block<F: Files>(
         (F.faults files.old)
         (F.faults files.new) }
     ensures opened { OpensFirst (spef ∷ sdc ∷ []) (HasValue result) (F.opened files.old) (F.opened files.new) }
+    ensures stopped { IfErr result (λ stop. FailsAfter (spef ∷ sdc ∷ [])
+        (F.opened files.old) (F.opened files.new) (NoText stop)) }
     ensures content { (m : Text) → F.content files.new m ≡ F.content files.old m }
 {
     let parasitics = parasitics(alloc, files, spef)?;
@@ -233,6 +236,8 @@ pub fn read_block<F: Files>(alloc: Global, files: &mut F, block: BlockFiles) -> 
         let IsValue = MakeDesign block (F.content files.old) in
         Answers result IsValue Meant (F.faults files.old) (F.faults files.new) }
     ensures opened { OpensFirst (block_files block) (HasValue result) (F.opened files.old) (F.opened files.new) }
+    ensures stopped { IfErr result (λ stop. FailsAfter (block_files block)
+        (F.opened files.old) (F.opened files.new) (NoText stop)) }
     ensures content { (m : Text) → F.content files.new m ≡ F.content files.old m }
 {
     let BlockFiles {

@@ -1,5 +1,6 @@
 pub mod Lifts
 pub mod Openings
+pub mod Endings
 pub mod Blocks
 pub mod Netlists
 pub mod Within

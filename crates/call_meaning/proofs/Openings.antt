@@ -44,3 +44,6 @@ opens_part xs ys All a z h not_all =
 
 pub opens_same : (xs : List Text) (All Other : Type 0) (a z : Option (List Text)) → (Other → All) → OpensFirst xs All a z → OpensFirst xs Other a z
 opens_same xs All Other a z f h = record { count = h.count; opened = h.opened; all = λ w. h.all (f w) }
+
+pub all_opened : (xs : List Text) (All : Type 0) (a z : Option (List Text)) → OpensFirst xs All a z → All → AreOpened xs a z
+all_opened xs All a z h w = subst (λ names. AreOpened names a z) (take_all h.count xs (h.all w)) h.opened

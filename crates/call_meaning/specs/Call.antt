@@ -89,18 +89,21 @@ Answers (Ok value) IsValue Meant before after = IsValue value × KeepsCounts bef
 Answers (Err stop) IsValue Meant before after = Stops stop Meant before after
 
 -- what a whole call does, by what its words and files mean, the counts of faults of the files, and what its output and
--- its error stream have: `texts` and `lines` are what they hold, `text_faults` and `line_faults` count their faults
+-- its error stream have: `texts` and `lines` are what they hold, `text_faults` and `line_faults` count their faults;
+-- `Opened` says which files were opened where it has a failure
 pub record IsCall {O E : Type 0} (texts : O → Option Text) (text_faults : O → ℕ) (lines : E → Option Text)
-    (line_faults : E → ℕ) (Meant : Outcome → Type 0) (Known : Type 0) (before after : Text → ℕ) (out new_out : O)
-    (err new_err : E) (status : ℕ) : Type 0 where
+    (line_faults : E → ℕ) (Meant : Outcome → Type 0) (Known : Type 0) (Opened : Failure → Type 0)
+    (before after : Text → ℕ) (out new_out : O) (err new_err : E) (status : ℕ) : Type 0 where
   -- 0: the text that is meant was written, and nothing else
   pub printed : status ≡ 0 → (text : Text) × Meant (prints text) × (texts new_out ≡ appended (texts out) text)
       × (new_err ≡ err)
-  -- any other status has one failure as its cause, and the line of that failure on the error stream
+  -- any other status has one failure as its cause, and the line of that failure on the error stream; no file was opened
+  -- that comes after that failure
   pub failed : status ≢ 0 → (failure : Failure) × (status ≡ status_of failure)
       × IsFailure Meant (HasFault before after)
       (IsCutOff (texts out) (texts new_out) (text_faults out) (text_faults new_out)) failure
       × WritesLine (lines err) (lines new_err) (line_faults err) (line_faults new_err) (line_of failure)
+      × Opened failure
   -- all else stays as it was
   pub kept : (status ≢ 0 → status ≢ 7 → new_out ≡ out) × (status ≢ 7 → text_faults new_out ≡ text_faults out)
       × (status ≢ 6 → KeepsCounts before after)

@@ -47,10 +47,10 @@ pub record Call (O E : Type 0) : Type 0 where
   pub new_err : E
   pub status : ℕ
 
--- it does what a call with these words does, over files with these contents
+-- it does what a call with these words does, over files with these contents, whichever it opens
 abbrev pub IsCallWith : {O E : Type 0} → Streams O E → List Text → Contents → Call O E → Type 0
 IsCallWith s words content c =
-    IsCall s.texts s.text_faults s.lines s.line_faults (Means words content) (AreKnown words content)
+    IsCall s.texts s.text_faults s.lines s.line_faults (Means words content) (AreKnown words content) (λ _. Unit {0})
     c.before c.after c.out c.new_out c.err c.new_err c.status
 
 -- it shows this outcome: its text was appended to the output, or its line to the error stream

@@ -1,11 +1,12 @@
 //! The command `eco`.
 
-ghost use Rattle.std.specs.Prelude.{◌≡◌, [], ◌∷◌};
+ghost use Rattle.std.specs.Prelude.{◌≡◌, [], ◌∷◌, IfErr};
 ghost use Rattle.command_line.specs.Words.{Text, IsWorkerCount};
 ghost use Rattle.call_meaning.specs.Outcome.{prints};
-ghost use Rattle.call_meaning.specs.Opened.{HasValue, OpensFirst};
+ghost use Rattle.call_meaning.specs.Opened.{FailsAfter, HasValue, OpensFirst};
 ghost use Rattle.call_meaning.specs.Call.{Answers};
 ghost use Rattle.call_meaning.specs.Eco.{EcoMeans};
+ghost use Rattle.call_meaning.specs.declared.refusal.Failure.TheVariants.{NoText};
 
 use crate::counted::counted_by;
 use crate::edits::report_of_edits;
@@ -33,6 +34,8 @@ pub fn eco<R: Threads + Sync, F: Files, G: Gate>(
         Answers result (λ text. Meant (prints text.items)) Meant (F.faults files.old) (F.faults files.new) }
     ensures opened { OpensFirst (job.file ∷ job.edits ∷ []) (HasValue result)
         (F.opened files.old) (F.opened files.new) }
+    ensures stopped { IfErr result (λ stop. FailsAfter (job.file ∷ job.edits ∷ [])
+        (F.opened files.old) (F.opened files.new) (NoText stop)) }
     ensures content { (m : Text) → F.content files.new m ≡ F.content files.old m }
 {
     let EcoJob {

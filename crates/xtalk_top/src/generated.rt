@@ -29,7 +29,7 @@ use xt_model::{Design, NoMemory, Windows};
 const LEAST_SHARE: u32 = 256;
 
 /// The text of the summary of a design and of its least and greatest windows. The read lists, which are not needed any
-/// more, are given back: by one worker, or where the nets are few, after that, by several beside it.
+/// more, are given back beside it where several threads count, else after it.
 fn written<R: Threads + Sync>(
     rt: &R,
     alloc: Global,

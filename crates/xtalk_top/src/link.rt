@@ -5,9 +5,10 @@ ghost use Rattle.text_lines.specs.Lines.{text_of};
 ghost use Rattle.linked_text.specs.Linked.{linked};
 ghost use Rattle.command_line.specs.Words.{Text};
 ghost use Rattle.call_meaning.specs.Outcome.{prints};
-ghost use Rattle.call_meaning.specs.Opened.{HasValue, OpensFirst, block_files};
+ghost use Rattle.call_meaning.specs.Opened.{FailsAfter, HasValue, OpensFirst, block_files};
 ghost use Rattle.call_meaning.specs.Call.{Answers, IsStop};
 ghost use Rattle.call_meaning.specs.Link.{LinkMeans};
+ghost use Rattle.call_meaning.specs.declared.refusal.Failure.TheVariants.{NoText};
 
 use crate::counted::counted_by;
 use call_files::read_block;
@@ -36,6 +37,8 @@ pub fn text_of_block<F: Files>(alloc: Global, files: &mut F, job: LinkJob) -> Re
     ensures means { let Meant = LinkMeans job (F.content files.old) in
         Answers result (λ text. Meant (prints text.items)) Meant (F.faults files.old) (F.faults files.new) }
     ensures opened { OpensFirst (block_files job.files) (HasValue result) (F.opened files.old) (F.opened files.new) }
+    ensures stopped { IfErr result (λ stop. FailsAfter (block_files job.files)
+        (F.opened files.old) (F.opened files.new) (NoText stop)) }
     ensures content { (m : Text) → F.content files.new m ≡ F.content files.old m }
 {
     let LinkJob {

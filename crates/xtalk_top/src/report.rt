@@ -1,11 +1,12 @@
 //! The command `report`.
 
-ghost use Rattle.std.specs.Prelude.{◌≡◌};
+ghost use Rattle.std.specs.Prelude.{◌≡◌, IfErr};
 ghost use Rattle.command_line.specs.Words.{Text, IsWorkerCount};
 ghost use Rattle.call_meaning.specs.Outcome.{prints};
-ghost use Rattle.call_meaning.specs.Opened.{HasValue, OpensFirst, block_files};
+ghost use Rattle.call_meaning.specs.Opened.{FailsAfter, HasValue, OpensFirst, block_files};
 ghost use Rattle.call_meaning.specs.Call.{Answers};
 ghost use Rattle.call_meaning.specs.Report.{ReportMeans};
+ghost use Rattle.call_meaning.specs.declared.refusal.Failure.TheVariants.{NoText};
 
 use crate::counted::counted_by;
 use crate::design_report::report;
@@ -32,6 +33,8 @@ pub fn report_of_block<R: Threads + Sync, F: Files, G: Gate>(
     ensures means { let Meant = ReportMeans job (F.content files.old) in
         Answers result (λ text. Meant (prints text.items)) Meant (F.faults files.old) (F.faults files.new) }
     ensures opened { OpensFirst (block_files job.files) (HasValue result) (F.opened files.old) (F.opened files.new) }
+    ensures stopped { IfErr result (λ stop. FailsAfter (block_files job.files)
+        (F.opened files.old) (F.opened files.new) (NoText stop)) }
     ensures content { (m : Text) → F.content files.new m ≡ F.content files.old m }
 {
     let ReportJob {

@@ -1,11 +1,11 @@
-ghost use Rattle.std.specs.Prelude.{◌≡◌, ◌≢◌, ◌⊎◌};
+ghost use Rattle.std.specs.Prelude.{◌≡◌, ◌≢◌, ◌⊎◌, IfErr};
 ghost use Rattle.xt_io.specs.Outside.{Rose, KeepsCounts, appended};
 ghost use Rattle.command_line.specs.Words.{Text, HasCount, bytes_of, job_of};
 ghost use Rattle.call_meaning.specs.Outcome.{Outcome, prints, refuses, unread};
 ghost use Rattle.call_meaning.specs.Call.{JobMeans, Means, AreKnown, Answers, IsCall, IsFailure, HasFault, IsCutOff};
 ghost use Rattle.call_meaning.specs.Call.{HadNoFault, Shows};
 ghost use Rattle.call_meaning.specs.FailureWords.{WritesLine, line_of, status_of};
-ghost use Rattle.call_meaning.specs.Opened.{HasValue, OpensFirst, files_named, files_of};
+ghost use Rattle.call_meaning.specs.Opened.{FailsAfter, HasValue, OpensFirst, files_named, files_of};
 ghost use Rattle.call_meaning.specs.declared.refusal.Refusal.{Refusal};
 ghost use Rattle.call_meaning.specs.declared.refusal.Failure.{Failure};
 ghost use Rattle.call_meaning.specs.declared.refusal.Failure.TheVariants.{NoText, Unwritten};
@@ -40,12 +40,14 @@ pub fn xtalk<R: Threads + Sync, F: Files, O: Sink, E: Sink>(
     ensures printed { result ≡ 0 → (text : Text) × Means (bytes_of words.now) (F.content files.old) (prints text)
         × (O.written out.new ≡ appended (O.written out.old) text) × (err.new ≡ err.old) }
 
-    // Any other status has one failure as its cause, and the line of that failure on err.
+    // Any other status has one failure as its cause, and the line of that failure on err. No file was opened after one
+    // that is refused or could not be read.
     ensures failed { result ≢ 0 → (failure : Failure) × (result ≡ status_of failure)
         × IsFailure (Means (bytes_of words.now) (F.content files.old))
         (HasFault (F.faults files.old) (F.faults files.new))
         (IsCutOff (O.written out.old) (O.written out.new) (O.faults out.old) (O.faults out.new)) failure
-        × WritesLine (E.written err.old) (E.written err.new) (E.faults err.old) (E.faults err.new) (line_of failure) }
+        × WritesLine (E.written err.old) (E.written err.new) (E.faults err.old) (E.faults err.new) (line_of failure)
+        × FailsAfter (files_named (job_of (bytes_of words.now))) (F.opened files.old) (F.opened files.new) failure }
 
     // All else stays as it was: out, but for a text (0) and for a first part of one, after which a write came to a
     // fault (7); its count of faults, but for 7; the counts of all files, but for a read fault (6).
@@ -77,7 +79,7 @@ pub fn xtalk<R: Threads + Sync, F: Files, O: Sink, E: Sink>(
     ensures opened { OpensFirst (files_named (job_of (bytes_of words.now))) ((result ≡ 0) ⊎ (result ≡ 7))
         (F.opened files.old) (F.opened files.new) }
 
-    // All files hold what they held.
+    // All files hold what they held, where that is known.
     ensures content { (m : Text) → F.content files.new m ≡ F.content files.old m }
 {
     xtalk_gated(rt, alloc, &OpenGate, words, files, out, err)
@@ -97,8 +99,9 @@ pub fn xtalk_gated<R: Threads + Sync, F: Files, O: Sink, E: Sink, G: Gate>(
     err: &mut E,
 ) -> u8
     ensures call { IsCall O.written O.faults E.written E.faults (Means (bytes_of words.now) (F.content files.old))
-        (AreKnown (bytes_of words.now) (F.content files.old)) (F.faults files.old) (F.faults files.new)
-        out.old out.new err.old err.new result }
+        (AreKnown (bytes_of words.now) (F.content files.old))
+        (FailsAfter (files_named (job_of (bytes_of words.now))) (F.opened files.old) (F.opened files.new))
+        (F.faults files.old) (F.faults files.new) out.old out.new err.old err.new result }
     ensures opened { OpensFirst (files_named (job_of (bytes_of words.now))) ((result ≡ 0) ⊎ (result ≡ 7))
         (F.opened files.old) (F.opened files.new) }
     ensures content { (m : Text) → F.content files.new m ≡ F.content files.old m }
@@ -136,6 +139,8 @@ fn text_of<R: Threads + Sync, F: Files, G: Gate>(
         Answers result (λ text. Meant (prints text.items)) Meant (F.faults files.old) (F.faults files.new) }
     ensures opened { OpensFirst (files_named (job_of (bytes_of words.now))) (HasValue result)
         (F.opened files.old) (F.opened files.new) }
+    ensures stopped { IfErr result (λ stop. FailsAfter (files_named (job_of (bytes_of words.now)))
+        (F.opened files.old) (F.opened files.new) (NoText stop)) }
     ensures content { (m : Text) → F.content files.new m ≡ F.content files.old m }
 {
     match parse_words(alloc, words) {
@@ -157,6 +162,8 @@ fn job_text<R: Threads + Sync, F: Files, G: Gate>(
     ensures means { let Meant = JobMeans job (F.content files.old) in
         Answers result (λ text. Meant (prints text.items)) Meant (F.faults files.old) (F.faults files.new) }
     ensures opened { OpensFirst (files_of job) (HasValue result) (F.opened files.old) (F.opened files.new) }
+    ensures stopped { IfErr result (λ stop. FailsAfter (files_of job)
+        (F.opened files.old) (F.opened files.new) (NoText stop)) }
     ensures content { (m : Text) → F.content files.new m ≡ F.content files.old m }
 {
     match job {

@@ -1,16 +1,19 @@
 use Rattle.std.proofs.Common.{◌≡◌, ◌∙◌}
-use Rattle.std.proofs.lemmas.Result.{err_from_is_err_and}
+use Rattle.std.proofs.lemmas.Result.{IfErr-weaker, err_from_is_err_and}
 use Rattle.liberty_cells.specs.declared.library.Library.{Library}
 use Rattle.verilog_net.specs.declared.netlist.Netlist.{Netlist}
 use Rattle.xt_model.specs.Parts.{Parts}
 use Rattle.command_line.specs.Words.{Text}
+use Rattle.call_meaning.specs.Call.{HasFault}
 use Rattle.call_meaning.specs.Outcome.{Contents, Outcome}
 use Rattle.command_line.specs.declared.words.BlockFiles.{BlockFiles}
 use Rattle.call_meaning.specs.Linking.{BlockMeans, FileAndText, FinishDesign, HoldsText, LastFilesMean, LinkingMeans, MakeDesign}
 use Rattle.call_meaning.specs.Linking.{ConstraintsIn, LibraryIn, NetlistIn, ParasiticsIn}
 use Rattle.call_meaning.proofs.Blocks.{holds_as, last_as, text_as, text_leads, text_stops}
 use Rattle.call_meaning.proofs.Lifts.{answers_later, kept_trans, stops_first, stops_later}
-use Rattle.std.proofs.Common.{[], ◌∷◌}
+use Rattle.std.proofs.Common.{[], ◌∷◌, refl}
+use Rattle.call_meaning.specs.Opened.{block_files}
+use Rattle.call_meaning.proofs.Endings.{fails_at, fails_later, text_ends}
 use Rattle.call_meaning.proofs.Openings.{opened_then, opens_more, opens_part}
 use Rattle.call_files.proofs.block.read_block.Goals as goal
 
@@ -100,3 +103,34 @@ returns-in_err-netlist-clause-content g c = λ m. c.netlist.ensures.read.kept m 
 
 pub returns-clause-content : goal.returns-clause-content
 returns-clause-content g c = λ m. c.finish_block-design.ensures.content m ∙ (c.netlist.ensures.read.kept m ∙ c.library.ensures.read.kept m)
+
+pub returns-in_err-library-clause-stopped : goal.returns-in_err-library-clause-stopped
+returns-in_err-library-clause-stopped g c =
+    let opened = g.F.Files.opened in
+    let faults = g.F.Files.faults in
+    let block = c.args.block in
+    let content = g.F.Files.content c.args.files.now in
+    let failed = err_from_is_err_and c.from_residual.result c.from_residual.ensures.1 in
+    rw failed.1 (rw failed.2 (fails_at (block_files block) (opened c.args.files.now) (opened c.library.new.files) (FileAndText block.lib content LibraryIn (λ _. ⊥))
+    (HasFault (faults c.args.files.now) (faults c.library.new.files)) [] block.lib c.in_err-library.field-0.0 (λ o h. text_ends (λ f. f ≡ block.lib) ⊥ block.lib content LibraryIn o refl h)
+    c.library.ensures.read.once c.in_err-library.ensures.read.answer.0))
+
+pub returns-in_err-netlist-clause-stopped : goal.returns-in_err-netlist-clause-stopped
+returns-in_err-netlist-clause-stopped g c =
+    let opened = g.F.Files.opened in
+    let faults = g.F.Files.faults in
+    let block = c.args.block in
+    let first = g.F.Files.content c.library.new.files in
+    let failed = err_from_is_err_and c.from_residual-in_err-netlist.result c.from_residual-in_err-netlist.ensures.1 in
+    rw failed.1 (rw failed.2 (fails_at (block_files block) (opened c.args.files.now) (opened c.netlist.new.files) (FileAndText block.netlist first NetlistIn (λ _. ⊥))
+    (HasFault (faults c.library.new.files) (faults c.netlist.new.files)) (block.lib ∷ []) block.netlist c.in_err-netlist.field-0.0 (λ o h. text_ends (λ f. f ≡ block.netlist) ⊥ block.netlist first NetlistIn o refl h)
+    (opened_then (block.lib ∷ []) (block.netlist ∷ []) (opened c.args.files.now) (opened c.library.new.files) (opened c.netlist.new.files) c.library.ensures.read.once c.netlist.ensures.read.once)
+    c.in_err-netlist.ensures.read.answer.0))
+
+pub returns-clause-stopped : goal.returns-clause-stopped
+returns-clause-stopped g c =
+    let opened = g.F.Files.opened in
+    let block = c.args.block in
+    IfErr-weaker c.finish_block-design.result _ _ (λ stop h. fails_later (block.lib ∷ block.netlist ∷ []) (block.spef ∷ block.sdc ∷ []) (opened c.args.files.now) (opened c.netlist.new.files) (opened c.finish_block-design.new.files) stop
+    (opened_then (block.lib ∷ []) (block.netlist ∷ []) (opened c.args.files.now) (opened c.library.new.files) (opened c.netlist.new.files) c.library.ensures.read.once c.netlist.ensures.read.once)
+    h) c.finish_block-design.ensures.stopped

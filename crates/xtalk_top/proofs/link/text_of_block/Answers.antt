@@ -1,5 +1,5 @@
 use Rattle.std.proofs.Common.{◌≡◌, ◌∙◌, ap}
-use Rattle.std.proofs.lemmas.Result.{err_from_is_err_and}
+use Rattle.std.proofs.lemmas.Result.{IfErr-weaker, err_from_is_err_and}
 use Rattle.text_lines.specs.Lines.{text_of}
 use Rattle.linked_text.specs.Linked.{linked}
 use Rattle.call_meaning.specs.Outcome.{counted_by, prints}
@@ -8,7 +8,8 @@ use Rattle.call_meaning.specs.Linking.{BlockMeans}
 use Rattle.call_meaning.proofs.Blocks.{block_leads, block_stops}
 use Rattle.call_meaning.proofs.Lifts.{answers_unread, stops_first}
 use Rattle.call_meaning.specs.Opened.{block_files}
-use Rattle.call_meaning.proofs.Openings.{opens_same}
+use Rattle.call_meaning.proofs.Endings.{fails_together}
+use Rattle.call_meaning.proofs.Openings.{all_opened, opens_same}
 use Rattle.xtalk_top.proofs.link.text_of_block.Goals as goal
 
 pub returns-in_err-design-clause-means : goal.returns-in_err-design-clause-means
@@ -46,3 +47,15 @@ returns-in_err-design-clause-content g c = c.read_block.ensures.content
 
 pub returns-clause-content : goal.returns-clause-content
 returns-clause-content g c = c.read_block.ensures.content
+
+pub returns-in_err-design-clause-stopped : goal.returns-in_err-design-clause-stopped
+returns-in_err-design-clause-stopped g c =
+    let failed = err_from_is_err_and c.from_residual.result c.from_residual.ensures.1 in
+    rw failed.1 (rw failed.2 c.in_err-design.ensures.stopped)
+
+pub returns-clause-stopped : goal.returns-clause-stopped
+returns-clause-stopped g c =
+    let opened = g.F.Files.opened in
+    let files = block_files c.args.job.files in
+    IfErr-weaker c.text_of_design-text.result _ _ (λ stop h. fails_together files (opened c.args.files.now) (opened c.read_block.new.files) (λ _. ⊥) (λ _. ⊥) stop (λ o m. absurd m)
+    (all_opened files _ (opened c.args.files.now) (opened c.read_block.new.files) c.in_ok-design.ensures.opened tt) h) c.text_of_design-text.ensures.stop

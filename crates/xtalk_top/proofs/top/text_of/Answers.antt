@@ -1,5 +1,6 @@
-use Rattle.std.proofs.Common.{◌≡◌, Err, Option, IfSome, ap, refl, sym, subst}
+use Rattle.std.proofs.Common.{◌≡◌, Err, Option, IfErr, IfSome, ap, refl, sym, subst}
 use Rattle.std.specs.Prelude.{MatchOption}
+use Rattle.xt_io.specs.Outside.{AreOpened}
 use Rattle.command_line.specs.Words.{HasCount, bytes_of}
 use Rattle.command_line.specs.declared.words.Job.{Job}
 use Rattle.call_meaning.specs.declared.refusal.Refusal.TheVariants.{Words}
@@ -9,7 +10,8 @@ use Rattle.command_line.proofs.Counts.{job_counts}
 use Rattle.call_meaning.proofs.Lifts.{answers_first, job_means}
 use Rattle.std.proofs.Common.{[]}
 use Rattle.command_line.specs.Words.{job_of}
-use Rattle.call_meaning.specs.Opened.{files_named}
+use Rattle.call_meaning.specs.Opened.{FailsAfter, files_named}
+use Rattle.call_meaning.specs.declared.refusal.Failure.TheVariants.{NoText}
 use Rattle.call_meaning.proofs.Openings.{none_opened, opens_part}
 use Rattle.xtalk_top.proofs.top.text_of.Goals as goal
 
@@ -58,3 +60,18 @@ returns-in-Err-Bad-clause-content g c = λ m. refl
 
 pub returns-in-Err-NoMemory-clause-content : goal.returns-in-Err-NoMemory-clause-content
 returns-in-Err-NoMemory-clause-content g c = λ m. refl
+
+pub returns-in-Ok-clause-stopped : goal.returns-in-Ok-clause-stopped
+returns-in-Ok-clause-stopped g c =
+    let opened = g.F.Files.opened in
+    let P : Option Job → Type 0 = λ j. IfErr c.job_text.result (λ stop. FailsAfter (files_named j) (opened c.args.files.now) (opened c.job_text.new.files) (NoText stop)) in
+    subst P (sym c.in-Ok.ensures.parsed) c.job_text.ensures.stopped
+
+pub returns-in-Err-Bad-clause-stopped : goal.returns-in-Err-Bad-clause-stopped
+returns-in-Err-Bad-clause-stopped g c =
+    let at = g.F.Files.opened c.args.files.now in
+    let P : Option Job → Type 0 = λ j. AreOpened (files_named j) at at in
+    subst P (sym (c.in-Err-Bad.ensures.bad (ap Err c.in-Err-Bad.field-0-is))) (none_opened at)
+
+pub returns-in-Err-NoMemory-clause-stopped : goal.returns-in-Err-NoMemory-clause-stopped
+returns-in-Err-NoMemory-clause-stopped g c = tt

@@ -14,7 +14,7 @@ use Rattle.call_meaning.specs.FailureWords.{WritesLine, status_of}
 use Rattle.call_meaning.proofs.Agreement.{one_outcome, refused, not_both, completed, text_is_only, stop_is_only}
 use Rattle.command_line.specs.Words.{job_of}
 use Rattle.call_meaning.specs.Opened.{files_named}
-use Rattle.call_meaning.proofs.Openings.{opens_same}
+use Rattle.call_meaning.proofs.Openings.{all_opened, opens_same}
 use Rattle.xtalk_top.proofs.top.xtalk_gated.Goals as goal
 
 -- a status of 0, or of 7
@@ -61,13 +61,14 @@ returns-in-Ok-clause-call g c =
     let words = bytes_of c.args.words.now in
     let content = g.F.Files.content c.args.files.now in
     let text = c.in-Ok.text.items in
+    let opened = g.F.Files.opened in
     record {
       printed = λ whole.
           let written = c.write_text.ensures.whole whole in
           (text, c.in-Ok.ensures.means.0, rw c.deref.ensures.value at written.0, written.2);
       failed = λ bad.
           let cut = c.write_text.ensures.cut_off bad in
-          (Unwritten, cut.0, (text, c.in-Ok.ensures.means.0, rw c.deref.ensures.value at cut.1), cut.2);
+          (Unwritten, cut.0, (text, c.in-Ok.ensures.means.0, rw c.deref.ensures.value at cut.1), cut.2, all_opened (files_named (job_of words)) _ (opened c.args.files.now) (opened c.text_of.new.files) c.in-Ok.ensures.opened tt);
       kept = (
         λ bad other. absurd (other (c.write_text.ensures.cut_off bad).0),
         unless_seven c.write_text.result (g.O.Sink.faults c.write_text.new.out ≡ g.O.Sink.faults c.args.out.now)
@@ -96,7 +97,7 @@ returns-in-Err-clause-call g c =
     let status = c.refuse.ensures.status in
     record {
       printed = λ whole. absurd (not_zero stop c.refuse.result status whole);
-      failed = λ _. (NoText stop, status, c.in-Err.ensures.means.0, c.refuse.ensures.line);
+      failed = λ _. (NoText stop, status, c.in-Err.ensures.means.0, c.refuse.ensures.line, c.in-Err.ensures.stopped);
       kept = (λ _ _. refl, λ _. refl, λ other. c.in-Err.ensures.means.1 (λ six. other (status ∙ six)));
       refused = λ why meant known.
           refused (Means words content) Fault (one_outcome words content known) why stop c.refuse.result meant c.in-Err.ensures.means.0 status;
