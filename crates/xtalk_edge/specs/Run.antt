@@ -29,8 +29,8 @@ IsCallOf words before after status =
     IsCall written_by sink_faults written_by sink_faults (Means words before.content) (AreKnown words before.content)
     (λ _. Unit {0}) (faults_of before) (faults_of after) before.out after.out before.err after.err status
 
--- 9 where no words are given, and all is as it was; else another status, and what a call with the words does, and all files
--- hold what they held
+-- 9 where no words are given, and all is as it was; else another status, and what a call with the words does, and all
+-- files hold what they held
 abbrev pub EndsAs : {O E : Type 0} → Option (List Text) → Outside O E → Outside O E → ℕ → Type 0
 EndsAs given before after status =
     MatchOption given ((status ≡ 9) × (after ≡ before))
