@@ -1,5 +1,5 @@
 -- Several steps of a worker, one after another.
-use Rattle.std.proofs.Common.{◌≡◌, ℕ, zero, suc, ◌+◌, ◌-◌, ◌*◌, ◌%◌, ◌<◌, ◌≤◌, nat_lt, if◌then◌else◌, ◌⊎◌, inl, inr, refl, sym, ap, subst, ◌∙◌, List, [], ◌∷◌, ◌++◌, length, arith}
+use Rattle.std.proofs.Common.{◌≡◌, ℕ, zero, suc, ◌+◌, ◌*◌, ◌%◌, ◌<◌, ◌≤◌, nat_lt, if◌then◌else◌, ◌⊎◌, inl, inr, refl, sym, ap, subst, ◌∙◌, List, [], ◌∷◌, ◌++◌, length, arith}
 use Rattle.xt_model.specs.declared.net.NetId.{NetId}
 use Rattle.xt_model.specs.declared.quad.Pair.{Pair}
 use Rattle.xt_model.specs.Quads.{IsPairInRange}
@@ -181,12 +181,9 @@ module _ (k l : Knowledge) (lists : List (List NetId)) (net : ℕ) (numbers item
 abbrev pub published_to : ℕ → Pair → ℕ → Task
 published_to net pair place = if nat_lt place 8 then publishing net pair place else idle
 
-pub publish_none : (d : Parts) (lists : List (List NetId)) (order : List ℕ) (k : Knowledge) (net from : ℕ) (pair : Pair) → from < 8
-    → AreSteps d lists order (from - from) k (publishing net pair from) k (published_to net pair from)
-publish_none d lists order k net from pair more =
-    let e : 0 ≡ from - from = omega arith in
-    let none : AreSteps d lists order 0 k (publishing net pair from) k (published_to net pair from) = (refl, rw (below from 8 more) refl) in
-    subst (λ n. AreSteps d lists order n k (publishing net pair from) k (published_to net pair from)) e none
+pub publish_none : (d : Parts) (lists : List (List NetId)) (order : List ℕ) (k : Knowledge) (net place : ℕ) (pair : Pair) → place < 8
+    → AreSteps d lists order 0 k (publishing net pair place) k (published_to net pair place)
+publish_none d lists order k net place pair more = (refl, rw (below place 8 more) refl)
 
 pub publish_more : (d : Parts) (lists : List (List NetId)) (order : List ℕ) (n : ℕ) (k l m : Knowledge) (t : Task) (net : ℕ) (pair : Pair) (place value : ℕ) → FitsPublishing l net pair place
     → value ≡ number_for (bound_at pair place) → HasPublished l (8 * net + place) value m → AreSteps d lists order n k t l (published_to net pair place)
@@ -207,9 +204,10 @@ publish_more d lists order n k l m t net pair place value fits is h before =
       },
     )
 
-pub publish_whole : (d : Parts) (lists : List (List NetId)) (order : List ℕ) (k l : Knowledge) (net from place : ℕ) (pair : Pair) → from < 8 → 8 ≤ place
-    → AreSteps d lists order (place - from) k (publishing net pair from) l (published_to net pair place) → (more : ℕ) × AreSteps d lists order (suc more) k (publishing net pair from) l idle
-publish_whole d lists order k l net from place pair more end s =
-    let e : place - from ≡ suc (place - from - 1) = omega (arith, more, end) in
-    let ended : AreSteps d lists order (place - from) k (publishing net pair from) l idle = rw (not_below place 8 end) at s in
-    (place - from - 1, subst (λ n. AreSteps d lists order n k (publishing net pair from) l idle) e ended)
+-- two steps more
+pub two_on : (d : Parts) (lists : List (List NetId)) (order : List ℕ) (n : ℕ) (k l p : Knowledge) (t u v : Task) → AreSteps d lists order n k t l u → AreSteps d lists order 2 l u p v
+    → AreSteps d lists order (suc (suc n)) k t p v
+two_on d lists order n k l p t u v before r =
+    let s = r.3 in
+    let from = subst (λ w. AreSteps d lists order n k t s.0 w) (sym s.3.1) (subst (λ x. AreSteps d lists order n k t x u) (sym s.3.0) before) in
+    (r.0, r.1, r.2, (s.0, s.1, s.2, from, s.4, s.5), r.4, r.5)

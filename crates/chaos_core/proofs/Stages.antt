@@ -107,13 +107,17 @@ can_publish k net pair place value fits is =
 abbrev pub IsStageAfter : Stage → ℕ → Pair → ℕ → Type 0
 IsStageAfter stage net pair place = (d : Parts) (lists : List (List NetId)) (order numbers : List ℕ) (number : ℕ) → task_at stage numbers ≡ moved_on d lists order (publishing net pair place) number
 
+pub next_fits : (k l : Knowledge) (d : Parts) (lists : List (List NetId)) (order : List ℕ) (net : ℕ) (pair : Pair) (place value number : ℕ) → FitsPublishing k net pair place
+    → HasPublished k (8 * net + place) value l → IsSeen l.setting l.seen → Fits l lists (moved_on d lists order (publishing net pair place) number)
+next_fits k l d lists order net pair place value number fits h seen = elim (cases_lt (place + 1) 8) [
+  | inl p ↦ rw (below (place + 1) 8 p) (publish_fits k l lists net pair place value fits h seen p)
+  | inr p ↦ rw (not_below (place + 1) 8 p) tt
+]
+
 pub published_fits : (k l : Knowledge) (lists : List (List NetId)) (net : ℕ) (pair : Pair) (place value : ℕ) (stage : Stage) (items : List ℕ) → FitsPublishing k net pair place
     → HasPublished k (8 * net + place) value l → IsSeen l.setting l.seen → IsStageAfter stage net pair place → Fits l lists (task_at stage items)
 published_fits k l lists net pair place value stage items fits h seen after =
-    rw (after k.setting.design lists [] items 0) (elim (cases_lt (place + 1) 8) [
-      | inl p ↦ rw (below (place + 1) 8 p) (publish_fits k l lists net pair place value fits h seen p)
-      | inr p ↦ rw (not_below (place + 1) 8 p) tt
-    ])
+    rw (after k.setting.design lists [] items 0) (next_fits k l k.setting.design lists [] net pair place value 0 fits h seen)
 
 pub published_steps : (d : Parts) (lists : List (List NetId)) (order : List ℕ) (k l : Knowledge) (net : ℕ) (pair : Pair) (place value : ℕ) (stage : Stage) (items : List ℕ)
     → value ≡ number_for (bound_at pair place) → HasPublished k (8 * net + place) value l → IsStageAfter stage net pair place → Steps d lists order k (publishing net pair place) (Published (8 * net + place)) l (task_at stage items)

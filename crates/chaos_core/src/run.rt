@@ -1,6 +1,6 @@
 //! A worker's run over a board.
 
-ghost use Rattle.std.specs.Prelude.{◌≡◌, ℕ, suc, ◌↔◌, ◌<◌, ◌%◌, List, [], length, IfSome, IsTrue};
+ghost use Rattle.std.specs.Prelude.{◌≡◌, ℕ, suc, ◌↔◌, ◌+◌, ◌<◌, ◌%◌, List, [], length, IfSome, IsTrue};
 ghost use Rattle.std.specs.List.{All};
 ghost use Rattle.xt_model.specs.declared.net.NetId.{NetId};
 ghost use Rattle.xt_model.specs.Levels.{IsOrder};
@@ -8,17 +8,17 @@ ghost use Rattle.xt_model.specs.Parts.{Parts};
 ghost use Rattle.table_box.specs.Groups.{AreGroups};
 ghost use Rattle.net_eval.specs.ReadLists.{AreReadLists};
 ghost use Rattle.chaos_core.specs.Boards.{nets_of};
-ghost use Rattle.chaos_core.specs.Tasks.{done, idle, loaded_of, loading, places_of, publishing};
+ghost use Rattle.chaos_core.specs.Tasks.{done, idle, loaded_of, loading, moved_on, places_of, publishing};
 ghost use Rattle.chaos_core.specs.Tasks.{room_of, task_of};
-ghost use Rattle.chaos_core.specs.Steps.{AreSteps, FitsPublishing, IsFitting};
+ghost use Rattle.chaos_core.specs.Steps.{AreSteps, Fits, FitsPublishing, IsFitting};
 ghost use Rattle.chaos_core.specs.Looks.{IsLook};
 ghost use Rattle.chaos_core.specs.Runs.{IsDone, Ran};
 
 use crate::ahead::read_ahead;
 use crate::board::Board;
 use crate::looked::{Looked, evaluate_by};
-use crate::steps::{load_step, publish, worker_step};
-use crate::words::numbers_in;
+use crate::steps::{load_step, publish, publish_step, worker_step};
+use crate::words::number_in;
 use crate::worker::{Stage, Worker};
 use net_eval::ReadLists;
 use std::mem;
@@ -120,8 +120,38 @@ fn load_on<B: Board>(
     }
 }
 
-/// Makes the steps in which a worker publishes the words of its net from one of these places on, one a step.
-fn publish_rest<B: Board>(
+/// Makes the two steps in which a worker publishes the words of its net at a place and at the next.
+#[inline(always)]
+fn publish_two<B: Board>(board: &mut B, direction: Direction, net: u32, pair: &Pair, place: u32)
+    requires way { (B.knows board.old).setting.way ≡ direction }
+    requires two { place + 1 < 8 }
+    requires fits { FitsPublishing (B.knows board.old) net pair.now place }
+    ensures way { (B.knows board.new).setting.way ≡ direction }
+    ensures fits { (d : Parts) (lists : List (List NetId)) (order : List ℕ)
+        → Fits (B.knows board.new) lists (moved_on d lists order (publishing net pair.now (place + 1)) 0) }
+    ensures steps { (d : Parts) (lists : List (List NetId)) (order : List ℕ) → AreSteps d lists order 2
+        (B.knows board.old) (publishing net pair.now place)
+        (B.knows board.new) (moved_on d lists order (publishing net pair.now (place + 1)) 0) }
+{
+    let first = 8 * net as usize;
+    let next = place + 1;
+    publish(
+        board,
+        direction,
+        first + place as usize,
+        number_in(pair, place),
+    );
+    publish(
+        board,
+        direction,
+        first + next as usize,
+        number_in(pair, next),
+    );
+}
+
+/// Makes the steps in which a worker publishes the words of its net, one a step, or where it has published some of
+/// them, the next step alone.
+fn publish_on<B: Board>(
     board: &mut B,
     worker: &mut Worker,
     direction: Direction,
@@ -131,23 +161,26 @@ fn publish_rest<B: Board>(
 )
     requires way { (B.knows board.old).setting.way ≡ direction }
     requires fits { FitsPublishing (B.knows board.old) net pair from }
-    ensures idle { task_of worker.new ≡ idle }
+    ensures fits { (lists : List (List NetId)) → Fits (B.knows board.new) lists (task_of worker.new) }
     ensures steps { (d : Parts) (lists : List (List NetId)) (order : List ℕ)
         → (more : ℕ) × AreSteps d lists order (suc more)
-        (B.knows board.old) (publishing net pair from) (B.knows board.new) idle }
+        (B.knows board.old) (publishing net pair from) (B.knows board.new) (task_of worker.new) }
     ensures room { room_of worker.new ≡ room_of worker.old }
     ensures places { places_of worker.new ≡ places_of worker.old }
 {
-    let numbers = numbers_in(&pair);
-    for place in from..8 {
-        let word = 8 * net as usize + place as usize;
-        publish(board, direction, word, numbers[place as usize]);
+    if from == 0 {
+        publish_two(board, direction, net, &pair, 0);
+        publish_two(board, direction, net, &pair, 2);
+        publish_two(board, direction, net, &pair, 4);
+        publish_two(board, direction, net, &pair, 6);
+        worker.stage = Stage::Idle;
+    } else {
+        publish_step(board, worker, direction, net, pair, from);
     }
-    worker.stage = Stage::Idle;
 }
 
-/// Makes a step of a worker that is not done; where it loads a read list, the steps in which it loads the rest of that,
-/// and where it publishes, those in which it publishes the rest of its net's words.
+/// Makes a step of a worker that is not done; where it has loaded whole nets of a read list, the steps in which it loads
+/// the rest of that, and where it has published none of its net's words, those in which it publishes all.
 fn advance<B: Board>(
     board: &mut B,
     worker: &mut Worker,
@@ -174,7 +207,7 @@ fn advance<B: Board>(
     match worker.stage {
         Stage::Loading(net) => load_on(board, worker, design, groups, lists, NetId(net), look),
         Stage::Publishing(net, pair, from) => {
-            publish_rest(board, worker, direction, net, pair, from);
+            publish_on(board, worker, direction, net, pair, from);
         }
         Stage::Idle | Stage::Finished => {
             worker_step(board, worker, design, lists, direction);

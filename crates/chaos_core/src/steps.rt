@@ -151,7 +151,7 @@ fn stage_after(net: u32, pair: Pair, place: u32) -> Stage
 }
 
 /// A worker publishes the next of the eight words of its net.
-fn publish_step<B: Board>(
+pub(crate) fn publish_step<B: Board>(
     board: &mut B,
     worker: &mut Worker,
     way: Direction,

@@ -1,6 +1,7 @@
-use Rattle.std.proofs.Common.{ℕ, suc, refl, ◌∙◌, sym, ap, subst}
-use Rattle.chaos_core.specs.Tasks.{Task, idle, loaded_of, loading, task_at, task_of}
+use Rattle.std.proofs.Common.{ℕ, suc, refl, ◌∙◌, sym, ap, subst, arith}
+use Rattle.chaos_core.specs.Tasks.{Task, loaded_of, loading, task_at, task_of}
 use Rattle.chaos_core.specs.Steps.{AreSteps, Fits}
+use Rattle.chaos_core.proofs.Stages.{room_stays}
 use Rattle.chaos_core.proofs.run.advance.Goals as goal
 
 pub returns-in-Publishing-clause-steps : goal.returns-in-Publishing-clause-steps
@@ -8,11 +9,17 @@ returns-in-Publishing-clause-steps g c = λ order o.
     let d = c.args.design.now in
     let lists = c.args.lists.now in
     let k = g.B.Board.knows c.args.board.now in
-    let l = g.B.Board.knows c.publish_rest.new.board in
+    let l = g.B.Board.knows c.publish_on.new.board in
     let at = sym (ap task_of c.worker.view_is) ∙ ap (λ s. task_at s c.worker.inside.loaded.items) c.in-Publishing.is in
-    let P : Task → Type 0 = λ u. (more : ℕ) × AreSteps d lists order (suc more) k (task_of c.args.worker.now) l u in
-    let Q : Task → Type 0 = λ t. (more : ℕ) × AreSteps d lists order (suc more) k t l idle in
-    subst P (sym c.publish_rest.ensures.idle) (subst Q (sym at) (c.publish_rest.ensures.steps d lists order))
+    let Q : Task → Type 0 = λ t. (more : ℕ) × AreSteps d lists order (suc more) k t l (task_of c.publish_on.new.worker) in
+    subst Q (sym at) (c.publish_on.ensures.steps d lists order)
+
+pub returns-in-Publishing-clause-fits : goal.returns-in-Publishing-clause-fits
+returns-in-Publishing-clause-fits g c = record {
+  room = room_stays c.args.lists.now _ _ c.publish_on.ensures.room c.requires.fits.room;
+  places = let p = c.requires.fits.places in let same = c.publish_on.ensures.places in omega (arith, p, same);
+  task = c.publish_on.ensures.fits c.args.lists.now;
+}
 
 pub returns-in-Idle-clause-steps : goal.returns-in-Idle-clause-steps
 returns-in-Idle-clause-steps g c = λ order o. (0, (g.B.Board.knows c.args.board.now, task_of c.args.worker.now, c.worker_step.result, (refl, refl), c.requires.fits.task, c.worker_step.ensures.step order o))
@@ -37,11 +44,11 @@ load_on-requires-clause-loading g c =
     let at = sym (ap task_of c.worker.view_is) ∙ ap (λ s. task_at s c.worker.inside.loaded.items) c.in-Loading.is in
     at ∙ ap (λ t. loading c.in-Loading.net (loaded_of t)) (sym at)
 
-pub publish_rest-requires-clause-way : goal.publish_rest-requires-clause-way
-publish_rest-requires-clause-way g c = c.requires.direction
+pub publish_on-requires-clause-way : goal.publish_on-requires-clause-way
+publish_on-requires-clause-way g c = c.requires.direction
 
-pub publish_rest-requires-clause-fits : goal.publish_rest-requires-clause-fits
-publish_rest-requires-clause-fits g c =
+pub publish_on-requires-clause-fits : goal.publish_on-requires-clause-fits
+publish_on-requires-clause-fits g c =
     let at = sym (ap task_of c.worker.view_is) ∙ ap (λ s. task_at s c.worker.inside.loaded.items) c.in-Publishing.is in
     subst (Fits (g.B.Board.knows c.args.board.now) c.args.lists.now) at c.requires.fits.task
 
