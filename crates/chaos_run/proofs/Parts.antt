@@ -1,21 +1,28 @@
 -- The parts of a round, joined: passes that were sent out, that workers ran by, and that come back.
-use Rattle.std.proofs.Common.{◌≡◌, ℕ, ◌<◌, refl, sym, ap, subst, ◌∙◌, List, [], ◌∷◌, ◌++◌, length, get_or, vec_capacity, arith}
+use Rattle.std.proofs.Common.{◌≡◌, ℕ, ◌<◌, refl, sym, ap, subst, ◌∙◌, List, [], ◌∷◌, ◌++◌, length, vec_capacity, arith}
+use Rattle.std.specs.Prelude.{Some, option_map}
 use Rattle.std.specs.List.{All, AllZip}
 use Rattle.std.proofs.lemmas.List.Elements.{All-push, AllZip-get_or}
 use Rattle.std.proofs.lemmas.Slice.Zip.{AllZip-long}
 use Rattle.std.proofs.lemmas.List.{length-append}
+use Rattle.std.proofs.lemmas.Option.{same_Some}
 use Rattle.xt_model.specs.declared.net.NetId.{NetId}
 use Rattle.xt_model.specs.Parts.{Parts}
 use Rattle.chaos_core.specs.declared.worker.Worker.{Worker}
 use Rattle.chaos_core.specs.Tasks.{room_of, places_of}
 use Rattle.chaos_core.specs.Runs.{Ran}
 use Rattle.chaos_core.specs.Rounds.{HasRoom}
+use Rattle.window_words.specs.declared.seated.Seated.{Seated}
 use Rattle.window_words.specs.Views.{begun_anew, sent_out}
 use Rattle.window_words.specs.Boards.{BoardId, Holding, IsOf, knowledge_of}
 use Rattle.window_words.proofs.Holding.{home_is}
 use Rattle.chaos_run.specs.declared.workers.SeatedWorker.{SeatedWorker}
 use Rattle.chaos_run.specs.declared.workers.Workers.{Workers}
-use Rattle.chaos_run.specs.Rounds.{AreRoomy, with_out, sent_of, IsSent, HasRun, IsBack}
+use Rattle.chaos_run.specs.Rounds.{AreRoomy, with_out, sent_of, pass_of, IsSent, HasRun, IsBack}
+
+-- ---- a worker's pass
+pub pass_found : (w : SeatedWorker) (s : Seated) (p : Holding) → w.seated ≡ Some s → pass_of w ≡ Some p → s.pass ≡ p
+pass_found w s p is there = same_Some s.pass p (sym (ap (option_map (λ (x : Seated). x.pass)) is) ∙ there)
 
 -- ---- one worker's part
 pub comes_back : (board : BoardId) (pass later : Holding) (order : List ℕ) → IsOf board pass → Ran order (knowledge_of pass) (knowledge_of later) → IsOf board later
@@ -36,9 +43,12 @@ all_back board d lists first xs ys sent ran k e h =
     let inside : k < length xs = omega (arith, long, h) in
     let own = sent k e inside in
     let part = AllZip-get_or (HasRun board d lists) xs ys k e e ran inside in
+    let same : part.before ≡ sent_of first = same_Some part.before (sent_of first) (sym part.had ∙ own.pass) in
     record {
+      pass = part.after;
+      there = part.there;
       own = part.own;
-      ran = λ order o. subst (λ (p : Holding). Ran order (knowledge_of p) (knowledge_of (get_or ys k e).seated.pass)) own.pass (part.ran order o);
+      ran = λ order o. subst (λ (p : Holding). Ran order (knowledge_of p) (knowledge_of part.after)) same (part.ran order o);
       room = part.room;
     }
 
@@ -67,7 +77,7 @@ pub sent_later : (lists : List (List NetId)) (first later : Holding) (count : �
 sent_later lists first later count xs table view sent k d h =
     let s = sent k d h in
     let same : sent_of first ≡ sent_of later = λ i. record { table = sym table i; view = sent_out (sym view i) } in
-    record { pass = s.pass ∙ same; room = s.room }
+    record { pass = s.pass ∙ ap Some same; room = s.room }
 
 -- ---- a worker that comes back leaves its room
 pub roomy_back : (lists : List (List NetId)) (v w : Workers) (worker : Worker) (x : SeatedWorker) → w.idle.items ≡ v.idle.items ++ worker ∷ [] → v.seated.items ≡ w.seated.items ++ x ∷ []

@@ -1,5 +1,5 @@
 -- Rounds of workers in threads of their own, on one board.
-use Rattle.std.specs.Prelude.{◌≡◌, ℕ, ◌+◌, ◌≤◌, List, [], length, vec_capacity}
+use Rattle.std.specs.Prelude.{◌≡◌, ℕ, ◌+◌, ◌≤◌, List, [], length, vec_capacity, Option, Some, option_map}
 use Rattle.std.specs.List.{All}
 use Rattle.xt_model.specs.declared.direction.Direction.{Direction}
 use Rattle.xt_model.specs.declared.net.NetId.{NetId}
@@ -11,6 +11,7 @@ use Rattle.net_eval.specs.ReadLists.{AreReadLists}
 use Rattle.chaos_core.specs.declared.setting.Setting.{Setting}
 use Rattle.chaos_core.specs.Runs.{Ran}
 use Rattle.chaos_core.specs.Rounds.{HasRoom, Settles}
+use Rattle.window_words.specs.declared.seated.Seated.{Seated}
 use Rattle.window_words.specs.declared.view.View.{View}
 use Rattle.window_words.specs.Views.{sent_out}
 pub use Rattle.window_words.specs.Steps.{IsRested}
@@ -45,30 +46,40 @@ with_out v count = record v { out = v.out + count; split = v.split + count }
 abbrev pub sent_of : Holding → Holding
 sent_of first = record { table = first.table; view = sent_out first.view }
 
+-- the pass of a worker, where it is there
+abbrev pub pass_of : SeatedWorker → Option Holding
+pass_of w = option_map (λ (s : Seated). s.pass) w.seated
+
 -- a worker with a pass that was just split off
 pub record IsSent (lists : List (List NetId)) (first : Holding) (w : SeatedWorker) : Type 0 where
-  pub pass : w.seated.pass ≡ sent_of first
+  pub pass : pass_of w ≡ Some (sent_of first)
   pub room : HasRoom lists w.worker
 
 -- a worker with a pass of a board, by which nothing was drawn
 pub record IsReady (board : BoardId) (lists : List (List NetId)) (w : SeatedWorker) : Type 0 where
-  pub own : IsOf board w.seated.pass
-  pub fresh : w.seated.pass.view.drawn ≡ []
+  pub pass : Holding
+  pub there : pass_of w ≡ Some pass
+  pub own : IsOf board pass
+  pub fresh : pass.view.drawn ≡ []
   pub room : HasRoom lists w.worker
 
--- from v to w a worker drew and worked until it was done
+-- from v to w a worker drew and worked by its pass until it was done
 pub record HasRun (board : BoardId) (d : Parts) (lists : List (List NetId)) (v w : SeatedWorker) : Type 0 where
-  pub own : IsOf board w.seated.pass
-  pub ran : (order : List ℕ) → IsOrder d.nets order
-      → Ran order (knowledge_of v.seated.pass) (knowledge_of w.seated.pass)
+  pub before : Holding
+  pub after : Holding
+  pub had : pass_of v ≡ Some before
+  pub there : pass_of w ≡ Some after
+  pub own : IsOf board after
+  pub ran : (order : List ℕ) → IsOrder d.nets order → Ran order (knowledge_of before) (knowledge_of after)
   pub room : HasRoom lists w.worker
 
 -- a worker with a pass that was sent out by the first, and by which it ran
 pub record IsBack (board : BoardId) (d : Parts) (lists : List (List NetId)) (first : Holding) (w : SeatedWorker)
     : Type 0 where
-  pub own : IsOf board w.seated.pass
-  pub ran : (order : List ℕ) → IsOrder d.nets order
-      → Ran order (knowledge_of (sent_of first)) (knowledge_of w.seated.pass)
+  pub pass : Holding
+  pub there : pass_of w ≡ Some pass
+  pub own : IsOf board pass
+  pub ran : (order : List ℕ) → IsOrder d.nets order → Ran order (knowledge_of (sent_of first)) (knowledge_of pass)
   pub room : HasRoom lists w.worker
 
 -- one worker alone settles from the start in this many rounds of the machine, and in no fewer

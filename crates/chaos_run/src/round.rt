@@ -32,10 +32,10 @@ fn send_out<'a, G>(run: &Run<'a, G>, workers: &mut Workers<'a>, first: &mut Pass
 {
     'passes: while let Some(worker) = workers.idle.pop() {
         let pass = run.board.split(first);
-        let seated = Seated {
+        let seated = Some(Seated {
             board: run.board,
             pass,
-        };
+        });
         workers
             .seated
             .push_reserved(SeatedWorker { seated, worker });
@@ -59,8 +59,12 @@ fn work<G: Gate>(
 {
     run.gate.pass(number, round);
     own.worker.reset();
+    // In a variable of its own while the worker works, so that the board's address need not be read again at each step.
+    let Some(mut seated) = own.seated.take() else {
+        unreachable!()
+    };
     run_grouped(
-        &mut own.seated,
+        &mut seated,
         &mut own.worker,
         run.design,
         groups,
@@ -68,6 +72,7 @@ fn work<G: Gate>(
         run.direction,
         look,
     );
+    own.seated = Some(seated);
 }
 
 /// All workers work beside one another, half of them in a further thread, and so each half of them, until there is a
@@ -124,6 +129,7 @@ fn take_back<'a, G>(run: &Run<'a, G>, workers: &mut Workers<'a>, first: &mut Pas
     ensures count { length workers.new.idle.items ≡ length workers.old.seated.items }
 {
     'passes: while let Some(SeatedWorker { seated, worker }) = workers.seated.pop() {
+        let Some(seated) = seated else { unreachable!() };
         run.board.join(first, seated.pass);
         workers.idle.push_reserved(worker);
     }

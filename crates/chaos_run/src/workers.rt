@@ -1,7 +1,6 @@
 //! What a run is over, and its workers.
 
-ghost use Rattle.std.specs.Prelude.{◌≡◌, ◌≤◌, length, IfOk};
-ghost use Rattle.xt_model.specs.Limits.{most_workers};
+ghost use Rattle.std.specs.Prelude.{◌≡◌, length, IfOk};
 ghost use Rattle.chaos_run.specs.Rounds.{AreIdle};
 
 use chaos_core::Worker;
@@ -22,10 +21,11 @@ pub(crate) struct Run<'a, G> {
     pub(crate) gate: &'a G,
 }
 
-/// A worker at the board, by a pass of its own.
+/// A worker at the board, by a pass of its own. While the worker works, the pass stands in a variable of `work`, and
+/// there is none here.
 #[derive(Drop)]
 pub(crate) struct SeatedWorker<'a> {
-    pub(crate) seated: Seated<'a>,
+    pub(crate) seated: Option<Seated<'a>>,
     pub(crate) worker: Worker,
 }
 

@@ -1,11 +1,11 @@
-use Rattle.std.proofs.Common.{List, length, sym, ap, subst, ◌∙◌, arith}
+use Rattle.std.proofs.Common.{List, length, refl, sym, ap, subst, ◌∙◌, arith}
 use Rattle.std.specs.List.{All, AllZip}
 use Rattle.std.proofs.lemmas.Slice.Zip.{AllZip-long}
 use Rattle.xt_model.specs.declared.net.NetId.{NetId}
 use Rattle.window_words.specs.declared.view.View.{View}
 use Rattle.window_words.specs.Boards.{BoardId, Holding, IsOf}
 use Rattle.chaos_run.specs.declared.workers.SeatedWorker.{SeatedWorker}
-use Rattle.chaos_run.specs.Rounds.{with_out, HasRun, IsBack, IsReady, IsSent}
+use Rattle.chaos_run.specs.Rounds.{with_out, sent_of, HasRun, IsBack, IsReady, IsSent}
 use Rattle.window_words.proofs.Slices.{slice_back}
 use Rattle.chaos_run.proofs.Parts.{all_back, sent_later, ran_from}
 use Rattle.chaos_run.proofs.round.round.Goals as goal
@@ -67,11 +67,12 @@ work_all-requires-clause-few g c = λ _ _. let same = ap length c.as_mut_slice.e
 -- passes that were just sent out
 all_ready : (board : BoardId) (lists : List (List NetId)) (first : Holding) (xs : List SeatedWorker) → IsOf board first → All (IsSent lists first) xs → All (IsReady board lists) xs
 all_ready board lists first xs own sent k d h =
-    let s = sent k d h in
     record {
-      own = record { table = ap (λ (p : Holding). p.table) s.pass ∙ own.table; setting = ap (λ (p : Holding). p.view.setting) s.pass ∙ own.setting };
-      fresh = ap (λ (p : Holding). p.view.drawn) s.pass;
-      room = s.room;
+      pass = sent_of first;
+      there = (sent k d h).pass;
+      own = record { table = own.table; setting = own.setting };
+      fresh = refl;
+      room = (sent k d h).room;
     }
 
 pub work_all-requires-clause-ready : goal.work_all-requires-clause-ready

@@ -8,7 +8,7 @@ use Rattle.window_words.specs.declared.view.View.{View}
 use Rattle.window_words.specs.Views.{sent_out, with_one_out}
 use Rattle.window_words.specs.Boards.{Holding}
 use Rattle.chaos_run.specs.declared.workers.SeatedWorker.{SeatedWorker}
-use Rattle.chaos_run.specs.Rounds.{sent_of, with_out, IsSent}
+use Rattle.chaos_run.specs.Rounds.{sent_of, with_out, pass_of, IsSent}
 use Rattle.chaos_run.proofs.Parts.{no_items}
 use Rattle.chaos_run.proofs.round.send_out.Goals as goal
 
@@ -60,7 +60,7 @@ one_out v w x n m before after more =
     after ∙ (ap with_one_out before ∙ same)
 
 -- and its worker is sent too
-sent_more : (lists : List (List NetId)) (first : Holding) (xs ys : List SeatedWorker) (x : SeatedWorker) → ys ≡ xs ++ x ∷ [] → All (IsSent lists first) xs → x.seated.pass ≡ sent_of first → HasRoom lists x.worker
+sent_more : (lists : List (List NetId)) (first : Holding) (xs ys : List SeatedWorker) (x : SeatedWorker) → ys ≡ xs ++ x ∷ [] → All (IsSent lists first) xs → pass_of x ≡ Some (sent_of first) → HasRoom lists x.worker
     → All (IsSent lists first) ys
 sent_more lists first xs ys x pushed sent pass room = subst (All (IsSent lists first)) (sym pushed) (All-push (IsSent lists first) xs x sent (record { pass = pass; room = room }))
 
@@ -82,7 +82,7 @@ passes-preserved g c =
       own = c.split-pass.ensures.own;
       view = one_out first.view c.passes.first.view c.split-pass.new.first.view (length c.passes.workers.seated.items) (length c.push_reserved.new.self.items) inv.view c.split-pass.ensures.view long;
       count = let count = inv.count in omega (arith, count, long, popped);
-      sent = sent_more lists first c.passes.workers.seated.items c.push_reserved.new.self.items _ pushed inv.sent pass both.1;
+      sent = sent_more lists first c.passes.workers.seated.items c.push_reserved.new.self.items _ pushed inv.sent (ap Some pass) both.1;
       roomy = record {
         all = let all = inv.roomy.all in omega (arith, all, long, popped, idle);
         passes = let passes = inv.roomy.passes in omega (arith, passes, long, popped, seated);

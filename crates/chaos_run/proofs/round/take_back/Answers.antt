@@ -1,10 +1,11 @@
 use Rattle.std.proofs.Common.{◌≡◌, ℕ, ◌+◌, sym, subst, ◌∙◌, length, ◌∷◌, [], refl, ap, length-append, arith}
 use Rattle.std.specs.Prelude.{Some}
 use Rattle.std.proofs.lemmas.List.Elements.{All-pop}
+use Rattle.chaos_core.specs.Runs.{Ran}
 use Rattle.chaos_run.specs.declared.workers.SeatedWorker.{SeatedWorker}
-use Rattle.window_words.specs.Boards.{Holding, knowledge_of, IsSplitOff}
-use Rattle.chaos_run.specs.Rounds.{IsBack}
-use Rattle.chaos_run.proofs.Parts.{roomy_back, no_items}
+use Rattle.window_words.specs.Boards.{Holding, IsOf, knowledge_of}
+use Rattle.chaos_run.specs.Rounds.{sent_of, IsBack}
+use Rattle.chaos_run.proofs.Parts.{roomy_back, no_items, pass_found}
 use Rattle.chaos_run.proofs.Taken.{HasTaken, all_taken, none_taken, taken_more}
 use Rattle.window_words.specs.declared.seated.Seated.{Seated}
 use Rattle.window_words.specs.declared.view.View.{View}
@@ -18,7 +19,9 @@ passes-preserved g c =
     let later : Holding = c.join.new.first in
     let B = IsBack c.args.run.now.board.now c.args.run.now.design.now c.args.run.now.lists.now first in
     let x : SeatedWorker = c.in-Some.field-0 in
+    let seat : Seated = c.in-Some-seated.seated in
     let both = All-pop B c.passes.workers.seated.items c.pop.new.self.items (Some x) c.in-Some.ensures.items inv.back in
+    let same = pass_found x seat both.1.pass c.in-Some-seated.is both.1.there in
     let table = c.join.ensures.own.table ∙ sym inv.own.table in
     let popped = ap length c.in-Some.ensures.items ∙ length-append c.pop.new.self.items (x ∷ []) in
     let pushed : length c.push_reserved.new.self.items ≡ length c.passes.workers.idle.items + 1 = ap length c.push_reserved.ensures.items ∙ length-append c.passes.workers.idle.items (x.worker ∷ []) in
@@ -29,7 +32,8 @@ passes-preserved g c =
       split = ap (λ (v : View). v.split) c.join.ensures.view ∙ inv.split;
       count = let count = inv.count in omega (arith, count, pushed, popped);
       taken = λ order o.
-          let more = taken_more order (length c.passes.workers.idle.items) first now x.seated.pass (inv.taken order o) (both.1.ran order o) c.join.ensures.seen c.join.ensures.seen_other later table c.join.ensures.view in
+          let ran = subst (λ (p : Holding). Ran order (knowledge_of (sent_of first)) (knowledge_of p)) (sym same) (both.1.ran order o) in
+          let more = taken_more order (length c.passes.workers.idle.items) first now seat.pass (inv.taken order o) ran c.join.ensures.seen c.join.ensures.seen_other later table c.join.ensures.view in
           subst (λ (n : ℕ). HasTaken order n (knowledge_of first) (knowledge_of later)) (sym pushed) more;
       back = both.0;
       roomy = roomy_back c.args.run.now.lists.now c.passes.workers (record { idle = c.push_reserved.new.self; seated = c.pop.new.self }) x.worker x c.push_reserved.ensures.items c.in-Some.ensures.items c.push_reserved.ensures.capacity c.pop.ensures.capacity both.1.room inv.roomy;
@@ -65,14 +69,14 @@ join-requires-clause-first g c = c.passes.invariant.first
 
 pub join-requires-clause-own_other : goal.join-requires-clause-own_other
 join-requires-clause-own_other g c =
-    let B = IsBack c.args.run.now.board.now c.args.run.now.design.now c.args.run.now.lists.now c.args.first.now in
-    let both = All-pop B c.passes.workers.seated.items c.pop.new.self.items (Some c.in-Some.field-0) c.in-Some.ensures.items c.passes.invariant.back in
-    both.1.own
+    let board = c.args.run.now.board.now in
+    let B = IsBack board c.args.run.now.design.now c.args.run.now.lists.now c.args.first.now in
+    let back = (All-pop B c.passes.workers.seated.items c.pop.new.self.items (Some c.in-Some.field-0) c.in-Some.ensures.items c.passes.invariant.back).1 in
+    let same = pass_found c.in-Some.field-0 c.in-Some-seated.seated back.pass c.in-Some-seated.is back.there in
+    subst (IsOf board) (sym same) back.own
 
 pub join-requires-clause-other : goal.join-requires-clause-other
-join-requires-clause-other g c =
-    let P : Seated → Type 0 = λ s. IsSplitOff s.pass in
-    subst P (sym c.in-Some.seated-is) c.in-Some.seated.other
+join-requires-clause-other g c = c.in-Some-seated.seated.other
 
 pub push_reserved-requires : goal.push_reserved-requires
 push_reserved-requires g c =
