@@ -4,3 +4,4 @@ mod Carried
 mod Looked
 mod Marked
 mod Turned
+mod LookParts

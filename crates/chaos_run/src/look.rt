@@ -4,7 +4,7 @@ ghost use Rattle.std.specs.Prelude.{◌≡◌, ◌↔◌, ℕ, ◌+◌, ◌*◌,
 ghost use Rattle.std.specs.List.{All, slice_index_or};
 ghost use Rattle.std.specs.Thread.{IsSync};
 ghost use Rattle.xt_model.specs.declared.edge.Edge.{Edge};
-ghost use Rattle.xt_model.specs.Limits.{most_nets, most_workers};
+ghost use Rattle.xt_model.specs.Limits.{most_nets};
 ghost use Rattle.xt_model.specs.Quads.{IsBound, IsInRange, IsPairInRange, quad_at};
 ghost use Rattle.xt_model.specs.Assign.{quads_of};
 ghost use Rattle.xt_meaning.specs.Barrier.{IsFittingStart, IsWithinEnvelope};
@@ -17,12 +17,13 @@ ghost use Rattle.chaos_core.specs.Memories.{AreKept};
 ghost use Rattle.chaos_core.specs.Rounds.{AreClosed, HasCarried};
 ghost use Rattle.window_words.specs.Boards.{IsAlone, IsOf};
 ghost use Rattle.window_words.specs.Steps.{IsRested};
-ghost use Rattle.chaos_run.specs.Looks.{quad_from};
+ghost use Rattle.chaos_run.specs.Looks.{IsLookBetween, quad_from};
 
 use crate::marks::mark_decided;
-use chaos_core::{bound_of, closed_where_grouped};
+use chaos_core::bound_of;
+use net_eval::closed_part_grouped;
 use std::mem;
-use std::thread::{Threads, join};
+use std::thread::{Threads, join_mut};
 use window_words::{Pass, SharedBoard};
 use xt_model::{Design, Pair, Quad, Windows};
 
@@ -128,134 +129,171 @@ fn unmark(marks: &mut [bool])
     }
 }
 
-/// Whether the operator gives the windows back at each net from number `from` to before number `to`. Each of this many
-/// threads decides it of a share of the nets, and evaluates no net that is marked.
-fn closed_by<R: Threads + Sync>(
-    rt: &R,
-    design: &Design,
-    groups: &[usize],
-    marks: &[bool],
-    windows: &Windows,
-    from: u32,
-    to: u32,
-    shares: u32,
-) -> bool
-    requires groups { AreGroups design.now.tables groups.now }
-    requires look { IsLook design.now windows.now marks.now }
-    requires within { IsWithinEnvelope design.now windows.now }
-    requires order { from ≤ to }
-    requires end { to ≤ length design.now.nets }
-    requires few { shares ≤ most_workers }
-    ensures { IsTrue result ↔ ((n : ℕ) → from ≤ n → n < to → IsSteadyAt design.now windows.now n) }
-{
-    if shares <= 1 {
-        return closed_where_grouped(design, groups, marks, windows, from, to);
-    }
-    let some = shares / 2;
-    let rest = shares - some;
-    let middle = from + part(to - from, some, shares);
-    let (left, right) = join(
-        rt,
-        move || -> bool
-            requires { IsSync R.row × AreGroups design.now.tables groups.now
-                × IsLook design.now windows.now marks.now × IsWithinEnvelope design.now windows.now
-                × (from ≤ middle) × (middle ≤ length design.now.nets)
-                × (some ≤ most_workers) }
-            ensures { IsTrue result ↔ ((n : ℕ) → from ≤ n → n < middle
-                → IsSteadyAt design.entry.now windows.entry.now n) }
-        { closed_by(rt, design, groups, marks, windows, from, middle, some) },
-        move || -> bool
-            requires { IsSync R.row × AreGroups design.now.tables groups.now
-                × IsLook design.now windows.now marks.now × IsWithinEnvelope design.now windows.now
-                × (middle ≤ to) × (to ≤ length design.now.nets)
-                × (rest ≤ most_workers) }
-            ensures { IsTrue result ↔ ((n : ℕ) → middle ≤ n → n < to
-                → IsSteadyAt design.entry.now windows.entry.now n) }
-        { closed_by(rt, design, groups, marks, windows, middle, to, rest) },
-    );
-    left && right
-}
-
 /// Whether the operator gives the windows of a net back. Marks the net where it does, and evaluates none that has a
 /// mark.
 fn is_steady(
     design: &Design,
     groups: &[usize],
-    marks: &mut [bool],
     windows: &Windows,
     net: u32,
     next: u32,
+    mark: &mut bool,
 ) -> bool
     requires groups { AreGroups design.now.tables groups.now }
-    requires look { IsLook design.now windows.now marks.old }
+    requires count { length windows.now ≡ length design.now.nets }
     requires within { IsWithinEnvelope design.now windows.now }
     requires net { net < length design.now.nets }
     requires next { next ≡ net + 1 }
-    ensures look { IsLook design.now windows.now marks.new }
+    requires marked { IsTrue mark.old → IsSteadyAt design.now windows.now net }
+    ensures marked { IsTrue mark.new → IsSteadyAt design.now windows.now net }
     ensures steady { IsTrue result ↔ IsSteadyAt design.now windows.now net }
 {
-    if !closed_where_grouped(design, groups, marks, windows, net, next) {
+    if *mark {
+        return true;
+    }
+    if !closed_part_grouped(design, groups, windows, net, next) {
         return false;
     }
-    marks[net as usize] = true;
+    *mark = true;
     true
 }
 
-/// Whether the operator gives the windows back at each of this many first nets. It looks from the first of them up, and
-/// marks those up to the first that is not steady.
-fn closed_first(
+/// Whether the operator gives the windows back at each net from number `from` to before number `to`, whose marks these
+/// are. It looks from the first of them up, and marks those up to the first that is not steady.
+fn closed_up(
     design: &Design,
     groups: &[usize],
-    marks: &mut [bool],
     windows: &Windows,
-    count: u32,
+    from: u32,
+    to: u32,
+    marks: &mut [bool],
 ) -> bool
     requires groups { AreGroups design.now.tables groups.now }
-    requires look { IsLook design.now windows.now marks.old }
     requires within { IsWithinEnvelope design.now windows.now }
-    requires count { count ≤ length design.now.nets }
-    ensures look { IsLook design.now windows.now marks.new }
-    ensures closed { IsTrue result ↔ ((n : ℕ) → n < count → IsSteadyAt design.now windows.now n) }
+    requires end { to ≤ length design.now.nets }
+    requires look { IsLookBetween design.now windows.now from to marks.old }
+    ensures look { IsLookBetween design.now windows.now from to marks.new }
+    ensures closed { IsTrue result ↔ ((n : ℕ) → from ≤ n → n < to → IsSteadyAt design.now windows.now n) }
 {
-    for net in 0..count {
-        if !is_steady(design, groups, marks, windows, net, net + 1) {
+    for net in from..to {
+        let mark = &mut marks[(net - from) as usize];
+        if !is_steady(design, groups, windows, net, net + 1, mark) {
             return false;
         }
     }
     true
 }
 
-/// Whether the operator gives the windows back at each net from number `from` to before number `to`. It looks from the
-/// last of them down, and marks those down to the first that is not steady.
-fn closed_last(
+/// Whether the operator gives the windows back at each net from number `from` to before number `to`, whose marks these
+/// are. It looks from the last of them down, and marks those down to the first that is not steady.
+fn closed_down(
     design: &Design,
     groups: &[usize],
-    marks: &mut [bool],
     windows: &Windows,
     from: u32,
     to: u32,
+    marks: &mut [bool],
 ) -> bool
     requires groups { AreGroups design.now.tables groups.now }
-    requires look { IsLook design.now windows.now marks.old }
     requires within { IsWithinEnvelope design.now windows.now }
-    requires order { from ≤ to }
     requires end { to ≤ length design.now.nets }
-    ensures look { IsLook design.now windows.now marks.new }
+    requires look { IsLookBetween design.now windows.now from to marks.old }
+    ensures look { IsLookBetween design.now windows.now from to marks.new }
     ensures closed { IsTrue result ↔ ((n : ℕ) → from ≤ n → n < to → IsSteadyAt design.now windows.now n) }
 {
     for step in from..to {
         let net = to - 1 - (step - from);
-        if !is_steady(design, groups, marks, windows, net, net + 1) {
+        let mark = &mut marks[(net - from) as usize];
+        if !is_steady(design, groups, windows, net, net + 1, mark) {
             return false;
         }
     }
     true
+}
+
+/// Whether the operator gives the windows back at each net from number `from` to before number `to`, whose marks these
+/// are. Each of this many threads decides it of a share of the nets from the last of them down, since what a round left
+/// unsteady is mostly far from the inputs, and marks those down to the first that is not steady.
+#[cycle(halves)]
+fn closed_by<R: Threads + Sync>(
+    rt: &R,
+    design: &Design,
+    groups: &[usize],
+    windows: &Windows,
+    from: u32,
+    to: u32,
+    shares: u32,
+    marks: &mut [bool],
+) -> bool
+    requires groups { AreGroups design.now.tables groups.now }
+    requires within { IsWithinEnvelope design.now windows.now }
+    requires end { to ≤ length design.now.nets }
+    requires look { IsLookBetween design.now windows.now from to marks.old }
+    ensures look { IsLookBetween design.now windows.now from to marks.new }
+    ensures closed { IsTrue result ↔ ((n : ℕ) → from ≤ n → n < to → IsSteadyAt design.now windows.now n) }
+{
+    if shares <= 1 {
+        return closed_down(design, groups, windows, from, to, marks);
+    }
+    let some = shares / 2;
+    let rest = shares - some;
+    let count = part(to - from, some, shares);
+    let middle = from + count;
+    let (left, right) = marks.split_at_mut(count as usize);
+    both_halves(
+        rt, design, groups, windows, from, middle, to, some, rest, left, right,
+    )
+}
+
+/// Whether the operator gives the windows back at each net from number `from` to before number `to`. Up to before
+/// number `middle`, whose marks are `left`, `some` threads decide it, and beside them `rest` threads from there on,
+/// whose marks are `right`. Where no thread can be had, one half is decided after the other.
+#[cycle(halves)]
+fn both_halves<R: Threads + Sync>(
+    rt: &R,
+    design: &Design,
+    groups: &[usize],
+    windows: &Windows,
+    from: u32,
+    middle: u32,
+    to: u32,
+    some: u32,
+    rest: u32,
+    left: &mut [bool],
+    right: &mut [bool],
+) -> bool
+    requires groups { AreGroups design.now.tables groups.now }
+    requires within { IsWithinEnvelope design.now windows.now }
+    requires end { to ≤ length design.now.nets }
+    requires some { 0 < some }
+    requires rest { 0 < rest }
+    requires left { IsLookBetween design.now windows.now from middle left.old }
+    requires right { IsLookBetween design.now windows.now middle to right.old }
+    ensures left { IsLookBetween design.now windows.now from middle left.new }
+    ensures right { IsLookBetween design.now windows.now middle to right.new }
+    ensures closed { IsTrue result ↔ ((n : ℕ) → from ≤ n → n < to → IsSteadyAt design.now windows.now n) }
+{
+    let mut front = || -> bool
+        requires { IsSync R.row × AreGroups design.now.tables groups.now × IsWithinEnvelope design.now windows.now
+            × (middle ≤ length design.now.nets) × IsLookBetween design.now windows.now from middle left.now }
+        ensures { IsLookBetween design.entry.now windows.entry.now from middle left.exit.now
+            × (IsTrue result ↔ ((n : ℕ) → from ≤ n → n < middle → IsSteadyAt design.entry.now windows.entry.now n)) }
+    { closed_by(rt, design, groups, windows, from, middle, some, left) };
+    let mut back = || -> bool
+        requires { IsSync R.row × AreGroups design.now.tables groups.now × IsWithinEnvelope design.now windows.now
+            × (to ≤ length design.now.nets) × IsLookBetween design.now windows.now middle to right.now }
+        ensures { IsLookBetween design.entry.now windows.entry.now middle to right.exit.now
+            × (IsTrue result ↔ ((n : ℕ) → middle ≤ n → n < to → IsSteadyAt design.entry.now windows.entry.now n)) }
+    { closed_by(rt, design, groups, windows, middle, to, rest, right) };
+    let (before, after) = join_mut(rt, &mut front, &mut back);
+    before && after
 }
 
 /// Whether the operator gives the windows back at every net, decided by this many threads. What a start leaves unsteady
 /// is mostly among the inputs, which are mostly the first nets, and what a round leaves so mostly near these or among
 /// the last nets. So one thread looks at the first eighth of the nets from the first up, and at the last eighth from
-/// the last down, and marks those that it finds steady; where all of these are, all threads look at the rest.
+/// the last down; where all of these are steady, all threads look at the rest. Each thread marks those that it finds
+/// steady.
 fn closed_from_ends<R: Threads + Sync>(
     rt: &R,
     design: &Design,
@@ -267,20 +305,21 @@ fn closed_from_ends<R: Threads + Sync>(
     requires groups { AreGroups design.now.tables groups.now }
     requires look { IsLook design.now windows.now marks.old }
     requires within { IsWithinEnvelope design.now windows.now }
-    requires few { shares ≤ most_workers }
     ensures look { IsLook design.now windows.now marks.new }
     ensures closed { IsTrue result ↔ ((n : ℕ) → n < length design.now.nets → IsSteadyAt design.now windows.now n) }
 {
     let nets = design.nets().len() as u32;
     let first = nets / 8;
     let last = nets - first;
-    if !closed_first(design, groups, marks, windows, first) {
+    let (before, rest) = marks.split_at_mut(first as usize);
+    let (between, after) = rest.split_at_mut((last - first) as usize);
+    if !closed_up(design, groups, windows, 0, first, before) {
         return false;
     }
-    if !closed_last(design, groups, marks, windows, last, nets) {
+    if !closed_down(design, groups, windows, last, nets, after) {
         return false;
     }
-    closed_by(rt, design, groups, marks, windows, first, last, shares)
+    closed_by(rt, design, groups, windows, first, last, shares, between)
 }
 
 /// Loads each word by the first pass into the windows, and decides whether the words are closed, by this many threads.
@@ -305,7 +344,6 @@ pub(crate) fn look<R: Threads + Sync>(
     requires before { length before.now ≡ length design.now.nets }
     requires unmoved { length unmoved.old ≡ length design.now.nets }
     requires marks { length marks.old ≡ length design.now.nets }
-    requires few { shares ≤ most_workers }
     ensures own { IsOf board.now first.new }
     ensures view { first.new.view ≡ first.old.view }
     ensures numbers { numbers_of windows.new ≡ first.old.view.seen }
@@ -322,7 +360,7 @@ pub(crate) fn look<R: Threads + Sync>(
 }
 
 /// A look as by [`look`] after a round from the words of these windows, which it leaves in `before`. It marks the nets
-/// of which the round did not move what decides them, and evaluates only others.
+/// of which the round did not move what decides them, evaluates only others, and marks those that it finds steady too.
 pub(crate) fn look_again<R: Threads + Sync>(
     rt: &R,
     board: &SharedBoard,
@@ -345,7 +383,6 @@ pub(crate) fn look_again<R: Threads + Sync>(
     requires marks { length marks.old ≡ length design.now.nets }
     requires carried { IsRested first.old.view
         → HasCarried board.now.setting (numbers_of windows.old) first.old.view.seen }
-    requires few { shares ≤ most_workers }
     ensures own { IsOf board.now first.new }
     ensures view { first.new.view ≡ first.old.view }
     ensures numbers { numbers_of windows.new ≡ first.old.view.seen }

@@ -57,9 +57,6 @@ load_all-requires-clause-alone g c = c.requires.alone
 pub closed_from_ends-requires-clause-groups : goal.closed_from_ends-requires-clause-groups
 closed_from_ends-requires-clause-groups g c = λ _ _. c.requires.groups
 
-pub closed_from_ends-requires-clause-few : goal.closed_from_ends-requires-clause-few
-closed_from_ends-requires-clause-few g c = λ _ _. c.requires.few
-
 pub returns-clause-own : goal.returns-clause-own
 returns-clause-own g c = c.load_all.ensures.own
 

@@ -132,9 +132,6 @@ look-done-requires-clause-unmoved g c = λ _ _. c.requires.unmoved
 pub look-done-requires-clause-marks : goal.look-done-requires-clause-marks
 look-done-requires-clause-marks g c = λ _ _. c.requires.marks
 
-pub look-done-requires-clause-few : goal.look-done-requires-clause-few
-look-done-requires-clause-few g c = λ _ _. let same = ap length c.as_slice.ensures.value in let few = c.requires.few in omega (arith, same, few)
-
 pub overflow_add-rounds : goal.overflow_add-rounds
 overflow_add-rounds g c = let below = c.if-prove.false in let fits = c.bound.type_inv in omega (arith, below, fits)
 
@@ -182,9 +179,6 @@ look_again-done-requires-clause-unmoved g c = λ _ _. c.rounds.invariant.unmoved
 
 pub look_again-done-requires-clause-marks : goal.look_again-done-requires-clause-marks
 look_again-done-requires-clause-marks g c = λ _ _. c.rounds.invariant.look.count
-
-pub look_again-done-requires-clause-few : goal.look_again-done-requires-clause-few
-look_again-done-requires-clause-few g c = λ _ _. let same = ap length c.as_slice.ensures.value in let few = c.requires.few in omega (arith, same, few)
 
 pub rounds-init : goal.rounds-init
 rounds-init g c =
