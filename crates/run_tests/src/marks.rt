@@ -1,6 +1,6 @@
 //! Runs by marks: how many rounds they make, and where they end.
 
-ghost use Rattle.std.specs.Prelude.{◌≡◌, ◌≤◌, []};
+ghost use Rattle.std.specs.Prelude.{◌≡◌, ◌≤◌, [], IfSome, IsTrue, Some};
 ghost use Rattle.xt_model.specs.declared.direction.Direction.TheVariants.{Narrow, Widen};
 ghost use Rattle.xt_meaning.specs.Barrier.{IsFittingStart};
 ghost use Rattle.net_eval.specs.ReadLists.{AreReadLists};
@@ -200,12 +200,15 @@ fn twenty_runs_of_four_threads_end_as_one_worker(rt: HostRuntime) -> Result<(), 
 type Taken = (u64, u32, bool);
 
 /// What a pass that drew and took nothing draws and takes first; None where it draws no place.
-fn first_taken(board: &DirtyBoard, pass: &mut DirtyPass, design: &Design) -> Option<Taken>
+pub fn first_taken(board: &DirtyBoard, pass: &mut DirtyPass, design: &Design) -> Option<Taken>
     requires own { IsOf board.now pass.old }
     requires design { board.now.run.setting.design ≡ design.now }
     requires fresh { pass.old.view.base.drawn ≡ [] }
     requires none { pass.old.view.taken ≡ [] }
     requires free { IsFree pass.old.view }
+    ensures own { IsOf board.now pass.new }
+    ensures flight { IfSome result (λ taken. IsTrue taken.2
+        → pass.new.view.flight ≡ Some (record { net = taken.1; numbers = []; published = 0 })) }
 {
     let order = design.order();
     let number = board.draw(pass);
