@@ -179,8 +179,8 @@ fn publish_on<B: Board>(
     }
 }
 
-/// Makes a step of a worker that is not done; where it has loaded whole nets of a read list, the steps in which it loads
-/// the rest of that, and where it has published none of its net's words, those in which it publishes all.
+/// Makes a step of a worker that is not done; where it has loaded whole nets of a read list, the steps in which it
+/// loads the rest of that, and where it has published none of its net's words, those in which it publishes all.
 fn advance<B: Board>(
     board: &mut B,
     worker: &mut Worker,
