@@ -16,13 +16,8 @@ closed_up-requires-clause-end g c = let many = ap length c.nets.ensures.value in
 
 pub closed_up-requires-clause-look : goal.closed_up-requires-clause-look
 closed_up-requires-clause-look g c =
-    let nets = length c.nets.result.now in
-    let all = ap length c.nets.ensures.value in
-    let one = c.split_at_mut-before in
-    let two = c.split_at_mut-between in
-    let parts = look_in_three c.args.design.now c.args.windows.now nets c.args.marks.now one.result.0.now one.result.1.now two.result.0.now two.result.1.now all c.requires.look one.ensures.value one.ensures.front_len
-    two.ensures.value two.ensures.front_len in
-    parts.0
+    (look_in_three c.args.design.now c.args.windows.now (length c.nets.result.now) c.args.marks.now _ _ _ _ (ap length c.nets.ensures.value) c.requires.look c.split_at_mut-before.ensures.value
+    c.split_at_mut-before.ensures.front_len c.split_at_mut-between.ensures.value c.split_at_mut-between.ensures.front_len).0
 
 pub closed_down-requires-clause-groups : goal.closed_down-requires-clause-groups
 closed_down-requires-clause-groups g c = c.requires.groups
@@ -35,13 +30,8 @@ closed_down-requires-clause-end g c = let many = ap length c.nets.ensures.value 
 
 pub closed_down-requires-clause-look : goal.closed_down-requires-clause-look
 closed_down-requires-clause-look g c =
-    let nets = length c.nets.result.now in
-    let all = ap length c.nets.ensures.value in
-    let one = c.split_at_mut-before in
-    let two = c.split_at_mut-between in
-    let parts = look_in_three c.args.design.now c.args.windows.now nets c.args.marks.now one.result.0.now one.result.1.now two.result.0.now two.result.1.now all c.requires.look one.ensures.value one.ensures.front_len
-    two.ensures.value two.ensures.front_len in
-    parts.2
+    (look_in_three c.args.design.now c.args.windows.now (length c.nets.result.now) c.args.marks.now _ _ _ _ (ap length c.nets.ensures.value) c.requires.look c.split_at_mut-before.ensures.value
+    c.split_at_mut-before.ensures.front_len c.split_at_mut-between.ensures.value c.split_at_mut-between.ensures.front_len).2
 
 pub closed_by-requires-clause-groups : goal.closed_by-requires-clause-groups
 closed_by-requires-clause-groups g c = λ _ _. c.requires.groups
@@ -54,36 +44,21 @@ closed_by-requires-clause-end g c = λ _ _. let many = ap length c.nets.ensures.
 
 pub closed_by-requires-clause-look : goal.closed_by-requires-clause-look
 closed_by-requires-clause-look g c = λ _ _.
-    let nets = length c.nets.result.now in
-    let all = ap length c.nets.ensures.value in
-    let one = c.split_at_mut-before in
-    let two = c.split_at_mut-between in
-    let parts = look_in_three c.args.design.now c.args.windows.now nets c.args.marks.now one.result.0.now one.result.1.now two.result.0.now two.result.1.now all c.requires.look one.ensures.value one.ensures.front_len
-    two.ensures.value two.ensures.front_len in
-    parts.1
+    (look_in_three c.args.design.now c.args.windows.now (length c.nets.result.now) c.args.marks.now _ _ _ _ (ap length c.nets.ensures.value) c.requires.look c.split_at_mut-before.ensures.value
+    c.split_at_mut-before.ensures.front_len c.split_at_mut-between.ensures.value c.split_at_mut-between.ensures.front_len).1
 
 -- ---- what is returned
 pub returns-then-not-closed_up-clause-look : goal.returns-then-not-closed_up-clause-look
 returns-then-not-closed_up-clause-look g c =
-    let nets = length c.nets.result.now in
-    let all = ap length c.nets.ensures.value in
-    let one = c.split_at_mut-before in
-    let two = c.split_at_mut-between in
-    let parts = look_in_three c.args.design.now c.args.windows.now nets c.args.marks.now one.result.0.now one.result.1.now two.result.0.now two.result.1.now all c.requires.look one.ensures.value one.ensures.front_len
-    two.ensures.value two.ensures.front_len in
-    look_of_three c.args.design.now c.args.windows.now (nets / 8) (nets - nets / 8) nets c.closed_up.new.marks two.result.0.now two.result.1.now all
-    c.closed_up.ensures.look parts.1 parts.2
+    let parts = look_in_three c.args.design.now c.args.windows.now (length c.nets.result.now) c.args.marks.now _ _ _ _ (ap length c.nets.ensures.value) c.requires.look c.split_at_mut-before.ensures.value
+    c.split_at_mut-before.ensures.front_len c.split_at_mut-between.ensures.value c.split_at_mut-between.ensures.front_len in
+    look_of_three c.args.design.now c.args.windows.now _ _ (length c.nets.result.now) _ _ _ (ap length c.nets.ensures.value) c.closed_up.ensures.look parts.1 parts.2
 
 pub returns-then-not-closed_down-clause-look : goal.returns-then-not-closed_down-clause-look
 returns-then-not-closed_down-clause-look g c =
-    let nets = length c.nets.result.now in
-    let all = ap length c.nets.ensures.value in
-    let one = c.split_at_mut-before in
-    let two = c.split_at_mut-between in
-    let parts = look_in_three c.args.design.now c.args.windows.now nets c.args.marks.now one.result.0.now one.result.1.now two.result.0.now two.result.1.now all c.requires.look one.ensures.value one.ensures.front_len
-    two.ensures.value two.ensures.front_len in
-    look_of_three c.args.design.now c.args.windows.now (nets / 8) (nets - nets / 8) nets c.closed_up.new.marks two.result.0.now c.closed_down.new.marks all
-    c.closed_up.ensures.look parts.1 c.closed_down.ensures.look
+    let parts = look_in_three c.args.design.now c.args.windows.now (length c.nets.result.now) c.args.marks.now _ _ _ _ (ap length c.nets.ensures.value) c.requires.look c.split_at_mut-before.ensures.value
+    c.split_at_mut-before.ensures.front_len c.split_at_mut-between.ensures.value c.split_at_mut-between.ensures.front_len in
+    look_of_three c.args.design.now c.args.windows.now _ _ (length c.nets.result.now) _ _ _ (ap length c.nets.ensures.value) c.closed_up.ensures.look parts.1 c.closed_down.ensures.look
 
 pub returns-clause-look : goal.returns-clause-look
 returns-clause-look g c =
